@@ -1,0 +1,111 @@
+-- The readers over a day's layout, and byte reading: one law for each of them.
+-- Assumes nothing.
+use Prim.Native.Nat.{ℕ, _+_, _-_, _*_, _/_, _%_, _<_, _≤_}
+use mathlib.Core.Path.{_≡_, refl, sym, ap, _∙_}
+use mathlib.Core.List.{List, [], _∷_, _++_}
+use mathlib.Core.Bool.{Bool}
+use native.Mathlib.Numerals.{add-one}
+use native.Mathlib.Omega.{arith}
+use lib.ListN.{length, getD, set}
+use lib.Dec.{eqb}
+use borrow.Author.Tests.{le-leb, lt-leb, ne-eqb}
+use Rattle.laws.specs.Answers.{given, refused, isGiven}
+use Rattle.laws.specs.Buffer.{over, Wrote}
+use Rattle.laws.proofs.Buffer.{wrote-none, wrote-put, wrote-same}
+use Rattle.laws.proofs.Tests.{branches}
+use Rattle.day.specs.Bytes.{byteWord, byteWords, readAnswer, readBuffer}
+use Rattle.day.specs.Day.{loneNumber, windowOpening, windowClosing, minutesOf, distanceOf}
+use Rattle.day.specs.Fields.{wordAt, tips, stopPlace, windowIndex, service, quantity}
+use Rattle.day.specs.Layout.{LayoutOf, WindowOf, LegOf}
+use Rattle.day.specs.declared.fields.Layout.{Layout}
+use Rattle.day.specs.declared.fields.Leg.{Leg}
+use Rattle.day.specs.declared.fields.Window.{Window}
+use Rattle.day.proofs.Forms.{square-below}
+
+-- where the window of a tip stands, and that of a stop
+pub tip-index : (d k : ℕ) → 0 < k → k ≤ d → windowIndex d k ≡ 5 + 2 * k
+unfolding windowIndex
+tip-index d k h g = rw (ne-eqb k 0 (λ e. omega arith), le-leb k d g)
+
+pub stop-index : (d k : ℕ) → 0 < k → windowIndex d (d + k) ≡ 4 + 2 * d + 3 * k
+unfolding windowIndex
+stop-index d k h = rw (ne-eqb (d + k) 0 (λ e. omega arith), lt-leb (d + k) d (omega arith)) (omega arith)
+
+module _ (day : List ℕ) (z : Layout) where
+  pub depot-read : (w : Window) → (w .opening ≡ windowOpening (wordAt day 4)) × (w .closing ≡ windowClosing (wordAt day 4)) → WindowOf day 0 w
+  unfolding windowIndex
+  depot-read w e = record { opens = e .0; closes = e .1 }
+
+  module _ (k : ℕ) (h : LayoutOf day z) (k-some : 0 < k) where
+    pub tip-window-read : (w : Window) → k ≤ z .tips → (w .opening ≡ windowOpening (wordAt day (5 + 2 * k))) × (w .closing ≡ windowClosing (wordAt day (5 + 2 * k)))
+        → WindowOf day k w
+    tip-window-read w g e =
+        let at : windowIndex (tips day) k ≡ 5 + 2 * k = tip-index (tips day) k k-some (omega (arith, h .tipsAre)) in
+        record { opens = rw at (e .0); closes = rw at (e .1) }
+
+    pub tip-service-read : {x : ℕ} → k ≤ z .tips → x ≡ loneNumber (wordAt day (6 + 2 * k)) → x ≡ service day k
+    tip-service-read g e =
+        let at : windowIndex (tips day) k + 1 ≡ 6 + 2 * k = omega (arith, tip-index (tips day) k k-some (omega (arith, h .tipsAre))) in
+        rw at e
+
+    stop-at : (j : ℕ) → windowIndex (tips day) (stopPlace day k) + j ≡ 4 + j + 2 * z .tips + 3 * k
+    stop-at j = omega (arith, stop-index (tips day) k k-some, h .tipsAre)
+
+    pub stop-window-read : (w : Window) → (w .opening ≡ windowOpening (wordAt day (4 + 2 * z .tips + 3 * k))) × (w .closing ≡ windowClosing (wordAt day (4 + 2 * z .tips + 3 * k)))
+        → WindowOf day (stopPlace day k) w
+    stop-window-read w e =
+        let at : windowIndex (tips day) (stopPlace day k) ≡ 4 + 2 * z .tips + 3 * k = omega (arith, stop-at 0) in
+        record { opens = rw at (e .0); closes = rw at (e .1) }
+
+    pub stop-service-read : {x : ℕ} → x ≡ loneNumber (wordAt day (5 + 2 * z .tips + 3 * k)) → x ≡ service day (stopPlace day k)
+    stop-service-read e = rw (stop-at 1) e
+
+    pub stop-quantity-read : {x : ℕ} → x ≡ loneNumber (wordAt day (6 + 2 * z .tips + 3 * k)) → x ≡ quantity day (stopPlace day k)
+    stop-quantity-read e = rw (stop-at 2) e
+
+  -- the leg from place p to place q stands within the day
+  pub leg-at : (p q : ℕ) → LayoutOf day z → p < z .places → q < z .places → z .legs + p * z .places + q < length day
+  leg-at p q h hp hq = omega (arith, square-below p q (z .places) hp hq, h .long)
+
+  pub leg-read : (p q : ℕ) {w : ℕ} → LayoutOf day z → w ≡ getD day (z .legs + p * z .places + q) 0
+      → LegOf day p q (record { minutes = w / 65536 % 4096; distance = w % 65536 })
+  leg-read p q h e =
+      let word = rw (h .legsAre, h .placesAre) at e in
+      record { takes = ap minutesOf word; spans = ap distanceOf word }
+
+-- one word more
+pub words-start : (bytes words : List ℕ) → Wrote (byteWords bytes 0) words words 0
+unfolding byteWords
+words-start bytes words = wrote-none words
+
+pub words-next : (bytes words part : List ℕ) (i : ℕ) {w : ℕ} → Wrote (byteWords bytes i) words part i → w ≡ byteWord bytes i → i < length words
+    → Wrote (byteWords bytes (i + 1)) words (set part i w) (i + 1)
+unfolding byteWords
+words-next bytes words part i {w} so-far e h = wrote-same (wrote-put so-far w h) (rw (add-one, e)) refl
+
+pub words-end : (bytes words part : List ℕ) (i n : ℕ) → Wrote (byteWords bytes i) words part i → i ≤ n → n ≤ i → part ≡ over (byteWords bytes n) words
+words-end bytes words part i n so-far a b = let e : i ≡ n = omega arith in rw (← e) (so-far .text)
+
+-- one law for each way through byte reading: the answer, and the buffer then
+module _ (bytes words : List ℕ) where
+  refusal-keeps : (k i : ℕ) → 0 < k → refused k i ≡ readAnswer bytes (length words) → words ≡ readBuffer bytes words
+  unfolding readBuffer
+  refusal-keeps k i h e = rw (← e, ne-eqb k 0 (λ z. omega arith)) refl
+
+  pub odd-refused : (length bytes % 4 ≡ 0 → ⊥) → (refused 1 (length bytes / 4) ≡ readAnswer bytes (length words)) × (words ≡ readBuffer bytes words)
+  unfolding readAnswer
+  odd-refused h = let e : refused 1 (length bytes / 4) ≡ readAnswer bytes (length words) = search branches in (e, refusal-keeps 1 _ (omega arith) e)
+
+  pub few-refused : length bytes % 4 ≡ 0 → length bytes / 4 < 7 → (refused 1 (length bytes / 4) ≡ readAnswer bytes (length words)) × (words ≡ readBuffer bytes words)
+  unfolding readAnswer
+  few-refused h g = let e : refused 1 (length bytes / 4) ≡ readAnswer bytes (length words) = search branches in (e, refusal-keeps 1 _ (omega arith) e)
+
+  pub room-refused : length bytes % 4 ≡ 0 → 7 ≤ length bytes / 4 → length words < length bytes / 4
+      → (refused 14 (length bytes / 4) ≡ readAnswer bytes (length words)) × (words ≡ readBuffer bytes words)
+  unfolding readAnswer
+  room-refused h g l = let e : refused 14 (length bytes / 4) ≡ readAnswer bytes (length words) = search branches in (e, refusal-keeps 14 _ (omega arith) e)
+
+  pub words-read : (now : List ℕ) → length bytes % 4 ≡ 0 → 7 ≤ length bytes / 4 → length bytes / 4 ≤ length words
+      → now ≡ over (byteWords bytes (length bytes / 4)) words → (given (length bytes / 4 ∷ []) ≡ readAnswer bytes (length words)) × (now ≡ readBuffer bytes words)
+  unfolding readAnswer readBuffer
+  words-read now h g l q = let e : given (length bytes / 4 ∷ []) ≡ readAnswer bytes (length words) = search branches in (e, rw (← e) q)

@@ -1,0 +1,14 @@
+-- `day::fields::depot_window` meets its contract.
+use borrow.Author.Needs.{needs}
+use Rattle.day.proofs.Readers.{depot-read}
+use Rattle.day.proofs.fields.depot_window.Statement.{statement}
+use Rattle.day.proofs.fields.depot_window.Tie as tie
+
+window-at-requires : tie.Need-window-at-requires
+window-at-requires c κs = search needs
+
+returns : tie.Need-returns
+returns c = search depot-read
+
+pub depot-window-spec : {M : Type 1} → statement M
+depot-window-spec = tie.close (tie.spec window-at-requires returns)

@@ -1,0 +1,150 @@
+// What a day says, read by its layout: n, d and where the legs begin travel by value, and no index is tested.
+ghost use mathlib.Core.Path.{_≡_};
+ghost use Prim.Native.Nat.{_+_, _*_, _<_, _≤_};
+ghost use lib.ListN.{length};
+ghost use Rattle.day.specs.Day.{loneNumber, windowOpening, windowClosing, wordsOf};
+ghost use Rattle.day.specs.Fields.{wordAt, tips, stops, stopPlace, loadLimit, dayLimit, stopLimit, restOpening, restClosing, restMinutes, service, quantity};
+ghost use Rattle.day.specs.Layout.{LayoutOf, WindowOf, LegOf};
+
+// How many stops, tips and places a day has, and where its legs begin.
+pub struct Layout {
+    pub stops: usize,
+    pub tips: usize,
+    pub places: usize,
+    pub legs: usize,
+}
+
+pub struct Window {
+    pub opening: u32,
+    pub closing: u32,
+}
+
+pub struct Leg {
+    pub minutes: u32,
+    pub distance: u32,
+}
+
+// The layout of an accepted day, whose length is known to be right.
+pub fn layout_of(day: &[u32]) -> Layout
+    requires { ⌜ length (now day) ≡ wordsOf (tips (now day)) (stops (now day)) ⌝ }
+    ensures { λ r. ⌜ LayoutOf (now (day .entry)) r ⌝ }
+{
+    let w = day[0];
+    let tips = (w / 256 % 16) as usize;
+    let stops = (w % 256) as usize;
+    Layout {
+        stops,
+        tips,
+        places: 1 + tips + stops,
+        legs: 7 + 2 * tips + 3 * stops,
+    }
+}
+
+// The lone number at an index.
+fn number_at(day: &[u32], i: usize) -> u32
+    requires { ⌜ i < length (now day) ⌝ }
+    ensures { λ r. ⌜ r ≡ loneNumber (wordAt (now (day .entry)) i) ⌝ }
+{
+    day[i] % 134217728
+}
+
+// The two ends of the window at an index.
+fn window_at(day: &[u32], i: usize) -> Window
+    requires { ⌜ i < length (now day) ⌝ }
+    ensures { λ r. ⌜ (r .opening ≡ windowOpening (wordAt (now (day .entry)) i)) × (r .closing ≡ windowClosing (wordAt (now (day .entry)) i)) ⌝ }
+{
+    let w = day[i];
+    Window {
+        opening: w / 4096 % 4096,
+        closing: w % 4096,
+    }
+}
+
+pub fn load_limit(day: &[u32], z: Layout) -> u32
+    requires { ⌜ LayoutOf (now day) z ⌝ }
+    ensures { λ r. ⌜ r ≡ loadLimit (now (day .entry)) ⌝ }
+{
+    number_at(day, 1)
+}
+
+pub fn day_limit(day: &[u32], z: Layout) -> u32
+    requires { ⌜ LayoutOf (now day) z ⌝ }
+    ensures { λ r. ⌜ r ≡ dayLimit (now (day .entry)) ⌝ }
+{
+    number_at(day, 2)
+}
+
+pub fn stop_limit(day: &[u32], z: Layout) -> u32
+    requires { ⌜ LayoutOf (now day) z ⌝ }
+    ensures { λ r. ⌜ r ≡ stopLimit (now (day .entry)) ⌝ }
+{
+    number_at(day, 3)
+}
+
+pub fn depot_window(day: &[u32], z: Layout) -> Window
+    requires { ⌜ LayoutOf (now day) z ⌝ }
+    ensures { λ r. ⌜ WindowOf (now (day .entry)) 0 r ⌝ }
+{
+    window_at(day, 4)
+}
+
+pub fn rest_window(day: &[u32], z: Layout) -> Window
+    requires { ⌜ LayoutOf (now day) z ⌝ }
+    ensures { λ r. ⌜ (r .opening ≡ restOpening (now (day .entry))) × (r .closing ≡ restClosing (now (day .entry))) ⌝ }
+{
+    window_at(day, 5)
+}
+
+pub fn rest_minutes(day: &[u32], z: Layout) -> u32
+    requires { ⌜ LayoutOf (now day) z ⌝ }
+    ensures { λ r. ⌜ r ≡ restMinutes (now (day .entry)) ⌝ }
+{
+    number_at(day, 6)
+}
+
+pub fn tip_window(day: &[u32], z: Layout, k: usize) -> Window
+    requires { ⌜ LayoutOf (now day) z × (0 < k) × (k ≤ z .tips) ⌝ }
+    ensures { λ r. ⌜ WindowOf (now (day .entry)) k r ⌝ }
+{
+    window_at(day, 5 + 2 * k)
+}
+
+pub fn tip_service(day: &[u32], z: Layout, k: usize) -> u32
+    requires { ⌜ LayoutOf (now day) z × (0 < k) × (k ≤ z .tips) ⌝ }
+    ensures { λ r. ⌜ r ≡ service (now (day .entry)) k ⌝ }
+{
+    number_at(day, 6 + 2 * k)
+}
+
+pub fn stop_window(day: &[u32], z: Layout, k: usize) -> Window
+    requires { ⌜ LayoutOf (now day) z × (0 < k) × (k ≤ z .stops) ⌝ }
+    ensures { λ r. ⌜ WindowOf (now (day .entry)) (stopPlace (now (day .entry)) k) r ⌝ }
+{
+    window_at(day, 4 + 2 * z.tips + 3 * k)
+}
+
+pub fn stop_service(day: &[u32], z: Layout, k: usize) -> u32
+    requires { ⌜ LayoutOf (now day) z × (0 < k) × (k ≤ z .stops) ⌝ }
+    ensures { λ r. ⌜ r ≡ service (now (day .entry)) (stopPlace (now (day .entry)) k) ⌝ }
+{
+    number_at(day, 5 + 2 * z.tips + 3 * k)
+}
+
+pub fn stop_quantity(day: &[u32], z: Layout, k: usize) -> u32
+    requires { ⌜ LayoutOf (now day) z × (0 < k) × (k ≤ z .stops) ⌝ }
+    ensures { λ r. ⌜ r ≡ quantity (now (day .entry)) (stopPlace (now (day .entry)) k) ⌝ }
+{
+    number_at(day, 6 + 2 * z.tips + 3 * k)
+}
+
+// The leg from place p to place q.
+pub fn leg_between(day: &[u32], z: Layout, p: usize, q: usize) -> Leg
+    requires { ⌜ LayoutOf (now day) z × (p < z .places) × (q < z .places) ⌝ }
+    ensures { λ r. ⌜ LegOf (now (day .entry)) p q r ⌝ }
+{
+    let w = day[z.legs + p * z.places + q];
+    Leg {
+        minutes: w / 65536 % 4096,
+        distance: w % 65536,
+    }
+}

@@ -1,0 +1,158 @@
+// The day file of document 01: judged word by word, read from bytes, and asked for what it says.
+pub mod bytes;
+pub mod faults;
+pub mod fields;
+pub mod legs;
+pub mod words;
+
+ghost use mathlib.Core.Path.{_≡_};
+ghost use Prim.Native.Nat.{_<_};
+ghost use lib.ListN.{length};
+ghost use Rattle.day.specs.Answers.{dayValues, wordsValues};
+ghost use Rattle.day.specs.Bytes.{readAnswer, readBuffer};
+ghost use Rattle.day.specs.Day.{tipsEnd, judgeSized, judgeDay};
+ghost use Rattle.day.specs.Judging.{judgedFrom, judgedAfter, Whole};
+use crate::bytes::write_words;
+use crate::faults::Fault;
+use crate::faults::head_fault;
+use crate::faults::stops_fault;
+use crate::faults::tips_fault;
+use crate::legs::legs_fault;
+
+// The answer on a day: how many stops and tips it has, or the refusal's number and place.
+pub enum DayAnswer {
+    Accepted { stops: u32, tips: u32 },
+    Refused { number: u32, place: usize },
+}
+
+// The answer to byte reading: how many words were written, or the refusal's number and place.
+pub enum WordsAnswer {
+    Read { words: usize },
+    Refused { number: u32, place: usize },
+}
+
+// The first fault from the stops on.
+fn fault_from_stops(day: &[u32], d: u32, n: u32) -> Fault
+    requires { ⌜ Whole (now day) d n ⌝ }
+    ensures { λ r. ⌜ judgedFrom d n (now (day .entry)) (tipsEnd d) ≡ judgedAfter d n (now (day .entry)) (length (now (day .entry))) r ⌝ }
+{
+    let found = stops_fault(day, d, n);
+    if found.number != 0 {
+        return found;
+    }
+    legs_fault(day, d, n)
+}
+
+// The first fault from the tips on.
+fn fault_from_tips(day: &[u32], d: u32, n: u32) -> Fault
+    requires { ⌜ Whole (now day) d n ⌝ }
+    ensures { λ r. ⌜ judgedFrom d n (now (day .entry)) 7 ≡ judgedAfter d n (now (day .entry)) (length (now (day .entry))) r ⌝ }
+{
+    let found = tips_fault(day, d, n);
+    if found.number != 0 {
+        return found;
+    }
+    fault_from_stops(day, d, n)
+}
+
+// The first fault behind word 0.
+fn first_fault(day: &[u32], d: u32, n: u32) -> Fault
+    requires { ⌜ Whole (now day) d n ⌝ }
+    ensures { λ r. ⌜ judgedFrom d n (now (day .entry)) 1 ≡ judgedAfter d n (now (day .entry)) (length (now (day .entry))) r ⌝ }
+{
+    let found = head_fault(day, d, n);
+    if found.number != 0 {
+        return found;
+    }
+    fault_from_tips(day, d, n)
+}
+
+// The answer on a day of the right length.
+fn judge_words(day: &[u32], d: u32, n: u32) -> DayAnswer
+    requires { ⌜ Whole (now day) d n ⌝ }
+    ensures { λ r. ⌜ dayValues r ≡ judgedFrom d n (now (day .entry)) 1 ⌝ }
+{
+    let found = first_fault(day, d, n);
+    if found.number != 0 {
+        return DayAnswer::Refused {
+            number: found.number,
+            place: found.place,
+        };
+    }
+    DayAnswer::Accepted { stops: n, tips: d }
+}
+
+// The answer on a day whose word 0 says d tips and n stops.
+fn judge_sized(day: &[u32], d: u32, n: u32) -> DayAnswer
+    requires { ⌜ (d < 16) × (n < 256) ⌝ }
+    ensures { λ r. ⌜ dayValues r ≡ judgeSized d n (now (day .entry)) ⌝ }
+{
+    if 240 < n {
+        return DayAnswer::Refused {
+            number: 3,
+            place: 0,
+        };
+    }
+    if d == 0 {
+        return DayAnswer::Refused {
+            number: 3,
+            place: 0,
+        };
+    }
+    let places = 1 + d as usize + n as usize;
+    if day.len() != 7 + 2 * (d as usize) + 3 * (n as usize) + places * places {
+        return DayAnswer::Refused {
+            number: 4,
+            place: day.len(),
+        };
+    }
+    judge_words(day, d, n)
+}
+
+// A day of any words and any length is accepted, or refused by 1 to 5.
+pub fn judge(day: &[u32]) -> DayAnswer
+    ensures { λ r. ⌜ dayValues r ≡ judgeDay (now (day .entry)) ⌝ }
+{
+    if day.len() < 7 {
+        return DayAnswer::Refused {
+            number: 1,
+            place: day.len(),
+        };
+    }
+    let w = day[0];
+    if w / 4096 != 65536 {
+        return DayAnswer::Refused {
+            number: 2,
+            place: 0,
+        };
+    }
+    judge_sized(day, w / 256 % 16, w % 256)
+}
+
+// One word for each 4 bytes, written into the lent buffer; 1 and 14 are refused, and then the buffer is as it was.
+pub fn read_words(bytes: &[u8], words: &mut [u32]) -> WordsAnswer
+    ensures answer { λ r. ⌜ wordsValues r ≡ readAnswer (now (bytes .entry)) (length (now (words .entry))) ⌝ }
+    ensures buffer { λ r. ⌜ now (words .exit) ≡ readBuffer (now (bytes .entry)) (now (words .entry)) ⌝ }
+{
+    let n = bytes.len() / 4;
+    if bytes.len() % 4 != 0 {
+        return WordsAnswer::Refused {
+            number: 1,
+            place: n,
+        };
+    }
+    if n < 7 {
+        return WordsAnswer::Refused {
+            number: 1,
+            place: n,
+        };
+    }
+    if words.len() < n {
+        return WordsAnswer::Refused {
+            number: 14,
+            place: n,
+        };
+    }
+    write_words(bytes, words, n);
+    WordsAnswer::Read { words: n }
+}

@@ -1,0 +1,15 @@
+-- The six places of an answer: a list of fewer values is filled up with 0.
+-- Assumes nothing.
+use Prim.Native.Nat.{ℕ}
+use mathlib.Core.Path.{_≡_}
+use mathlib.Core.List.{List, [], _∷_}
+use Rattle.laws.specs.Answers.{inSix}
+
+-- answers of two and of three values
+pub two-values : (answer out : List ℕ) {a b : ℕ} → a ∷ b ∷ [] ≡ answer → out ≡ a ∷ b ∷ 0 ∷ 0 ∷ 0 ∷ 0 ∷ [] → out ≡ inSix answer
+unfolding inSix
+two-values answer out e o = rw (← e) o
+
+pub three-values : (answer out : List ℕ) {a b c : ℕ} → a ∷ b ∷ c ∷ [] ≡ answer → out ≡ a ∷ b ∷ c ∷ 0 ∷ 0 ∷ 0 ∷ [] → out ≡ inSix answer
+unfolding inSix
+three-values answer out e o = rw (← e) o

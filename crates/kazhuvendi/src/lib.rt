@@ -1,0 +1,44 @@
+// The calls for programs in C and Rust. Each writes the whole of `out`: 0 and the answer's values, or the refusal's number and
+// place; what is not named is 0.
+ghost use mathlib.Core.Path.{_≡_};
+ghost use mathlib.Core.List.{[], _∷_};
+ghost use lib.ListN.{length};
+ghost use Rattle.laws.specs.Answers.{inSix};
+ghost use Rattle.day.specs.Bytes.{readAnswer, readBuffer};
+ghost use Rattle.day.specs.Day.{judgeDay};
+
+// All six places of an answer.
+fn write_six(out: &mut [u64; 6], a: u64, b: u64, c: u64, d: u64, e: u64, f: u64)
+    ensures { λ r. ⌜ now (out .exit) ≡ a ∷ b ∷ c ∷ d ∷ e ∷ f ∷ [] ⌝ }
+{
+    *out = [a, b, c, d, e, f];
+}
+
+#[no_mangle]
+pub extern "C" fn kz_read_words(bytes: &[u8], words: &mut [u32], out: &mut [u64; 6])
+    ensures answer { λ r. ⌜ now (out .exit) ≡ inSix (readAnswer (now (bytes .entry)) (length (now (words .entry)))) ⌝ }
+    ensures buffer { λ r. ⌜ now (words .exit) ≡ readBuffer (now (bytes .entry)) (now (words .entry)) ⌝ }
+{
+    let answer = day::read_words(bytes, words);
+    match answer {
+        day::WordsAnswer::Read { words } => write_six(out, 0, words as u64, 0, 0, 0, 0),
+        day::WordsAnswer::Refused { number, place } => {
+            write_six(out, number as u64, place as u64, 0, 0, 0, 0)
+        }
+    }
+}
+
+#[no_mangle]
+pub extern "C" fn kz_judge(day: &[u32], out: &mut [u64; 6])
+    ensures { λ r. ⌜ now (out .exit) ≡ inSix (judgeDay (now (day .entry))) ⌝ }
+{
+    let answer = day::judge(day);
+    match answer {
+        day::DayAnswer::Accepted { stops, tips } => {
+            write_six(out, 0, stops as u64, tips as u64, 0, 0, 0)
+        }
+        day::DayAnswer::Refused { number, place } => {
+            write_six(out, number as u64, place as u64, 0, 0, 0, 0)
+        }
+    }
+}

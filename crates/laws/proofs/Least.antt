@@ -1,0 +1,181 @@
+-- Laws of the least key: how a choice goes, what the least is, and how a loop over 1..m finds it.
+-- Assumes nothing.
+use Prim.Native.Nat.{ℕ, zero, suc, _+_, _≤_, _<_}
+use mathlib.Core.Path.{_≡_, refl, sym, ap, _∙_, subst}
+use mathlib.Core.Bool.{Bool, true, false, _&&_, _||_, true≢false, or-true}
+use mathlib.Core.Logic.{_⊎_, inl, inr, ⊎-elim}
+use native.Mathlib.Nat.{le-antisymm, le-of-suc-le-suc, lt-of-not-le, eq-or-lt-of-le, eq-zero-or-pos}
+use native.Mathlib.Numerals.{add-one}
+use native.Mathlib.Decide.{le-ind}
+use native.Mathlib.Omega.{arith}
+use lib.Dec.{ltb, eqb}
+use borrow.Author.Tests.{ltb-true, ltb-false, eqb-true, eqb-false, lt-ltb, le-ltb, ne-eqb}
+use Rattle.laws.specs.Tests.{if_then_else_}
+use Rattle.laws.specs.Least.{wins, better, least, IsLeast}
+
+-- the four ways of a choice between k and the best so far, b
+data Choice (ok : ℕ → Bool) (key : ℕ → ℕ) (k b r : ℕ) : Type 0 where
+  fails : ok k ≡ false → r ≡ b → Choice ok key k b r
+  first : ok k ≡ true → b ≡ 0 → r ≡ k → Choice ok key k b r
+  less : ok k ≡ true → 0 < b → key k < key b → r ≡ k → Choice ok key k b r
+  more : ok k ≡ true → 0 < b → key b ≤ key k → r ≡ b → Choice ok key k b r
+
+-- no test both holds and fails
+not-both : {x : Bool} → x ≡ true → x ≡ false → ⊥
+not-both t f = true≢false (sym t ∙ f)
+
+-- what holds of 1..m and of the number after m holds of them all
+up-to-suc : (P : ℕ → Type 0) (m : ℕ) → ((k : ℕ) → 0 < k → k ≤ m → P k) → P (suc m)
+    → (k : ℕ) → 0 < k → k ≤ suc m → P k
+up-to-suc P m all here k p l =
+    ⊎-elim (λ (q : k ≡ suc m). subst P (sym q) here) (λ (w : k < suc m). all k p (omega arith)) (eq-or-lt-of-le l)
+
+module _ (ok : ℕ → Bool) (key : ℕ → ℕ) where
+  -- a choice, by the facts that decide it
+  pub better-fails : (k b : ℕ) → ok k ≡ false → better ok key k b ≡ b
+  unfolding better wins
+  better-fails k b e = rw e refl
+
+  pub better-none : (k b : ℕ) → ok k ≡ true → b ≡ 0 → better ok key k b ≡ k
+  unfolding better wins
+  better-none k b e z = rw (e, z) refl
+
+  pub better-less : (k b : ℕ) → ok k ≡ true → key k < key b → better ok key k b ≡ k
+  unfolding better wins
+  better-less k b e l = rw (e, lt-ltb _ _ l, or-true) refl
+
+  pub better-more : (k b : ℕ) → ok k ≡ true → (b ≡ 0 → ⊥) → key b ≤ key k → better ok key k b ≡ b
+  unfolding better wins
+  better-more k b e z l = rw (e, ne-eqb b 0 z, le-ltb _ _ l) refl
+
+  -- a choice goes one of the four ways
+  choice : (k b : ℕ) → Choice ok key k b (better ok key k b)
+  unfolding better wins
+  choice k b = go (ok k) (eqb b 0) (ltb (key k) (key b)) refl refl refl
+    where
+      go : (x y z : Bool) → ok k ≡ x → eqb b 0 ≡ y → ltb (key k) (key b) ≡ z
+          → Choice ok key k b (if x && (y || z) then k else b)
+      go false y z ex ey ez = fails ex refl
+      go true true z ex ey ez = first ex (eqb-true b 0 ey) refl
+      go true false true ex ey ez = less ex (omega (arith, eqb-false b 0 ey)) (ltb-true _ _ ez) refl
+      go true false false ex ey ez = more ex (omega (arith, eqb-false b 0 ey)) (ltb-false _ _ ez) refl
+
+  -- the better of the least of 1..m and the number after m is the least of them all
+  least-step : (m b : ℕ) → IsLeast ok key m b → (r : ℕ) → Choice ok key (suc m) b r → IsLeast ok key (suc m) r
+  least-step m b h r (fails e q) = subst (IsLeast ok key (suc m)) (sym q) (record {
+    within = omega (arith, h .within);
+    none = λ z. up-to-suc (λ (k : ℕ). ok k ≡ false) m (h .none z) e;
+    passes = h .passes;
+    minimal = λ z. up-to-suc (λ (k : ℕ). ok k ≡ true → key b ≤ key k) m (h .minimal z) (λ t. absurd (not-both t e));
+    lowest = h .lowest;
+  })
+  least-step m b h r (first e z q) = subst (IsLeast ok key (suc m)) (sym q) (record {
+    within = omega arith;
+    none = λ w. absurd (omega arith);
+    passes = λ _. e;
+    minimal = λ _. up-to-suc (λ (k : ℕ). ok k ≡ true → key (suc m) ≤ key k) m
+        (λ k p l t. absurd (not-both t (h .none z k p l)))
+        (λ _. omega arith);
+    lowest = λ _ k p l t. absurd (not-both t (h .none z k p (omega arith)));
+  })
+  least-step m b h r (less e p l q) = subst (IsLeast ok key (suc m)) (sym q) (record {
+    within = omega arith;
+    none = λ w. absurd (omega arith);
+    passes = λ _. e;
+    minimal = λ _. up-to-suc (λ (k : ℕ). ok k ≡ true → key (suc m) ≤ key k) m
+        (λ k a g t. omega (arith, h .minimal p k a g t))
+        (λ _. omega arith);
+    lowest = λ _ k a g t. omega (arith, h .minimal p k a (omega arith) t);
+  })
+  least-step m b h r (more e p l q) = subst (IsLeast ok key (suc m)) (sym q) (record {
+    within = omega (arith, h .within);
+    none = λ w. absurd (omega arith);
+    passes = h .passes;
+    minimal = λ z. up-to-suc (λ (k : ℕ). ok k ≡ true → key b ≤ key k) m (h .minimal z) (λ _. l);
+    lowest = h .lowest;
+  })
+
+  -- what the least is, for every m
+  pub least-is : (m : ℕ) → IsLeast ok key m (least ok key m)
+  unfolding least
+  least-is zero = record {
+    within = omega arith;
+    none = λ _ k p l. absurd (omega arith);
+    passes = λ z. absurd (omega arith);
+    minimal = λ z. absurd (omega arith);
+    lowest = λ z. absurd (omega arith);
+  }
+  least-is (suc m) = least-step m (least ok key m) (least-is m) _ (choice (suc m) (least ok key m))
+
+  -- no two numbers are the least
+  pub least-only : (m r s : ℕ) → IsLeast ok key m r → IsLeast ok key m s → r ≡ s
+  least-only m r s a b = go (eq-zero-or-pos r) (eq-zero-or-pos s)
+    where
+      no-later : (r s : ℕ) → IsLeast ok key m r → IsLeast ok key m s → 0 < r → 0 < s → r ≤ s
+      no-later r s a b x y =
+          le-of-suc-le-suc (lt-of-not-le (λ (l : s < r).
+          omega (arith, a .lowest x s y l (b .passes y), b .minimal y r x (a .within) (a .passes x))))
+
+      go : (r ≡ 0) ⊎ (0 < r) → (s ≡ 0) ⊎ (0 < s) → r ≡ s
+      go (inl x) (inl y) = x ∙ sym y
+      go (inl x) (inr y) = absurd (not-both (b .passes y) (a .none x s y (b .within)))
+      go (inr x) (inl y) = absurd (not-both (a .passes x) (b .none y r x (a .within)))
+      go (inr x) (inr y) = le-antisymm (no-later r s a b x y) (no-later s r b a y x)
+
+  -- the least of 1..m is one of them or 0
+  pub least-le : (m r : ℕ) → r ≡ least ok key m → r ≤ m
+  least-le m r e = omega (arith, least-is m .within)
+
+  -- of no numbers, and of one number more
+  pub least-none : least ok key 0 ≡ 0
+  unfolding least
+  least-none = refl
+
+  pub least-suc : (m : ℕ) → least ok key (m + 1) ≡ better ok key (m + 1) (least ok key m)
+  unfolding least
+  least-suc m = rw add-one refl
+
+  -- numbers that do not pass may be passed over
+  pub least-skip : (a b : ℕ) → a ≤ b → ((k : ℕ) → a < k → k ≤ b → ok k ≡ false) → least ok key b ≡ least ok key a
+  unfolding least
+  least-skip a b l = le-ind (λ (m : ℕ). None m → least ok key m ≡ least ok key a) (λ _. refl) step b l
+    where
+      None : ℕ → Type 0
+      None m = (k : ℕ) → a < k → k ≤ m → ok k ≡ false
+
+      step : (m : ℕ) → a ≤ m → (None m → least ok key m ≡ least ok key a)
+          → None (suc m) → least ok key (suc m) ≡ least ok key a
+      step m g ih none =
+          better-fails (suc m) (least ok key m) (none (suc m) (omega arith) (omega arith))
+          ∙ ih (λ k x y. none k x (omega arith))
+
+  -- from a straight to the next number that may pass, j
+  pub least-jump : (a j : ℕ) → a < j → ((k : ℕ) → a < k → k < j → ok k ≡ false)
+      → least ok key j ≡ better ok key j (least ok key a)
+  unfolding least
+  least-jump a zero l none = absurd (omega arith)
+  least-jump a (suc j) l none =
+      ap (better ok key (suc j)) (least-skip a j (omega arith) (λ k x y. none k x (omega arith)))
+
+-- a choice looks at the test of k alone
+pub better-same : (ok ok′ : ℕ → Bool) (key : ℕ → ℕ) (k b : ℕ) → ok k ≡ ok′ k → better ok key k b ≡ better ok′ key k b
+unfolding better wins
+better-same ok ok′ key k b e = rw e refl
+
+-- tests and keys that agree on 1..m have the same least
+pub least-same : (ok ok′ : ℕ → Bool) (key key′ : ℕ → ℕ) (m : ℕ)
+    → ((k : ℕ) → 0 < k → k ≤ m → ok k ≡ ok′ k)
+    → ((k : ℕ) → 0 < k → k ≤ m → key k ≡ key′ k)
+    → least ok key m ≡ least ok′ key′ m
+least-same ok ok′ key key′ m e f = least-only ok′ key′ m _ _ (record {
+  within = h .within;
+  none = λ z k p l. sym (e k p l) ∙ h .none z k p l;
+  passes = λ z. sym (e _ z (h .within)) ∙ h .passes z;
+  minimal = λ z k p l t. omega (arith, h .minimal z k p l (e k p l ∙ t), f k p l, f _ z (h .within));
+  lowest = λ z k p l t.
+      let i : k ≤ m = omega (arith, h .within) in
+      omega (arith, h .lowest z k p l (e k p i ∙ t), f k p i, f _ z (h .within));
+}) (least-is ok′ key′ m)
+  where
+    h : IsLeast ok key m (least ok key m)
+    h = least-is ok key m

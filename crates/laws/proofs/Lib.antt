@@ -1,0 +1,7 @@
+pub mod Arrays
+pub mod Bits
+pub mod Buffer
+pub mod Gather
+pub mod Least
+pub mod Marks
+pub mod Tests

@@ -1,0 +1,10 @@
+//! Times of the library beside plain Rust that does the same, both taken in the same run.
+
+mod day;
+mod table;
+
+fn main() {
+    let mut table = table::Table::default();
+    day::rows(&mut table);
+    print!("{table}");
+}

@@ -1,0 +1,28 @@
+//! Compares the library with the second implementation on random files for some seconds. The
+//! seed comes from the clock where none is given, and is printed so that a run can be repeated.
+
+use std::error::Error;
+use std::time::{Duration, Instant, SystemTime};
+
+use reference::random::Random;
+
+#[path = "../tests/compare/mod.rs"]
+mod compare;
+
+fn main() -> Result<(), Box<dyn Error>> {
+    let mut settings = std::env::args().skip(1);
+    let seconds = settings.next().ok_or("give the seconds to run for")?.parse()?;
+    let seed = match settings.next() {
+        Some(seed) => seed.parse()?,
+        None => SystemTime::now().duration_since(SystemTime::UNIX_EPOCH)?.as_nanos() as u64,
+    };
+    println!("seed {seed}");
+    let mut random = Random::new(seed);
+    let mut tally = compare::Tally::default();
+    let end = Instant::now() + Duration::from_secs(seconds);
+    while Instant::now() < end {
+        compare::round(&mut random, &mut tally);
+    }
+    println!("{tally}");
+    Ok(())
+}

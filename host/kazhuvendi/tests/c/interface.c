@@ -1,0 +1,67 @@
+/*
+ * Calls the library from C, as its header says. Each call prints its name and
+ * all six numbers of `out`, which hold something else before.
+ */
+#include <inttypes.h>
+#include <stdio.h>
+
+#include "kazhuvendi.h"
+
+static uint32_t day_m[31] = {
+    0x10000102, 0x20000064, 0x300000C8, 0x40000005, 0x50000064, 0x6001E03C, 0x7000000A,
+    0x50000064, 0x70000005,
+    0x50000032, 0x70000005, 0x8000003C,
+    0x50000032, 0x70000005, 0x80000032,
+    0x90000000, 0x900A0007, 0x900A0007, 0x900A0007,
+    0x900A0007, 0x90000000, 0x900A0007, 0x900A0007,
+    0x900A0007, 0x900A0007, 0x90000000, 0x900A0007,
+    0x900A0007, 0x900A0007, 0x900A0007, 0x90000000,
+};
+
+static const uint8_t bytes[28] = {
+    0x78, 0x56, 0x34, 0x12, 0, 0, 0, 0, 0, 0, 0, 0, 0, 0,
+    0, 0, 0, 0, 0, 0, 0, 0, 0, 0, 0xFF, 0, 0, 0x80,
+};
+
+static void print(const char *name, const uint64_t out[6])
+{
+    printf("%s", name);
+    for (int i = 0; i < 6; i++)
+        printf(" %" PRIu64, out[i]);
+    printf("\n");
+}
+
+static void judge(const char *name, const uint32_t *day, size_t n)
+{
+    uint64_t out[6] = {99, 99, 99, 99, 99, 99};
+    kz_judge(day, n, out);
+    print(name, out);
+}
+
+static void read_words(const char *name, size_t n, size_t room)
+{
+    uint32_t words[9] = {7, 7, 7, 7, 7, 7, 7, 7, 7};
+    uint64_t out[6] = {99, 99, 99, 99, 99, 99};
+    kz_read_words(bytes, n, words, room, out);
+    print(name, out);
+    for (int i = 0; i < 9; i++)
+        printf("%" PRIX32 "%s", words[i], i < 8 ? " " : "\n");
+}
+
+int main(void)
+{
+    judge("accepted", day_m, 31);
+    judge("cut", day_m, 30);
+    judge("short", day_m, 6);
+    judge("none", NULL, 0);
+    day_m[5] = 0x6003C01E;
+    judge("window", day_m, 31);
+    day_m[4] = 0x40000064;
+    judge("kind", day_m, 31);
+    day_m[0] = 0x10000002;
+    judge("size", day_m, 31);
+    read_words("read", 28, 9);
+    read_words("room", 28, 6);
+    read_words("bytes", 27, 9);
+    return 0;
+}

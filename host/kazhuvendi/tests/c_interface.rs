@@ -1,0 +1,40 @@
+//! The header and the static library, as a C program sees them.
+
+use std::path::Path;
+use std::process::Command;
+
+const PRINTED: &str = "\
+accepted 0 2 1 0 0 0
+cut 4 30 0 0 0 0
+short 1 6 0 0 0 0
+none 1 0 0 0 0 0
+window 5 5 0 0 0 0
+kind 2 4 0 0 0 0
+size 3 0 0 0 0 0
+read 0 7 0 0 0 0
+12345678 0 0 0 0 0 800000FF 7 7
+room 14 7 0 0 0 0
+7 7 7 7 7 7 7 7 7
+bytes 1 6 0 0 0 0
+7 7 7 7 7 7 7 7 7
+";
+
+#[test]
+fn a_c_program_gets_the_answers_that_the_header_names() {
+    let package = Path::new(env!("CARGO_MANIFEST_DIR"));
+    let program = Path::new(env!("CARGO_TARGET_TMPDIR")).join("interface");
+    let compiled = Command::new("cc")
+        .args(["-std=c99", "-Wall", "-Wextra", "-Wpedantic", "-Werror", "-I"])
+        .arg(package.join("../include"))
+        .arg(package.join("tests/c/interface.c"))
+        .arg(package.join("../../target/staticlib/libkazhuvendi.a"))
+        .arg("-o")
+        .arg(&program)
+        .output()
+        .expect("there is a C compiler");
+    let complaint = String::from_utf8_lossy(&compiled.stderr);
+    assert!(compiled.status.success(), "{complaint}");
+    let ran = Command::new(&program).output().expect("the program runs");
+    assert!(ran.status.success());
+    assert_eq!(String::from_utf8_lossy(&ran.stdout), PRINTED);
+}

@@ -1,0 +1,44 @@
+//! A buffer to lend, with canaries on both sides.
+
+use std::fmt::Debug;
+use std::ops::Range;
+
+const CANARIES: usize = 16;
+
+pub struct Lent<T> {
+    store: Vec<T>,
+    lent: Range<usize>,
+}
+
+impl<T: Copy + Debug + PartialEq + From<u8>> Lent<T> {
+    /// These items behind `more` canaries more than usual, so that they may stand in any place.
+    pub fn new(items: &[T], more: usize) -> Self {
+        let start = CANARIES + more;
+        let lent = start..start + items.len();
+        let mut store = canaries(0..start);
+        store.extend_from_slice(items);
+        store.extend(canaries::<T>(lent.end..lent.end + CANARIES));
+        Lent { store, lent }
+    }
+
+    pub fn items(&self) -> &[T] {
+        &self.store[self.lent.clone()]
+    }
+
+    pub fn items_mut(&mut self) -> &mut [T] {
+        &mut self.store[self.lent.clone()]
+    }
+
+    /// The buffer holds these items, and each canary is as it was.
+    pub fn assert_holds(&self, items: &[T]) {
+        let (start, end) = (self.lent.start, self.lent.end);
+        assert!(self.items() == items, "a lent buffer was changed where it should not be");
+        assert_eq!(self.store[..start], canaries::<T>(0..start), "before a lent buffer");
+        assert_eq!(self.store[end..], canaries::<T>(end..end + CANARIES), "behind a lent buffer");
+    }
+}
+
+/// A canary differs from those beside it, so that none can stand in for another.
+fn canaries<T: From<u8>>(places: Range<usize>) -> Vec<T> {
+    places.map(|place| T::from(0xA5 ^ place as u8)).collect()
+}
