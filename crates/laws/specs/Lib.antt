@@ -3,5 +3,6 @@ pub mod Bits
 pub mod Buffer
 pub mod Gather
 pub mod Least
+pub mod Lists
 pub mod Marks
 pub mod Tests

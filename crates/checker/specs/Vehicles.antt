@@ -1,0 +1,37 @@
+-- One vehicle walked by itself, so that what the check says of a plan can be put together from its vehicles. Assumes nothing.
+use Prim.Native.Nat.{ℕ}
+use mathlib.Core.Path.{_≡_}
+use mathlib.Core.List.{List, [], _∷_}
+use Rattle.checker.specs.Cargo.{cargoFault, cargoAfter}
+use Rattle.checker.specs.Cargo as Carried
+use Rattle.checker.specs.Plan.{Task, serve, empty, lunch, Round}
+use Rattle.checker.specs.PlanWords.{Word, stop, tip, rest, back}
+use Rattle.checker.specs.Trip.{leaving, tripFault, tripAfter}
+use Rattle.checker.specs.declared.walk.Cargo.{Cargo}
+use Rattle.checker.specs.declared.walk.Trip.{Trip}
+
+-- the word of a task, taken apart
+abbrev pub wordFor : Task → Word
+wordFor (serve k) = stop k
+wordFor (empty k) = tip k
+wordFor lunch = rest
+
+-- no task, and not the return, is at fault by the load
+unfoldable pub CargoClear : List ℕ → Cargo → Round → Type 0
+CargoClear day c [] = cargoFault day c back ≡ 0
+CargoClear day c (task ∷ tasks) = (cargoFault day c (wordFor task) ≡ 0) × CargoClear day (cargoAfter day c (wordFor task)) tasks
+
+-- nor by the minute
+unfoldable pub TripClear : List ℕ → Trip → Round → Type 0
+TripClear day t [] = tripFault day t back ≡ 0
+TripClear day t (task ∷ tasks) = (tripFault day t (wordFor task) ≡ 0) × TripClear day (tripAfter day t (wordFor task)) tasks
+
+-- the trip once the vehicle is back
+unfoldable pub tripHome : List ℕ → Trip → Round → Trip
+tripHome day t [] = tripAfter day t back
+tripHome day t (task ∷ tasks) = tripHome day (tripAfter day t (wordFor task)) tasks
+
+-- a vehicle that leaves the depot empty does its tasks and comes back without a fault
+pub record Clear (day : List ℕ) (tasks : Round) : Type 0 where
+  pub cargo : CargoClear day Carried.empty tasks
+  pub trip : TripClear day (leaving day) tasks

@@ -1,0 +1,2 @@
+// A plan against a day.
+pub mod walk;

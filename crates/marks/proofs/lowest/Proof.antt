@@ -1,0 +1,84 @@
+-- `lowest` finds the lowest mark: the words passed have none (`lowest-next`), and the first that is not 0 has it (`lowest-word`).
+use Prim.Native.Nat.{ℕ, _*_, _-_, _≤_, _<_}
+use mathlib.Core.Path.{_≡_}
+use mathlib.Core.Bool.{false}
+use native.Mathlib.Omega.{arith}
+use lib.ListN.{getD}
+use lib.Count.{trailing-le}
+use mir.Syntax.{w64}
+use borrow.Author.Needs.{needs}
+use Rattle.laws.specs.Marks.{marked}
+use Rattle.laws.proofs.Arrays.{array-fits}
+use Rattle.laws.proofs.Bits.{trailing-lowest}
+use Rattle.laws.proofs.Marks.{lowest-next, lowest-word}
+use Rattle.marks.proofs.lowest.Statement.{statement}
+use Rattle.marks.proofs.lowest.Tie as tie
+
+abbrev Inv-loop : tie.InvT-loop
+Inv-loop m i₀ i = (i ≤ 4) × ((j : ℕ) → j < i * 64 → marked (m .words) j ≡ false)
+
+abbrev μ-loop : tie.MeasureT-loop
+μ-loop m i₀ i = 4 - i
+
+loop-holds : tie.Need-loop-holds Inv-loop μ-loop
+loop-holds c = (search needs, λ j l. absurd (omega arith))
+
+mul-w : tie.Need-mul-w Inv-loop μ-loop
+mul-w c = search needs
+
+element-copy-out-w : tie.Need-element-copy-out-w Inv-loop μ-loop
+element-copy-out-w c = search needs
+
+mul-result : tie.Need-mul-result Inv-loop μ-loop
+mul-result c = search needs
+
+cast-result : tie.Need-cast-result Inv-loop μ-loop
+cast-result c =
+    let h = c .before .before .before in
+    omega (arith, trailing-le 64 (getD (h .before .args .t1 .words) (h .loop .i) 0))
+
+add-result : tie.Need-add-result Inv-loop μ-loop
+add-result c =
+    let h = c .before .before .before in
+    omega (arith, trailing-le 64 (getD (h .before .args .t1 .words) (h .loop .i) 0))
+
+returns : tie.Need-returns Inv-loop μ-loop
+returns c =
+    let h = c .before .before .before in
+    lowest-word _ _ (h .loop .inv .1) 4 _ (omega arith)
+    (trailing-lowest 64 _ (omega (arith, c .if1 .taken))
+    (array-fits w64 4 (h .before .args .t1 .words) _ (h .before .good .0 .1 .1 .0) (h .loop .i)))
+
+add-i : tie.Need-add-i Inv-loop μ-loop
+add-i c = search needs
+
+loop-less : tie.Need-loop-less Inv-loop μ-loop
+loop-less c = search needs
+
+loop-again : tie.Need-loop-again Inv-loop μ-loop
+loop-again c = (search needs, lowest-next _ _ (c .before .before .before .loop .inv .1) (c .if1 .left))
+
+returns-2 : tie.Need-returns-2 Inv-loop μ-loop
+returns-2 c = record {
+  within = omega arith;
+  below = λ j l. c .before .loop .inv .1 j (omega arith);
+  isMarked = λ l. absurd (omega arith);
+}
+
+pub lowest-spec : {M : Type 1} → statement M
+lowest-spec =
+    tie.close
+    (tie.spec
+    Inv-loop
+    μ-loop
+    loop-holds
+    mul-w
+    element-copy-out-w
+    mul-result
+    cast-result
+    add-result
+    returns
+    add-i
+    loop-less
+    loop-again
+    returns-2)
