@@ -1,11 +1,12 @@
 -- One vehicle walked by itself, so that what the check says of a plan can be put together from its vehicles. Assumes nothing.
-use Prim.Native.Nat.{ℕ}
+use Prim.Native.Nat.{ℕ, _+_}
 use mathlib.Core.Path.{_≡_}
 use mathlib.Core.List.{List, [], _∷_}
 use Rattle.checker.specs.Cargo.{cargoFault, cargoAfter}
 use Rattle.checker.specs.Cargo as Carried
+use Rattle.checker.specs.Check.{Walk, walkAfter}
 use Rattle.checker.specs.Plan.{Task, serve, empty, lunch, Round}
-use Rattle.checker.specs.PlanWords.{Word, stop, tip, rest, back}
+use Rattle.checker.specs.PlanWords.{Word, vehicle, stop, tip, rest, back}
 use Rattle.checker.specs.Trip.{leaving, tripFault, tripAfter}
 use Rattle.checker.specs.declared.walk.Cargo.{Cargo}
 use Rattle.checker.specs.declared.walk.Trip.{Trip}
@@ -35,3 +36,17 @@ tripHome day t (task ∷ tasks) = tripHome day (tripAfter day t (wordFor task)) 
 pub record Clear (day : List ℕ) (tasks : Round) : Type 0 where
   pub cargo : CargoClear day Carried.empty tasks
   pub trip : TripClear day (leaving day) tasks
+
+-- the walk after a vehicle's tasks
+unfoldable pub walkTasks : List ℕ → Walk → Round → Walk
+walkTasks day s [] = s
+walkTasks day s (task ∷ tasks) = walkTasks day (walkAfter day s (wordFor task)) tasks
+
+-- the walk after the next vehicle
+unfoldable pub walkRound : List ℕ → Walk → Round → Walk
+walkRound day s tasks = walkAfter day (walkTasks day (walkAfter day s (vehicle (s .tally .vehicles + 1))) tasks) back
+
+-- the walk after the next vehicles
+unfoldable pub walkRounds : List ℕ → Walk → List Round → Walk
+walkRounds day s [] = s
+walkRounds day s (tasks ∷ rounds) = walkRounds day (walkRound day s tasks) rounds

@@ -1,5 +1,6 @@
 -- What is said of the elements of a list. Assumes nothing.
 use Prim.Native.Nat.{ℕ, zero, suc, _+_, _<_}
+use mathlib.Core.Path.{_≡_}
 use mathlib.Core.Bool.{Bool, true, false, _||_}
 use mathlib.Core.List.{List, [], _∷_}
 use lib.Dec.{eqb}
@@ -34,3 +35,13 @@ Rising from (x ∷ xs) = (from < x) × Rising x xs
 unfoldable pub total : {A : Type 0} → (A → ℕ) → List A → ℕ
 total f [] = 0
 total f (x ∷ xs) = f x + total f xs
+
+-- numbers collected one by one, the latest in front
+unfoldable pub collect : List ℕ → List ℕ → List ℕ
+collect met [] = met
+collect met (k ∷ ks) = collect (k ∷ met) ks
+
+-- each number is new when its turn comes
+unfoldable pub Fresh : List ℕ → List ℕ → Type 0
+Fresh met [] = Unit {0}
+Fresh met (k ∷ ks) = (mem k met ≡ false) × Fresh (k ∷ met) ks

@@ -1,0 +1,60 @@
+-- A word that passes: what it passed, what lets it pass, and what that does to the check of the words behind it.
+-- Assumes nothing.
+use Prim.Native.Nat.{ℕ, suc, _≤_, _<_}
+use mathlib.Core.Path.{_≡_, refl, sym, ap, _∙_}
+use mathlib.Core.Bool.{Bool, true, false, not, true≢false}
+use mathlib.Core.List.{List, [], _∷_}
+use native.Mathlib.Omega.{arith}
+use lib.ListN.{length}
+use lib.Dec.{eqb}
+use borrow.Author.Tests.{eq-eqb, ne-eqb, eqb-true, eqb-false, not-false}
+use Rattle.laws.specs.Answers.{given, refused, isGiven}
+use Rattle.laws.specs.Tests.{if_then_else_, neb}
+use Rattle.checker.specs.Cargo.{cargoFault}
+use Rattle.checker.specs.Check.{wellFormed, metAgain, Walk, faultAt, walkAfter, finished, checkFrom}
+use Rattle.checker.specs.PlanWords.{Word, wordOf}
+use Rattle.checker.specs.Trip.{tripFault}
+
+-- what a word without fault has passed: 7, 8, the load, the minute
+pub record Passes (day : List ℕ) (s : Walk) (w : Word) : Type 0 where
+  pub formed : wellFormed day (s .tally) (s .cargo) w ≡ true
+  pub new : metAgain (s .met) w ≡ false
+  pub cargo : cargoFault day (s .cargo) w ≡ 0
+  pub trip : tripFault day (s .trip) w ≡ 0
+
+pub passes-fault : (day : List ℕ) (s : Walk) (w : Word) → Passes day s w → faultAt day s w ≡ 0
+unfolding faultAt
+passes-fault day s w p = rw (p .formed, p .new, p .cargo) (p .trip)
+
+pub fault-passes : (day : List ℕ) (s : Walk) (w : Word) → faultAt day s w ≡ 0 → Passes day s w
+unfolding faultAt
+fault-passes day s w = go (wellFormed day (s .tally) (s .cargo) w) (metAgain (s .met) w) (eqb (cargoFault day (s .cargo) w) 0) refl refl refl
+  where
+    go : (f m c : Bool) → wellFormed day (s .tally) (s .cargo) w ≡ f → metAgain (s .met) w ≡ m → eqb (cargoFault day (s .cargo) w) 0 ≡ c
+        → (if not f then 7 else if m then 8 else if not c then cargoFault day (s .cargo) w else tripFault day (s .trip) w) ≡ 0 → Passes day s w
+    go false m c ef em ec e = absurd (omega arith)
+    go true true c ef em ec e = absurd (omega arith)
+    go true false false ef em ec e = absurd (eqb-false _ _ ec e)
+    go true false true ef em ec e = record { formed = ef; new = em; cargo = eqb-true _ _ ec; trip = e }
+
+-- one word of the check
+pub word-passes : (day : List ℕ) (w : ℕ) (ws : List ℕ) (i : ℕ) (s : Walk) (u : Word) → wordOf w ≡ u → Passes day s u
+    → checkFrom day (w ∷ ws) i s ≡ checkFrom day ws (suc i) (walkAfter day s u)
+unfolding checkFrom
+word-passes day w ws i s u e p = rw (e, eq-eqb _ _ (passes-fault day s u p))
+
+-- an answer is no refusal: 2 numbers are not 4
+pub given-not-refused : {k i : ℕ} {a b c : ℕ} → refused k i ≡ given (a ∷ b ∷ c ∷ []) → ⊥
+given-not-refused e = let z : _≡_ {A = ℕ} 2 4 = ap length e in omega arith
+
+-- a check that is answered has passed its first word
+pub answer-passes : (day : List ℕ) (w : ℕ) (ws : List ℕ) (i : ℕ) (s : Walk) {a b c : ℕ} → checkFrom day (w ∷ ws) i s ≡ given (a ∷ b ∷ c ∷ [])
+    → Passes day s (wordOf w) × (checkFrom day ws (suc i) (walkAfter day s (wordOf w)) ≡ given (a ∷ b ∷ c ∷ []))
+unfolding checkFrom
+answer-passes day w ws i s {a} {b} {c} = go (eqb (faultAt day s (wordOf w)) 0) refl
+  where
+    go : (t : Bool) → eqb (faultAt day s (wordOf w)) 0 ≡ t
+        → (if t then checkFrom day ws (suc i) (walkAfter day s (wordOf w)) else refused (faultAt day s (wordOf w)) i) ≡ given (a ∷ b ∷ c ∷ [])
+        → Passes day s (wordOf w) × (checkFrom day ws (suc i) (walkAfter day s (wordOf w)) ≡ given (a ∷ b ∷ c ∷ []))
+    go true e q = (fault-passes day s (wordOf w) (eqb-true _ _ e), q)
+    go false e q = absurd (given-not-refused q)
