@@ -13,7 +13,7 @@ use Rattle.checker.specs.PlanWords.{wordOf}
 use Rattle.checker.specs.Trip.{visitFault, restFault, backFault}
 
 -- all that the check computes by
-pub computed : Unit {0}
+unfoldable pub computed : Unit {0}
 unfolding mem unmet headForm tipForm stopForm legForm formAt kindRight valueRight faultOf judgeFrom judgeSized judgeDay windowIndex overLimits cargoFault cargoAfter within wellFormed metAgain metAfter tallyAfter faultAt finished checkFrom checkWords checkPlan legsM dayM wordOf visitFault restFault backFault
 computed = tt
 

@@ -8,5 +8,7 @@ pub mod PlanChecks
 pub mod PlanParsing
 pub mod RoundChecks
 pub mod RoundWalks
+pub mod RoundsCompared
 pub mod Timetables
+pub mod VehicleParts
 pub mod WordForms

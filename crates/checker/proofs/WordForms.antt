@@ -38,6 +38,13 @@ module _ (k : ℕ) (h : k < 256) where
       let low : w % 256 ≡ k = omega arith in
       rw (ne-eqb (w / 256) 11534336 (λ e. omega arith), ne-eqb (w / 256) 12582912 (λ e. omega arith), ne-eqb w restWord (λ e. omega arith), ne-eqb w backWord (λ e. omega arith), ne-eqb (w / 256) 10485760 (λ e. omega arith), eq-eqb (w / 256) 15728640 (omega arith), low)
 
+-- a word with a vehicle's high bits
+pub vehicle-read : (w : ℕ) → w / 256 ≡ 10485760 → wordOf w ≡ vehicle (w % 256)
+vehicle-read w e = ap wordOf whole ∙ vehicle-form (w % 256) (omega arith)
+  where
+    whole : w ≡ vehicleWord (w % 256)
+    whole = omega arith
+
 pub rest-form : wordOf restWord ≡ rest
 unfolding wordOf
 rest-form = refl

@@ -2,7 +2,11 @@ pub mod Cargo
 pub mod Check
 pub mod DayM
 pub mod Lawful
+pub mod PlaceValues
 pub mod Plan
 pub mod PlanWords
+pub mod Rounds
+pub mod SameRounds
 pub mod Trip
+pub mod VehiclePlace
 pub mod Vehicles

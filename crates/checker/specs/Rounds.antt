@@ -1,0 +1,15 @@
+-- How the words that count are gone through. It serves the contracts of this crate's own functions. Assumes nothing.
+use Prim.Native.Nat.{ℕ, _≤_, _<_}
+use mathlib.Core.Path.{_≡_}
+use mathlib.Core.Bool.{true}
+use mathlib.Core.List.{List}
+use lib.ListN.{length, drop, getD}
+use Rattle.checker.specs.PlanWords.{wordOf}
+use Rattle.checker.specs.SameRounds.{counts, counted}
+
+-- the next word that counts, or the end: those between do not count
+pub record NextCounted (plan : List ℕ) (from r : ℕ) : Type 0 where
+  pub after : from ≤ r
+  pub inside : r ≤ length plan
+  pub same : counted (drop from plan) ≡ counted (drop r plan)
+  pub here : r < length plan → counts (wordOf (getD plan r 0)) ≡ true

@@ -1,0 +1,58 @@
+// Where one vehicle's words stand in a plan.
+ghost use mathlib.Core.Path.{_≡_};
+ghost use Prim.Native.Nat.{_+_, _≤_};
+ghost use lib.ListN.{length, drop};
+ghost use Rattle.checker.specs.PlaceValues.{placeValues};
+ghost use Rattle.checker.specs.PlanWords.{wordOf};
+ghost use Rattle.checker.specs.VehiclePlace.{isVehicle, wordsToBack, placeFrom};
+
+// The answer on one vehicle: where its words start and how many they are, or the refusal's number and place.
+pub enum PlaceAnswer {
+    Found { start: usize, length: usize },
+    Refused { number: u32, place: usize },
+}
+
+// Whether a word is the A word of a number.
+fn is_vehicle(w: u32, number: u64) -> bool
+    ensures { λ r. ⌜ r ≡ isVehicle number (wordOf w) ⌝ }
+{
+    if w / 256 != 10485760 {
+        return false;
+    }
+    (w % 256) as u64 == number
+}
+
+// How many words there are from an index up to the first E.
+fn part_length(plan: &[u32], from: usize) -> usize
+    requires { ⌜ from ≤ length (now plan) ⌝ }
+    ensures { λ r. ⌜ (r ≡ wordsToBack (drop from (now (plan .entry)))) × (from + r ≤ length (now (plan .entry))) ⌝ }
+{
+    let mut i = from;
+    while i < plan.len() {
+        if plan[i] == 3758096384 {
+            return i + 1 - from;
+        }
+        i += 1;
+    }
+    i - from
+}
+
+// Where a vehicle's words stand in a lawful plan.
+pub fn place_in(plan: &[u32], number: u64) -> PlaceAnswer
+    ensures { λ r. ⌜ placeValues r ≡ placeFrom number (now (plan .entry)) 0 ⌝ }
+{
+    let mut i: usize = 0;
+    while i < plan.len() {
+        if is_vehicle(plan[i], number) {
+            return PlaceAnswer::Found {
+                start: i,
+                length: part_length(plan, i),
+            };
+        }
+        i += 1;
+    }
+    PlaceAnswer::Refused {
+        number: 15,
+        place: number as usize,
+    }
+}

@@ -1,0 +1,4 @@
+pub mod Build
+pub mod Choice
+pub mod Home
+pub mod Tips
