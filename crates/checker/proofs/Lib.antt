@@ -11,4 +11,5 @@ pub mod RoundWalks
 pub mod RoundsCompared
 pub mod Timetables
 pub mod VehicleParts
+pub mod VehicleRounds
 pub mod WordForms

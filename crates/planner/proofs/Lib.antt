@@ -1,1 +1,2 @@
 pub mod BuildCases
+pub mod TipLaws

@@ -1,1 +1,2 @@
 // The greedy build.
+pub mod tips;
