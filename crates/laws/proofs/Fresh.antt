@@ -2,7 +2,7 @@
 -- Assumes nothing.
 use Prim.Native.Nat.{ℕ, zero, suc, _+_, _≤_, _<_}
 use mathlib.Core.Path.{_≡_, refl, sym, ap, _∙_, subst}
-use mathlib.Core.Bool.{Bool, true, false, _||_, true≢false}
+use mathlib.Core.Bool.{Bool, true, false, _||_}
 use mathlib.Core.List.{List, [], _∷_, _++_}
 use mathlib.Core.Logic.{⊎-elim}
 use native.Mathlib.Nat.{eq-or-lt-of-le}
@@ -13,6 +13,7 @@ use lib.Dec.{eqb}
 use borrow.Author.Tests.{eq-eqb, ne-eqb, eqb-true, eqb-false}
 use Rattle.laws.specs.Lists.{Every, mem, times, unmet, collect, Fresh}
 use Rattle.laws.specs.Tests.{if_then_else_}
+use Rattle.laws.proofs.Lists.{unmet-less}
 
 -- one where a number stands in the list, else none
 abbrev pub once : ℕ → List ℕ → ℕ
@@ -98,41 +99,11 @@ unfolding unmet
 all-met zero met h = refl
 all-met (suc n) met h = rw (h (suc n) (omega arith) (omega arith)) (omega (arith, all-met n met (λ k a b. h k a (omega arith))))
 
--- a number that is not asked for makes no difference
-mem-other : (j k : ℕ) (met : List ℕ) → (j ≡ k → ⊥) → mem j (k ∷ met) ≡ mem j met
-unfolding mem
-mem-other j k met n = rw (ne-eqb j k n)
-
-mem-front : (k : ℕ) (met : List ℕ) → mem k (k ∷ met) ≡ true
-unfolding mem
-mem-front k met = rw (eq-eqb k k refl)
-
-unmet-above : (n k : ℕ) (met : List ℕ) → n < k → unmet n (k ∷ met) ≡ unmet n met
-unfolding unmet
-unmet-above zero k met h = refl
-unmet-above (suc n) k met h = rw (mem-other (suc n) k met (λ e. omega arith), unmet-above n k met (omega arith))
-
--- a new number of 1..n makes one less missing
-pub unmet-new : (n k : ℕ) (met : List ℕ) → 1 ≤ k → k ≤ n → mem k met ≡ false → unmet n (k ∷ met) + 1 ≡ unmet n met
-unfolding unmet
-unmet-new zero k met h g e = absurd (omega arith)
-unmet-new (suc n) k met h g e = ⊎-elim last (before (λ l. unmet-new n k met h l e)) (eq-or-lt-of-le g)
-  where
-    last : k ≡ suc n → (if mem (suc n) (k ∷ met) then 0 else 1) + unmet n (k ∷ met) + 1 ≡ (if mem (suc n) met then 0 else 1) + unmet n met
-    last q =
-        let new : mem (suc n) met ≡ false = ap (λ (j : ℕ). mem j met) (sym q) ∙ e in
-        let here : mem (suc n) (k ∷ met) ≡ true = ap (λ (j : ℕ). mem j (k ∷ met)) (sym q) ∙ mem-front k met in
-        rw (new, here) (omega (arith, unmet-above n k met (omega arith)))
-
-    before : (k ≤ n → unmet n (k ∷ met) + 1 ≡ unmet n met) → k < suc n
-        → (if mem (suc n) (k ∷ met) then 0 else 1) + unmet n (k ∷ met) + 1 ≡ (if mem (suc n) met then 0 else 1) + unmet n met
-    before rest l = rw (mem-other (suc n) k met (λ z. omega arith)) (omega (arith, rest (omega arith)))
-
 -- so a fresh list of numbers of 1..n has as many as it makes less missing
 pub fresh-length : (n : ℕ) (met ks : List ℕ) → Every (λ k. (1 ≤ k) × (k ≤ n)) ks → Fresh met ks → length ks + unmet n (collect met ks) ≡ unmet n met
 unfolding Every Fresh collect
 fresh-length n met [] r f = omega arith
-fresh-length n met (k ∷ ks) r f = omega (arith, fresh-length n (k ∷ met) ks (r .1) (f .1), unmet-new n k met (r .0 .0) (r .0 .1) (f .0))
+fresh-length n met (k ∷ ks) r f = omega (arith, fresh-length n (k ∷ met) ks (r .1) (f .1), unmet-less n k met (r .0 .0) (r .0 .1) (f .0))
 
 pub unmet-most : (n : ℕ) (met : List ℕ) → unmet n met ≤ n
 unfolding unmet

@@ -4,5 +4,6 @@ pub mod Buffer
 pub mod Fresh
 pub mod Gather
 pub mod Least
+pub mod Lists
 pub mod Marks
 pub mod Tests

@@ -1,2 +1,3 @@
 pub mod BuildCases
+pub mod HomeLaws
 pub mod TipLaws

@@ -1,4 +1,5 @@
 pub mod Build
 pub mod Choice
 pub mod Home
+pub mod States
 pub mod Tips

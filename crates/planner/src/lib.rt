@@ -1,2 +1,3 @@
 // The greedy build.
+pub mod home;
 pub mod tips;

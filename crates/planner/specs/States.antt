@@ -1,0 +1,27 @@
+-- What the build carries from task to task. It serves the contracts of this crate's own functions; no definition of the build rests on it.
+-- Assumes nothing.
+use Prim.Native.Nat.{ℕ, _*_, _<_, _≤_}
+use mathlib.Core.Path.{_≡_}
+use mathlib.Core.Bool.{Bool, not, _&&_}
+use mathlib.Core.List.{List}
+use Rattle.laws.specs.Lists.{mem}
+use Rattle.laws.specs.Marks.{marked, upTo}
+use Rattle.day.specs.Fields.{stops, places}
+use Rattle.checker.specs.declared.walk.Cargo.{Cargo}
+use Rattle.checker.specs.declared.walk.Trip.{Trip}
+
+-- a trip is at a place of the day, at a small minute and a small distance
+pub record SmallTrip (day : List ℕ) (t : Trip) : Type 0 where
+  pub place : t .place < places day
+  pub minute : t .minute < 268435456
+  pub distance : t .distance < 2147483648
+
+-- what a vehicle carries is small
+pub record SmallCargo (c : Cargo) : Type 0 where
+  pub load : c .load < 134217728
+  pub kg : c .kg < 134217728
+  pub visits : c .visits < 134217728
+
+-- the stops 1..n that are still to be routed
+unfoldable pub unrouted : ℕ → List ℕ → ℕ → Bool
+unrouted n taken k = upTo n k && not (mem k taken)
