@@ -44,6 +44,19 @@ module _ (ok : ℕ → Bool) (key : ℕ → ℕ) where
   unfolding better wins
   better-less k b e l = rw (e, lt-ltb _ _ l, or-true) refl
 
+  -- the same by the comparison with the best so far
+  pub better-wins : (k b : ℕ) → ok k ≡ true → (eqb b 0 || ltb (key k) (key b)) ≡ true → better ok key k b ≡ k
+  unfolding better wins
+  better-wins k b e h = rw (e, h) refl
+
+  pub better-loses : (k b : ℕ) → (eqb b 0 || ltb (key k) (key b)) ≡ false → better ok key k b ≡ b
+  unfolding better wins
+  better-loses k b h = rw h (go (ok k))
+    where
+      go : (x : Bool) → (if x && false then k else b) ≡ b
+      go true = refl
+      go false = refl
+
   pub better-more : (k b : ℕ) → ok k ≡ true → (b ≡ 0 → ⊥) → key b ≤ key k → better ok key k b ≡ b
   unfolding better wins
   better-more k b e z l = rw (e, ne-eqb b 0 z, le-ltb _ _ l) refl

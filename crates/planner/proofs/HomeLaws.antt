@@ -9,7 +9,7 @@ use lib.Dec.{leb, eqb}
 use borrow.Author.Tests.{le-leb, lt-leb, leb-true, eq-eqb, ne-eqb}
 use Rattle.laws.specs.Tests.{if_then_else_}
 use Rattle.laws.proofs.Tests.{both-true}
-use Rattle.day.specs.Fields.{places, opening, closing, restOpening, restClosing, restMinutes, service, legMinutes, legDistance}
+use Rattle.day.specs.Fields.{places, stopPlace, opening, closing, restOpening, restClosing, restMinutes, service, legMinutes, legDistance}
 use Rattle.day.specs.Layout.{LayoutOf, WindowOf, LegOf}
 use Rattle.day.specs.declared.fields.Layout.{Layout}
 use Rattle.day.specs.declared.fields.Leg.{Leg}
@@ -48,6 +48,20 @@ pub visit-made : (day : List ℕ) (t : Trip) (place : ℕ) (w : Window) (l : Leg
     → record { minute = start + m; place = place; rested = t .rested; distance = t .distance + l .distance } ≡ visited day t place
 visit-made day t place w l hw hl es em = rw (es, em, hw .opens, hl .takes, hl .spans)
 
+-- a stop's place is counted from the tips
+module _ (day : List ℕ) (z : Layout) (k : ℕ) (hz : LayoutOf day z) where
+  pub stop-inside : k ≤ z .stops → z .tips + k < z .places
+  stop-inside h = omega (arith, hz .tipsAre, hz .stopsAre, hz .placesAre)
+
+  pub stop-hours : (w : Window) → WindowOf day (stopPlace day k) w → WindowOf day (z .tips + k) w
+  stop-hours w h = rw (hz .tipsAre) h
+
+  pub stop-minutes : {m : ℕ} → m ≡ service day (stopPlace day k) → m ≡ service day (z .tips + k)
+  stop-minutes e = rw (hz .tipsAre) e
+
+  pub stop-visited : (t u : Trip) → u ≡ visited day t (z .tips + k) → u ≡ visited day t (stopPlace day k)
+  stop-visited t u e = rw (hz .tipsAre) at e
+
 -- home without a tip: too late, rested, unrested
 module _ (day : List ℕ) (t : Trip) (l : Leg) (w : Window) (hl : LegOf day (t .place) 0 l) (hw : WindowOf day 0 w) where
   pub home-late : w .closing < t .minute + l .minutes → false ≡ homeDirect day t
@@ -65,8 +79,8 @@ module _ (day : List ℕ) (t : Trip) (l : Leg) (w : Window) (hl : LegOf day (t .
 
 -- trips stay small: a visit's minute is bounded, and a rest is taken by R2
 module _ (day : List ℕ) where
-  pub visit-minute : (t u : Trip) (place : ℕ) → SmallTrip day t → u ≡ visited day t place → u .minute < 536870912
-  visit-minute t u place h e = rw e (omega (arith, h .minute))
+  pub visit-minute : (most : ℕ) (t u : Trip) (place : ℕ) → SmallTrip day most t → u ≡ visited day t place → u .minute < 536870912
+  visit-minute most t u place h e = rw e (omega (arith, h .minute))
 
   pub visit-place : (t u : Trip) (place : ℕ) → u ≡ visited day t place → u .place ≡ place
   visit-place t u place e = rw e refl
@@ -103,8 +117,8 @@ module _ (day : List ℕ) where
       go true = refl
       go false = refl
 
-  pub rest-small : (t u : Trip) → SmallTrip day t → u ≡ restIfDue day t → SmallTrip day u
-  rest-small t u h e =
+  pub rest-small : (most : ℕ) (t u : Trip) → SmallTrip day most t → u ≡ restIfDue day t → SmallTrip day most u
+  rest-small most t u h e =
       record {
         place = rw (rest-place t u e) (h .place);
         minute = rest-minute 268435456 t u (omega arith) (h .minute) e;
@@ -112,10 +126,10 @@ module _ (day : List ℕ) where
       }
 
 -- behind a tip and a rest, a trip is still at a place and not too late to count
-pub tip-trip : (day : List ℕ) (z : Layout) (t u v : Trip) (x : ℕ) → LayoutOf day z → SmallTrip day t → x ≤ z .tips → u ≡ visited day t x → v ≡ restIfDue day u
+pub tip-trip : (day : List ℕ) (z : Layout) (most : ℕ) (t u v : Trip) (x : ℕ) → LayoutOf day z → SmallTrip day most t → x ≤ z .tips → u ≡ visited day t x → v ≡ restIfDue day u
     → LayoutOf day z × (v .place < z .places) × (v .minute < 1073741824)
-tip-trip day z t u v x hz ht l eu ev =
-    let m = visit-minute day t u x ht eu in
+tip-trip day z most t u v x hz ht l eu ev =
+    let m = visit-minute day most t u x ht eu in
     (hz, omega (arith, rest-place day u v ev, visit-place day t u x eu, hz .placesAre, hz .tipsAre), omega (arith, rest-minute day 536870912 u v (omega arith) m ev))
 
 -- the way home: no tip, by a tip, without a load

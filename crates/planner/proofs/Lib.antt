@@ -1,3 +1,4 @@
 pub mod BuildCases
+pub mod ChoiceLaws
 pub mod HomeLaws
 pub mod TipLaws

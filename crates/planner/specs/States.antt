@@ -10,11 +10,11 @@ use Rattle.day.specs.Fields.{stops, places}
 use Rattle.checker.specs.declared.walk.Cargo.{Cargo}
 use Rattle.checker.specs.declared.walk.Trip.{Trip}
 
--- a trip is at a place of the day, at a small minute and a small distance
-pub record SmallTrip (day : List ℕ) (t : Trip) : Type 0 where
+-- a trip is at a place of the day, at a small minute, and its distance is below a number
+pub record SmallTrip (day : List ℕ) (most : ℕ) (t : Trip) : Type 0 where
   pub place : t .place < places day
   pub minute : t .minute < 268435456
-  pub distance : t .distance < 2147483648
+  pub distance : t .distance < most
 
 -- what a vehicle carries is small
 pub record SmallCargo (c : Cargo) : Type 0 where

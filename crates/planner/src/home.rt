@@ -1,7 +1,7 @@
 // Rest if due, and the way home.
 ghost use mathlib.Core.Path.{_≡_};
 ghost use Prim.Native.Nat.{_<_, _≤_, max};
-ghost use Rattle.day.specs.Fields.{tips, service};
+ghost use Rattle.day.specs.Fields.{stopPlace, service};
 ghost use Rattle.day.specs.Layout.{LayoutOf, WindowOf};
 ghost use Rattle.checker.specs.Trip.{visited};
 ghost use Rattle.planner.specs.Home.{restIfDue, homeDirect, homeByTip, wayHome};
@@ -41,7 +41,7 @@ pub fn rest_if_due(day: &[u32], z: Layout, t: Trip) -> Trip
 
 // After a visit that is known to be in time.
 pub fn visit(day: &[u32], z: Layout, t: Trip, place: usize, hours: Window, minutes: u32) -> Trip
-    requires { ⌜ LayoutOf (now day) z × SmallTrip (now day) t × (place < z .places) × WindowOf (now day) place hours × (minutes ≡ service (now day) place) ⌝ }
+    requires { ⌜ LayoutOf (now day) z × SmallTrip (now day) 4294901760 t × (place < z .places) × WindowOf (now day) place hours × (minutes ≡ service (now day) place) ⌝ }
     ensures { λ r. ⌜ r ≡ visited (now (day .entry)) t place ⌝ }
 {
     let leg = day::fields::leg_between(day, z, t.place, place);
@@ -51,6 +51,16 @@ pub fn visit(day: &[u32], z: Layout, t: Trip, place: usize, hours: Window, minut
         rested: t.rested,
         distance: t.distance + leg.distance,
     }
+}
+
+// After the service of stop k.
+pub fn visit_stop(day: &[u32], z: Layout, t: Trip, k: usize) -> Trip
+    requires { ⌜ LayoutOf (now day) z × SmallTrip (now day) 4294901760 t × (0 < k) × (k ≤ z .stops) ⌝ }
+    ensures { λ r. ⌜ r ≡ visited (now (day .entry)) t (stopPlace (now (day .entry)) k) ⌝ }
+{
+    let hours = day::fields::stop_window(day, z, k);
+    let minutes = day::fields::stop_service(day, z, k);
+    visit(day, z, t, z.tips + k, hours, minutes)
 }
 
 // Whether the depot is reached in time, and in time for lunch.
@@ -71,7 +81,7 @@ fn is_home_direct(day: &[u32], z: Layout, t: Trip) -> bool
 
 // Whether the depot is reached by way of a tip; 0 is no tip.
 fn is_home_by_tip(day: &[u32], z: Layout, t: Trip, x: usize) -> bool
-    requires { ⌜ LayoutOf (now day) z × SmallTrip (now day) t × (x ≤ z .tips) ⌝ }
+    requires { ⌜ LayoutOf (now day) z × SmallTrip (now day) 4294901760 t × (x ≤ z .tips) ⌝ }
     ensures { λ r. ⌜ r ≡ homeByTip (now (day .entry)) t x ⌝ }
 {
     if x == 0 {
@@ -86,7 +96,7 @@ fn is_home_by_tip(day: &[u32], z: Layout, t: Trip, x: usize) -> bool
 
 // Whether there is a way home with a load.
 pub fn is_way_home(day: &[u32], z: Layout, t: Trip, load: u32) -> bool
-    requires { ⌜ LayoutOf (now day) z × SmallTrip (now day) t ⌝ }
+    requires { ⌜ LayoutOf (now day) z × SmallTrip (now day) 4294901760 t ⌝ }
     ensures { λ r. ⌜ r ≡ wayHome (now (day .entry)) t load ⌝ }
 {
     let rested = rest_if_due(day, z, t);

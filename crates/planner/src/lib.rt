@@ -1,3 +1,4 @@
 // The greedy build.
+pub mod choice;
 pub mod home;
 pub mod tips;

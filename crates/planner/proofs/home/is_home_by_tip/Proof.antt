@@ -29,13 +29,13 @@ visit-requires c κs = search needs
 
 -- src/home.rt:83:9
 rest-if-due-requires : tie.Need-rest-if-due-requires
-rest-if-due-requires c κs = (search needs, omega (arith, visit-minute _ _ _ _ (c .before .before .before .before .before .pre .1) (c .visit .ensures)))
+rest-if-due-requires c κs = (search needs, omega (arith, visit-minute _ _ _ _ _ (c .before .before .before .before .before .pre .1) (c .visit .ensures)))
 
 -- src/home.rt:84:5
 is-home-direct-requires : tie.Need-is-home-direct-requires
 is-home-direct-requires c κs =
     let pre = c .before .before .before .before .before .before .pre in
-    tip-trip _ _ _ _ _ _ (pre .0) (pre .1) (pre .2) (c .before .visit .ensures) (c .rest-if-due .ensures)
+    tip-trip _ _ _ _ _ _ _ (pre .0) (pre .1) (pre .2) (c .before .visit .ensures) (c .rest-if-due .ensures)
 
 -- src/home.rt:73:1
 returns-2 : tie.Need-returns-2

@@ -16,7 +16,7 @@ rest-if-due-requires c κs = search needs
 
 -- src/home.rt:94:9
 is-home-direct-requires : tie.Need-is-home-direct-requires
-is-home-direct-requires c κs = let s = rest-small _ _ _ (c .before .before .before .pre .1) (c .before .rest-if-due .ensures) in (search needs, omega (arith, s .place), omega (arith, s .minute))
+is-home-direct-requires c κs = let s = rest-small _ _ _ _ (c .before .before .before .pre .1) (c .before .rest-if-due .ensures) in (search needs, omega (arith, s .place), omega (arith, s .minute))
 
 -- src/home.rt:94:9
 returns : tie.Need-returns
@@ -24,11 +24,11 @@ returns c = search empty-home
 
 -- src/home.rt:96:9
 nearest-tip-requires : tie.Need-nearest-tip-requires
-nearest-tip-requires c κs = let s = rest-small _ _ _ (c .before .before .before .pre .1) (c .before .rest-if-due .ensures) in (search needs, omega (arith, s .place), omega (arith, s .minute))
+nearest-tip-requires c κs = let s = rest-small _ _ _ _ (c .before .before .before .pre .1) (c .before .rest-if-due .ensures) in (search needs, omega (arith, s .place), omega (arith, s .minute))
 
 -- src/home.rt:97:5
 is-home-by-tip-requires : tie.Need-is-home-by-tip-requires
-is-home-by-tip-requires c κs = (search needs, rest-small _ _ _ (c .before .before .before .before .pre .1) (c .before .before .rest-if-due .ensures), search needs)
+is-home-by-tip-requires c κs = (search needs, rest-small _ _ _ _ (c .before .before .before .before .pre .1) (c .before .before .rest-if-due .ensures), search needs)
 
 -- src/home.rt:88:1
 returns-2 : tie.Need-returns-2

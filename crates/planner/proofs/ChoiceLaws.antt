@@ -1,0 +1,145 @@
+-- Which stop is taken next: one law for each way through the functions that choose.
+-- Assumes nothing.
+use Prim.Native.Nat.{ℕ, _+_, _≤_, _<_, max}
+use mathlib.Core.Path.{_≡_, refl, sym, ap, _∙_}
+use mathlib.Core.Bool.{Bool, true, false, not, _&&_, _||_}
+use mathlib.Core.List.{List}
+use native.Mathlib.Omega.{arith}
+use lib.Dec.{ltb, leb, eqb}
+use borrow.Author.Tests.{le-leb, lt-leb, le-ltb, lt-ltb, eq-eqb, ne-eqb, leb-true, leb-false}
+use Rattle.laws.specs.Gather.{both}
+use Rattle.laws.specs.Least.{better, least}
+use Rattle.laws.proofs.Gather.{both-in, both-out}
+use Rattle.laws.proofs.Least.{better-fails, better-wins, better-loses, least-none, least-suc, least-le}
+use Rattle.day.specs.Fields.{tips, stops, places, stopPlace, loadLimit, dayLimit, stopLimit, opening, service, quantity, legMinutes}
+use Rattle.day.specs.Layout.{LayoutOf, WindowOf, LegOf}
+use Rattle.day.specs.declared.fields.Layout.{Layout}
+use Rattle.day.specs.declared.fields.Leg.{Leg}
+use Rattle.day.specs.declared.fields.Window.{Window}
+use Rattle.checker.specs.Cargo.{loaded, overLimits}
+use Rattle.checker.specs.Trip.{arrival, visited}
+use Rattle.checker.specs.declared.walk.Cargo.{Cargo}
+use Rattle.checker.specs.declared.walk.Trip.{Trip}
+use Rattle.planner.specs.Choice.{suits, takeable, waitable, nearKey, openKey}
+use Rattle.planner.specs.Home.{wayHome}
+use Rattle.planner.specs.States.{SmallTrip, SmallCargo}
+
+-- one stop more: over Q, over Q*, and else by S*
+module _ (day : List ℕ) (c : Cargo) (q : ℕ) where
+  pub over-load : {limit : ℕ} → limit ≡ loadLimit day → limit < c .load + q → false ≡ not (overLimits day (loaded c q))
+  unfolding overLimits
+  over-load e h = rw (lt-ltb _ _ (rw e at h))
+
+  pub over-day : {limit most : ℕ} → limit ≡ loadLimit day → c .load + q ≤ limit → most ≡ dayLimit day → most < c .kg + q → false ≡ not (overLimits day (loaded c q))
+  unfolding overLimits
+  over-day e h em g = rw (le-ltb _ _ (rw e at h), lt-ltb _ _ (rw em at g))
+
+  pub over-stops : {limit most few : ℕ} → limit ≡ loadLimit day → c .load + q ≤ limit → most ≡ dayLimit day → c .kg + q ≤ most → few ≡ stopLimit day
+      → leb (c .visits + 1) few ≡ not (overLimits day (loaded c q))
+  unfolding overLimits
+  over-stops {few = few} e h em g ef = rw (le-ltb _ _ (rw e at h), le-ltb _ _ (rw em at g), ef) (go (leb (c .visits + 1) (stopLimit day)) refl)
+    where
+      go : (b : Bool) → leb (c .visits + 1) (stopLimit day) ≡ b → b ≡ not (ltb (stopLimit day) (c .visits + 1))
+      go true x = rw (le-ltb (stopLimit day) (c .visits + 1) (leb-true _ _ x))
+      go false x = rw (lt-ltb (stopLimit day) (c .visits + 1) (leb-false _ _ x))
+
+-- a stop that does not fit does not suit; one that fits suits where there is a way home
+module _ (day : List ℕ) (t : Trip) (c : Cargo) (k : ℕ) where
+  pub unfit : {q : ℕ} {b : Bool} → q ≡ quantity day (stopPlace day k) → b ≡ not (overLimits day (loaded c q)) → b ≡ false → false ≡ suits day t c k
+  unfolding suits
+  unfit eq eb z = rw (← eq, ← eb, z)
+
+  pub fit-home : {q : ℕ} {b r : Bool} (u : Trip) → q ≡ quantity day (stopPlace day k) → b ≡ not (overLimits day (loaded c q)) → b ≡ true
+      → u ≡ visited day t (stopPlace day k) → r ≡ wayHome day u (c .load + q) → r ≡ suits day t c k
+  unfolding suits
+  fit-home u eq eb z eu er = er ∙ rw (eu, ← eq, ← eb, z)
+
+-- bounds: a larger bound on the distance, and the trip after the service
+pub weaker-trip : (day : List ℕ) (less most : ℕ) (t : Trip) → less ≤ most → SmallTrip day less t → SmallTrip day most t
+weaker-trip day less most t l h = record { place = h .place; minute = h .minute; distance = omega (arith, h .distance) }
+
+pub served-trip : (day : List ℕ) (z : Layout) (less most : ℕ) (t u : Trip) (k : ℕ) → LayoutOf day z → SmallTrip day less t → less + 65536 ≤ most → 0 < k → k ≤ z .stops
+    → arrival day t (stopPlace day k) < 4096 → u ≡ visited day t (stopPlace day k) → SmallTrip day most u
+served-trip day z less most t u k hz h l a b early e =
+    rw e
+    (record {
+      place = omega (arith, hz .stopsAre);
+      minute = omega arith;
+      distance = omega (arith, h .distance);
+    })
+
+-- fewer minutes, or an earlier opening, than the best so far
+pub first-choice : (best : ℕ) (b : Bool) → best ≡ 0 → true ≡ (eqb best 0 || b)
+first-choice best b e = rw (eq-eqb best 0 e)
+
+pub nearer-choice : (day : List ℕ) (z : Layout) (t : Trip) (minutes best : ℕ) (l : Leg) → LayoutOf day z → (best ≡ 0 → ⊥) → LegOf day (t .place) (z .tips + best) l
+    → ltb minutes (l .minutes) ≡ (eqb best 0 || ltb minutes (nearKey day t best))
+nearer-choice day z t minutes best l hz n hl = rw (ne-eqb best 0 n, hl .takes, hz .tipsAre)
+
+pub earlier-choice : (day : List ℕ) (minutes best : ℕ) (w : Window) → (best ≡ 0 → ⊥) → WindowOf day (stopPlace day best) w
+    → ltb minutes (w .opening) ≡ (eqb best 0 || ltb minutes (openKey day best))
+earlier-choice day minutes best w n hw = rw (ne-eqb best 0 n, hw .opens)
+
+-- a stop that is reached by its opening or closing is reached early in the day
+pub soon : (day : List ℕ) (z : Layout) (t : Trip) (k most : ℕ) (l : Leg) → LayoutOf day z → LegOf day (t .place) (z .tips + k) l → t .minute + l .minutes ≤ most → most < 4096
+    → arrival day t (stopPlace day k) < 4096
+soon day z t k most l hz hl h m = let leg : l .minutes ≡ legMinutes day (t .place) (stopPlace day k) = rw (hz .tipsAre) at (hl .takes) in omega arith
+
+-- reached within the window, or before it opens
+module _ (day : List ℕ) (z : Layout) (t : Trip) (c : Cargo) (k : ℕ) (l : Leg) (w : Window) (hz : LayoutOf day z)
+    (hl : LegOf day (t .place) (z .tips + k) l) (hw : WindowOf day (stopPlace day k) w) where
+  leg-here : l .minutes ≡ legMinutes day (t .place) (stopPlace day k)
+  leg-here = rw (hz .tipsAre) at (hl .takes)
+
+  pub early : t .minute + l .minutes < w .opening → false ≡ takeable day t c k
+  unfolding takeable
+  early h = rw (lt-leb _ _ (rw (leg-here, hw .opens) at h))
+
+  pub late : w .opening ≤ t .minute + l .minutes → w .closing < t .minute + l .minutes → false ≡ takeable day t c k
+  unfolding takeable
+  late g h = rw (le-leb _ _ (rw (leg-here, hw .opens) at g), lt-leb _ _ (rw (leg-here, hw .closes) at h))
+
+  pub in-window : {b : Bool} → w .opening ≤ t .minute + l .minutes → t .minute + l .minutes ≤ w .closing → b ≡ suits day t c k → b ≡ takeable day t c k
+  unfolding takeable
+  in-window g h e = e ∙ rw (le-leb _ _ (rw (leg-here, hw .opens) at g), le-leb _ _ (rw (leg-here, hw .closes) at h))
+
+  pub open-already : w .opening ≤ t .minute + l .minutes → false ≡ waitable day t c k
+  unfolding waitable
+  open-already h = rw (le-ltb _ _ (rw (leg-here, hw .opens) at h))
+
+  pub not-open-yet : {b : Bool} → t .minute + l .minutes < w .opening → b ≡ suits day t c k → b ≡ waitable day t c k
+  unfolding waitable
+  not-open-yet h e = e ∙ rw (lt-ltb _ _ (rw (leg-here, hw .opens) at h))
+
+-- one stop against the best so far: routed already, not better, not to be had, taken
+module _ (p q : ℕ → Bool) (key : ℕ → ℕ) (k best : ℕ) where
+  pub routed-already : {b : Bool} → b ≡ p k → b ≡ false → best ≡ better (both p q) key k best
+  routed-already e z = sym (better-fails _ _ k best (both-out p q k (sym e ∙ z)))
+
+  pub not-better : {x : ℕ} {b : Bool} → x ≡ key k → b ≡ (eqb best 0 || ltb x (key best)) → b ≡ false → best ≡ better (both p q) key k best
+  not-better ex eb z = sym (better-loses (both p q) key k best (rw ex at (sym eb ∙ z)))
+
+  pub not-had : {b d : Bool} → b ≡ p k → b ≡ true → d ≡ q k → d ≡ false → best ≡ better (both p q) key k best
+  not-had eb zb ed zd = sym (better-fails _ _ k best (both-in p q k (sym eb ∙ zb) ∙ (sym ed ∙ zd)))
+
+  pub is-taken : {x : ℕ} {b d f : Bool} → b ≡ p k → b ≡ true → x ≡ key k → d ≡ (eqb best 0 || ltb x (key best)) → d ≡ true → f ≡ q k → f ≡ true
+      → k ≡ better (both p q) key k best
+  is-taken eb zb ex ed zd ef zf = sym (better-wins (both p q) key k best (both-in p q k (sym eb ∙ zb) ∙ (sym ef ∙ zf)) (rw ex at (sym ed ∙ zd)))
+
+-- the keys as they are read
+pub near-read : (day : List ℕ) (z : Layout) (t : Trip) (k : ℕ) (l : Leg) → LayoutOf day z → LegOf day (t .place) (z .tips + k) l → l .minutes ≡ nearKey day t k
+near-read day z t k l hz hl = rw (hz .tipsAre) at (hl .takes)
+
+-- a pass over 1..n: after the first k the best so far is the least of them
+module _ (ok : ℕ → Bool) (key : ℕ → ℕ) where
+  pub pass-none : 0 ≡ least ok key 0
+  pass-none = sym (least-none ok key)
+
+  pub pass-next : (k best : ℕ) {next : ℕ} → best ≡ least ok key k → next ≡ better ok key (k + 1) best → next ≡ least ok key (k + 1)
+  pass-next k best e n = n ∙ ap (better ok key (k + 1)) e ∙ sym (least-suc ok key k)
+
+  pub pass-most : (k best : ℕ) → best ≡ least ok key k → best ≤ k
+  pass-most k best e = least-le ok key k best e
+
+  pub pass-all : (n k best : ℕ) → best ≡ least ok key k → k ≤ n → n ≤ k → best ≡ least ok key n
+  pass-all n k best e a b = let all : k ≡ n = omega arith in e ∙ ap (least ok key) all
