@@ -1,4 +1,16 @@
 pub mod BuildCases
 pub mod ChoiceLaws
+pub mod Decided
+pub mod Driving
+pub mod Fleets
+pub mod GreedyForm
+pub mod GreedyLawful
+pub mod GreedyRoom
 pub mod HomeLaws
+pub mod LeftOut
+pub mod NextTasks
+pub mod OnTheRoad
+pub mod TaskLaws
 pub mod TipLaws
+pub mod VehicleStops
+pub mod WaysHome

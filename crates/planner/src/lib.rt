@@ -1,4 +1,5 @@
 // The greedy build.
 pub mod choice;
 pub mod home;
+pub mod tasks;
 pub mod tips;

@@ -1,0 +1,39 @@
+-- The next task by a set of unrouted stops, as the code has it. It serves the contracts of this crate's own functions. Assumes nothing.
+use Prim.Native.Nat.{ℕ}
+use mathlib.Core.Bool.{Bool}
+use mathlib.Core.List.{List}
+use mathlib.Core.Option.{Option, none, some}
+use lib.Dec.{ltb}
+use Rattle.laws.specs.Gather.{both}
+use Rattle.laws.specs.Least.{least}
+use Rattle.laws.specs.Tests.{if_then_else_}
+use Rattle.day.specs.Fields.{stops}
+use Rattle.checker.specs.Plan.{Task, serve, empty}
+use Rattle.checker.specs.declared.walk.Cargo.{Cargo}
+use Rattle.checker.specs.declared.walk.Trip.{Trip}
+use Rattle.planner.specs.Build.{serving, emptying}
+use Rattle.planner.specs.Choice.{takeable, waitable, nearKey, openKey, chosenStop}
+use Rattle.planner.specs.Tips.{nearestTip}
+use Rattle.planner.specs.declared.tasks.Next.{Next}
+use Rattle.planner.specs.declared.tasks.Next.the-variants as Nexts
+
+-- the task that the code names
+abbrev pub nextOf : Next → Option Task
+nextOf (Nexts.Stop k) = some (serve k)
+nextOf (Nexts.Tip x) = some (empty x)
+nextOf Nexts.Home = none
+
+-- step 5
+unfoldable pub waitBy : List ℕ → Trip → Cargo → (ℕ → Bool) → Option Task
+waitBy day t c p = serving (least (both p (waitable day t c)) (openKey day) (stops day))
+
+-- step 3's choice
+unfoldable pub chosenBy : List ℕ → Trip → Cargo → (ℕ → Bool) → ℕ
+chosenBy day t c p = chosenStop day t c (least (both p (takeable day t c)) (nearKey day t) (stops day))
+
+-- steps 3, 4 and 5
+unfoldable pub nextBy : List ℕ → Trip → Cargo → (ℕ → Bool) → Option Task
+nextBy day t c p =
+    if ltb 0 (chosenBy day t c p) then serving (chosenBy day t c p)
+    else if ltb 0 (c .load) then emptying (nearestTip day (t .place) (t .minute))
+    else waitBy day t c p
