@@ -21,7 +21,7 @@ use Rattle.checker.specs.Plan.{Task, lunch}
 use Rattle.planner.specs.Build.{Truck, fresh, doing, resting, nextTask, drive, oneVehicle}
 use Rattle.planner.specs.Home.{due, restIfDue}
 use Rattle.planner.proofs.Decided.{known, known-option, bit-most}
-use Rattle.planner.proofs.NextTasks.{Next, takes, empties, waits, next-some}
+use Rattle.planner.proofs.NextTasks.{IsNext, takes, empties, waits, next-some}
 
 -- the rest before the next task: what the vehicle carries and the stops routed stay, and it is not due again
 module _ (day : List ℕ) (v : Truck) where
@@ -57,7 +57,7 @@ pub resting-toDo : (day : List ℕ) (v : Truck) → toDo day (resting day v) ≡
 unfolding toDo
 resting-toDo day v = rw (resting-cargo day v, resting-taken day v)
 
-pub next-toDo : (day : List ℕ) (v : Truck) (task : Task) → Next day v task → toDo day (doing day v task) < toDo day v
+pub next-toDo : (day : List ℕ) (v : Truck) (task : Task) → IsNext day v task → toDo day (doing day v task) < toDo day v
 unfolding toDo metAfter cargoAfter
 next-toDo day v task (takes k c) =
     omega (arith, unmet-less (stops day) k (v .taken) (c .first) (c .within) (c .new), bit-most (ltb 0 (doing day v task .cargo .load)))
@@ -121,7 +121,7 @@ resting-keeps day P rests v p = elim (known (due day (v .trip))) [
 -- what each next task keeps too, where no rest is due, holds of every vehicle that is reached, and at its end
 module _ (day : List ℕ) (P : Truck → Type 0)
     (rests : (v : Truck) → due day (v .trip) ≡ true → P v → P (doing day v lunch))
-    (does : (v : Truck) (task : Task) → due day (v .trip) ≡ false → Next day v task → P v → P (doing day v task)) where
+    (does : (v : Truck) (task : Task) → due day (v .trip) ≡ false → IsNext day v task → P v → P (doing day v task)) where
   step-keeps : (v : Truck) (task : Task) → nextTask day (resting day v) ≡ some task → P v → P (doing day (resting day v) task)
   step-keeps v task e p =
       does (resting day v) task (resting-done day v) (next-some day (resting day v) task e) (resting-keeps day P rests v p)

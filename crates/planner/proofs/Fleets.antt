@@ -3,28 +3,22 @@
 -- Assumes nothing.
 use Prim.Native.Nat.{ℕ, zero, suc, _+_, _≤_, _<_}
 use mathlib.Core.Path.{_≡_, refl, sym, ap, _∙_, subst}
-use mathlib.Core.List.{List, [], _∷_, append-nil}
+use mathlib.Core.List.{List, [], _∷_}
 use mathlib.Core.Logic.{inl, inr}
 use native.Mathlib.Nat.{eq-zero-or-pos}
 use native.Mathlib.Omega.{arith}
 use borrow.Author.Tests.{eq-eqb, ne-eqb}
 use Rattle.laws.specs.Lists.{Every, unmet, collect, Fresh}
-use Rattle.laws.proofs.Fresh.{collect-append, fresh-append, fresh-length, unmet-most}
+use Rattle.laws.proofs.Fresh.{collect-append, fresh-append, unmet-most}
 use Rattle.day.specs.Fields.{stops}
 use Rattle.checker.specs.Plan.{Round, stopsOn, stopsOnAll}
-use Rattle.checker.proofs.PlanChecks.{known-all}
 use Rattle.planner.specs.Build.{oneVehicle, fleet, routed, greedyRounds}
-use Rattle.planner.proofs.VehicleStops.{vehicle-routes}
+use Rattle.planner.proofs.VehicleStops.{routes-unmet, vehicle-routes}
 
 -- the stops that a vehicle takes are no longer missing
 pub vehicle-unmet : (day taken : List ℕ)
     → oneVehicle day taken .cargo .visits + unmet (stops day) (oneVehicle day taken .taken) ≡ unmet (stops day) taken
-unfolding Every stopsOnAll
-vehicle-unmet day taken =
-    let r = vehicle-routes day taken in
-    let tasks = oneVehicle day taken .tasks in
-    let known : Every (λ k. (1 ≤ k) × (k ≤ stops day)) (stopsOn tasks) = rw append-nil at (known-all day (tasks ∷ []) (r .known, tt)) in
-    rw (r .visits, r .taken) (fresh-length (stops day) taken (stopsOn tasks) known (r .new))
+vehicle-unmet day taken = routes-unmet day taken (oneVehicle day taken) (vehicle-routes day taken)
 
 -- one vehicle more: a fresh one that takes none, or one that takes some
 module _ (day : List ℕ) (most : ℕ) (taken : List ℕ) where

@@ -23,7 +23,7 @@ use Rattle.planner.proofs.Decided.{bit-most}
 use Rattle.planner.proofs.Driving.{Reached, reached-keeps, vehicle-keeps}
 use Rattle.planner.proofs.Fleets.{fleet-every}
 use Rattle.planner.proofs.GreedyForm.{greedy-busy, greedy-named}
-use Rattle.planner.proofs.NextTasks.{Next, takes, empties, waits}
+use Rattle.planner.proofs.NextTasks.{IsNext, takes, empties, waits}
 use Rattle.planner.proofs.VehicleStops.{Routes, reached-routes, vehicle-routes}
 use Rattle.planner.proofs.WaysHome.{due-true}
 
@@ -79,7 +79,7 @@ module _ (day : List ℕ) where
         rests = omega (arith, p .rests, rests-append (v .tasks) (serve k ∷ []));
       }
 
-  paid-next : (v : Truck) (task : Task) → due day (v .trip) ≡ false → Next day v task → Paid v → Paid (doing day v task)
+  paid-next : (v : Truck) (task : Task) → due day (v .trip) ≡ false → IsNext day v task → Paid v → Paid (doing day v task)
   unfolding emptiesIn restsIn cargoAfter
   paid-next v task e (takes k c) p = paid-serve v k p
   paid-next v task e (waits k z c) p = paid-serve v k p

@@ -22,7 +22,7 @@ use Rattle.planner.specs.Home.{due}
 use Rattle.planner.proofs.Decided.{known, known-option}
 use Rattle.planner.proofs.Driving.{resting-trip, resting-cargo, resting-taken, drive-some, drive-keeps}
 use Rattle.planner.proofs.Fleets.{routed-idle}
-use Rattle.planner.proofs.NextTasks.{Next, takes, empties, waits, next-some, next-none, chosen-empty, none-takeable, none-waitable}
+use Rattle.planner.proofs.NextTasks.{IsNext, takes, empties, waits, next-some, next-none, chosen-empty, none-takeable, none-waitable}
 
 -- what remains of the r numbers from k on: not routed, and within them
 pub record Remains (taken : List ℕ) (k r j : ℕ) : Type 0 where
@@ -78,14 +78,14 @@ drive-visits : (day : List ℕ) (most : ℕ) (v : Truck) → 0 < v .cargo .visit
 unfolding cargoAfter
 drive-visits day = drive-keeps day (λ v. 0 < v .cargo .visits) (λ v e l. l) does
   where
-    does : (v : Truck) (task : Task) → due day (v .trip) ≡ false → Next day v task
+    does : (v : Truck) (task : Task) → due day (v .trip) ≡ false → IsNext day v task
         → 0 < v .cargo .visits → 0 < doing day v task .cargo .visits
     does v task e (takes k c) l = omega arith
     does v task e (empties x g q o) l = l
     does v task e (waits k z c) l = omega arith
 
 -- the first task of an empty vehicle is a stop
-next-visits : (day : List ℕ) (v : Truck) (task : Task) → Next day v task → v .cargo .load ≡ 0 → 0 < doing day v task .cargo .visits
+next-visits : (day : List ℕ) (v : Truck) (task : Task) → IsNext day v task → v .cargo .load ≡ 0 → 0 < doing day v task .cargo .visits
 unfolding cargoAfter
 next-visits day v task (takes k c) z = omega arith
 next-visits day v task (empties x l q o) z = absurd (omega arith)

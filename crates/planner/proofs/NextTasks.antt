@@ -116,11 +116,11 @@ unfolding emptying
 emptying-none x e = eqb-true x 0 (only-first (eqb x 0) (Option·some-ne-none (empty x)) e .0)
 
 -- the next task: a stop of step 3, the nearest tip with a load, a stop of step 5 without
-pub data Next (day : List ℕ) (v : Truck) : Task → Type 0 where
-  takes : (k : ℕ) → Chosen day (v .taken) (takeable day (v .trip) (v .cargo)) k → Next day v (serve k)
+pub data IsNext (day : List ℕ) (v : Truck) : Task → Type 0 where
+  takes : (k : ℕ) → Chosen day (v .taken) (takeable day (v .trip) (v .cargo)) k → IsNext day v (serve k)
   empties : (x : ℕ) → 0 < v .cargo .load → x ≡ nearestTip day (v .trip .place) (v .trip .minute)
-      → OpenTip day (v .trip .place) (v .trip .minute) x → Next day v (empty x)
-  waits : (k : ℕ) → v .cargo .load ≡ 0 → Chosen day (v .taken) (waitable day (v .trip) (v .cargo)) k → Next day v (serve k)
+      → OpenTip day (v .trip .place) (v .trip .minute) x → IsNext day v (empty x)
+  waits : (k : ℕ) → v .cargo .load ≡ 0 → Chosen day (v .taken) (waitable day (v .trip) (v .cargo)) k → IsNext day v (serve k)
 
 -- what the vehicle could do next: step 3's stop, before and after it may be dropped, step 4's tip, step 5's stop
 module _ (day : List ℕ) (v : Truck) where
@@ -137,28 +137,28 @@ module _ (day : List ℕ) (v : Truck) where
   early = earliestStop day (v .trip) (v .cargo) (v .taken)
 
   -- it comes by step 3, step 4 or step 5
-  next-takes : (task : Task) → 0 < chosen → serve chosen ≡ task → Next day v task
+  next-takes : (task : Task) → 0 < chosen → serve chosen ≡ task → IsNext day v task
   next-takes task l e =
       let kept = chosen-kept day (v .trip) (v .cargo) near l in
       let there : 0 < near = omega arith in
-      subst (Next day v) (ap serve (sym kept) ∙ e) (takes near (nearest-chosen day (v .trip) (v .cargo) (v .taken) there))
+      subst (IsNext day v) (ap serve (sym kept) ∙ e) (takes near (nearest-chosen day (v .trip) (v .cargo) (v .taken) there))
 
-  next-empties : (task : Task) → 0 < v .cargo .load → emptying tip ≡ some task → Next day v task
+  next-empties : (task : Task) → 0 < v .cargo .load → emptying tip ≡ some task → IsNext day v task
   next-empties task l e =
       let p = emptying-some tip task e in
-      subst (Next day v) (p .1) (empties tip l refl (nearest-open day (v .trip .place) (v .trip .minute) (p .0)))
+      subst (IsNext day v) (p .1) (empties tip l refl (nearest-open day (v .trip .place) (v .trip .minute) (p .0)))
 
-  next-waits : (task : Task) → v .cargo .load ≡ 0 → serving early ≡ some task → Next day v task
+  next-waits : (task : Task) → v .cargo .load ≡ 0 → serving early ≡ some task → IsNext day v task
   next-waits task z e =
       let p = serving-some early task e in
-      subst (Next day v) (p .1) (waits early z (earliest-chosen day (v .trip) (v .cargo) (v .taken) (p .0)))
+      subst (IsNext day v) (p .1) (waits early z (earliest-chosen day (v .trip) (v .cargo) (v .taken) (p .0)))
 
-  pub next-some : (task : Task) → nextTask day v ≡ some task → Next day v task
+  pub next-some : (task : Task) → nextTask day v ≡ some task → IsNext day v task
   unfolding nextTask
   next-some task e = go (ltb 0 chosen) (ltb 0 (v .cargo .load)) refl refl e
     where
       go : (a b : Bool) → ltb 0 chosen ≡ a → ltb 0 (v .cargo .load) ≡ b
-          → (if a then serving chosen else if b then emptying tip else serving early) ≡ some task → Next day v task
+          → (if a then serving chosen else if b then emptying tip else serving early) ≡ some task → IsNext day v task
       go true b x y e = next-takes task (ltb-true 0 chosen x) (serving-some chosen task e .1)
       go false true x y e = next-empties task (ltb-true 0 (v .cargo .load) y) e
       go false false x y e =

@@ -26,7 +26,7 @@ use Rattle.planner.specs.Choice.{taking, suits, takeable, waitable}
 use Rattle.planner.specs.Home.{due, wayHome}
 use Rattle.planner.specs.Tips.{nearestTip}
 use Rattle.planner.proofs.Driving.{Ended, resting-done, resting-keeps, Reached, reached-keeps, vehicle-keeps, vehicle-ended}
-use Rattle.planner.proofs.NextTasks.{OpenTip, Next, takes, empties, waits, next-none}
+use Rattle.planner.proofs.NextTasks.{OpenTip, IsNext, takes, empties, waits, next-none}
 use Rattle.planner.proofs.WaysHome.{due-fault, way-home-rested, way-home-loaded, way-home-empty}
 
 -- a stop that is taken, or waited for, has no fault, and there is a way home from it
@@ -123,7 +123,7 @@ module _ (day : List ℕ) (v : Truck) (r : OnTheRoad day v) where
 pub road-rest : (day : List ℕ) (v : Truck) → due day (v .trip) ≡ true → OnTheRoad day v → OnTheRoad day (doing day v lunch)
 road-rest day v e r = road-lunch day v r e
 
-pub road-next : (day : List ℕ) → IsAccepted day → (v : Truck) (task : Task) → due day (v .trip) ≡ false → Next day v task
+pub road-next : (day : List ℕ) → IsAccepted day → (v : Truck) (task : Task) → due day (v .trip) ≡ false → IsNext day v task
     → OnTheRoad day v → OnTheRoad day (doing day v task)
 road-next day a v task e (takes k c) r = road-serve day v r k (takeable-served day (v .trip) (v .cargo) k (c .suited))
 road-next day a v task e (waits k z c) r =

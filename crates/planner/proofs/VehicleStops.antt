@@ -3,20 +3,22 @@
 use Prim.Native.Nat.{ℕ, _+_}
 use mathlib.Core.Path.{_≡_, refl, sym, ap, _∙_}
 use mathlib.Core.Bool.{true, false}
-use mathlib.Core.List.{List, [], _∷_, _++_}
+use mathlib.Core.List.{List, [], _∷_, _++_, append-nil}
 use native.Mathlib.Omega.{arith}
 use lib.ListN.{length, length-append}
-use Rattle.laws.specs.Lists.{Every, collect, Fresh}
-use Rattle.laws.proofs.Fresh.{collect-append, fresh-append, every-append}
+use Rattle.laws.specs.Lists.{Every, unmet, collect, Fresh}
+use Rattle.laws.proofs.Fresh.{collect-append, fresh-append, fresh-length, every-append}
+use Rattle.day.specs.Fields.{stops}
 use Rattle.checker.specs.Cargo.{cargoAfter}
 use Rattle.checker.specs.Check.{metAfter}
-use Rattle.checker.specs.Plan.{Task, serve, empty, lunch, Round, stopsOn, Known}
+use Rattle.checker.specs.Plan.{Task, serve, empty, lunch, Round, stopsOn, stopsOnAll, Known}
 use Rattle.checker.specs.Vehicles.{wordFor}
 use Rattle.checker.specs.declared.walk.Cargo.{Cargo}
+use Rattle.checker.proofs.PlanChecks.{known-all}
 use Rattle.planner.specs.Build.{Truck, fresh, doing, oneVehicle}
 use Rattle.planner.specs.Home.{due}
 use Rattle.planner.proofs.Driving.{Reached, reached-keeps, vehicle-keeps}
-use Rattle.planner.proofs.NextTasks.{Next, takes, empties, waits}
+use Rattle.planner.proofs.NextTasks.{IsNext, takes, empties, waits}
 
 -- the stops of two parts of a round
 pub stops-append : (xs ys : Round) → stopsOn (xs ++ ys) ≡ stopsOn xs ++ stopsOn ys
@@ -40,13 +42,13 @@ visits-task day c (empty k) = omega arith
 visits-task day c lunch = omega arith
 
 -- the next task's stop is new, and its number is known
-next-new : (day : List ℕ) (v : Truck) (task : Task) → Next day v task → Fresh (v .taken) (stopsOn (task ∷ []))
+next-new : (day : List ℕ) (v : Truck) (task : Task) → IsNext day v task → Fresh (v .taken) (stopsOn (task ∷ []))
 unfolding Fresh stopsOn
 next-new day v task (takes k c) = (c .new, tt)
 next-new day v task (empties x l e o) = tt
 next-new day v task (waits k z c) = (c .new, tt)
 
-next-known : (day : List ℕ) (v : Truck) (task : Task) → Next day v task → Every (Known day) (task ∷ [])
+next-known : (day : List ℕ) (v : Truck) (task : Task) → IsNext day v task → Every (Known day) (task ∷ [])
 unfolding Every Known
 next-known day v task (takes k c) = ((c .first, c .within), tt)
 next-known day v task (empties x l e o) = ((o .first, o .within), tt)
@@ -59,6 +61,14 @@ pub record Routes (day before : List ℕ) (v : Truck) : Type 0 where
   pub new : Fresh before (stopsOn (v .tasks))
   pub known : Every (Known day) (v .tasks)
 
+-- its stops are no longer missing
+pub routes-unmet : (day before : List ℕ) (v : Truck) → Routes day before v
+    → v .cargo .visits + unmet (stops day) (v .taken) ≡ unmet (stops day) before
+unfolding Every stopsOnAll
+routes-unmet day before v r =
+    let known = known-all day (v .tasks ∷ []) (r .known, tt) in
+    rw (r .visits, r .taken) (fresh-length (stops day) before (stopsOn (v .tasks)) (rw append-nil at known) (r .new))
+
 module _ (day before : List ℕ) where
   routes-fresh : Routes day before (fresh day before)
   unfolding stopsOn collect Fresh Every
@@ -67,15 +77,15 @@ module _ (day before : List ℕ) where
   routes-doing : (v : Truck) (task : Task) → Fresh (v .taken) (stopsOn (task ∷ [])) → Every (Known day) (task ∷ [])
       → Routes day before v → Routes day before (doing day v task)
   routes-doing v task n k r =
-      let stops = stops-append (v .tasks) (task ∷ []) in
+      let named = stops-append (v .tasks) (task ∷ []) in
       record {
         taken =
             met-task (v .taken) task
             ∙ ap (λ (met : List ℕ). collect met (stopsOn (task ∷ []))) (r .taken)
-            ∙ sym (ap (collect before) stops ∙ collect-append before (stopsOn (v .tasks)) (stopsOn (task ∷ [])));
+            ∙ sym (ap (collect before) named ∙ collect-append before (stopsOn (v .tasks)) (stopsOn (task ∷ [])));
         visits =
-            omega (arith, visits-task day (v .cargo) task, r .visits, ap length stops, length-append (stopsOn (v .tasks)) (stopsOn (task ∷ [])));
-        new = rw stops (fresh-append before (stopsOn (v .tasks)) (stopsOn (task ∷ [])) (r .new) (rw (r .taken) at n));
+            omega (arith, visits-task day (v .cargo) task, r .visits, ap length named, length-append (stopsOn (v .tasks)) (stopsOn (task ∷ [])));
+        new = rw named (fresh-append before (stopsOn (v .tasks)) (stopsOn (task ∷ [])) (r .new) (rw (r .taken) at n));
         known = every-append (Known day) (v .tasks) (task ∷ []) (r .known) k;
       }
 
@@ -84,7 +94,7 @@ module _ (day before : List ℕ) where
   unfolding Fresh stopsOn Every Known
   rests v e = routes-doing v lunch tt (tt, tt)
 
-  does : (v : Truck) (task : Task) → due day (v .trip) ≡ false → Next day v task
+  does : (v : Truck) (task : Task) → due day (v .trip) ≡ false → IsNext day v task
       → Routes day before v → Routes day before (doing day v task)
   does v task e n = routes-doing v task (next-new day v task n) (next-known day v task n)
 

@@ -1,6 +1,6 @@
 -- The next task by a set of unrouted stops, as the code has it. It serves the contracts of this crate's own functions. Assumes nothing.
-use Prim.Native.Nat.{ℕ}
-use mathlib.Core.Bool.{Bool}
+use Prim.Native.Nat.{ℕ, _<_, _≤_}
+use mathlib.Core.Bool.{Bool, true, false}
 use mathlib.Core.List.{List}
 use mathlib.Core.Option.{Option, none, some}
 use lib.Dec.{ltb}
@@ -8,7 +8,9 @@ use Rattle.laws.specs.Gather.{both}
 use Rattle.laws.specs.Least.{least}
 use Rattle.laws.specs.Tests.{if_then_else_}
 use Rattle.day.specs.Fields.{stops}
+use Rattle.day.specs.declared.fields.Layout.{Layout}
 use Rattle.checker.specs.Plan.{Task, serve, empty}
+use Rattle.checker.specs.PlanWords.{stopWord, tipWord, backWord}
 use Rattle.checker.specs.declared.walk.Cargo.{Cargo}
 use Rattle.checker.specs.declared.walk.Trip.{Trip}
 use Rattle.planner.specs.Build.{serving, emptying}
@@ -37,3 +39,21 @@ nextBy day t c p =
     if ltb 0 (chosenBy day t c p) then serving (chosenBy day t c p)
     else if ltb 0 (c .load) then emptying (nearestTip day (t .place) (t .minute))
     else waitBy day t c p
+
+-- the number of the task is a stop's or a tip's
+abbrev pub NextWithin : Layout → Next → Type 0
+NextWithin z (Nexts.Stop k) = (0 < k) × (k ≤ z .stops)
+NextWithin z (Nexts.Tip x) = (0 < x) × (x ≤ z .tips)
+NextWithin z Nexts.Home = Unit {0}
+
+-- the word of the task; E where there is none
+abbrev pub nextWord : Next → ℕ
+nextWord (Nexts.Stop k) = stopWord k
+nextWord (Nexts.Tip x) = tipWord x
+nextWord Nexts.Home = backWord
+
+-- no task is left
+abbrev pub goesHome : Next → Bool
+goesHome (Nexts.Stop k) = false
+goesHome (Nexts.Tip x) = false
+goesHome Nexts.Home = true

@@ -1,5 +1,6 @@
 // The greedy build.
 pub mod choice;
 pub mod home;
+pub mod state;
 pub mod tasks;
 pub mod tips;

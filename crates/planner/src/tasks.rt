@@ -7,7 +7,7 @@ ghost use Rattle.day.specs.Layout.{LayoutOf};
 ghost use Rattle.planner.specs.Choice.{nearCapacity, farther, chosenStop};
 ghost use Rattle.planner.specs.Build.{emptying};
 ghost use Rattle.planner.specs.Tips.{nearestTip};
-ghost use Rattle.planner.specs.NextBy.{nextOf, waitBy, nextBy};
+ghost use Rattle.planner.specs.NextBy.{nextOf, waitBy, nextBy, NextWithin};
 ghost use Rattle.planner.specs.States.{SmallTrip, SmallCargo};
 use crate::choice::earliest_stop;
 use crate::choice::nearest_stop;
@@ -57,7 +57,7 @@ fn is_farther(day: &[u32], z: Layout, t: Trip, k: usize, x: usize) -> bool
 // The choice, or none where it is dropped.
 fn chosen_stop(day: &[u32], z: Layout, t: Trip, c: Cargo, k: usize) -> usize
     requires { ⌜ LayoutOf (now day) z × SmallTrip (now day) 2147483648 t × SmallCargo c × (k ≤ z .stops) ⌝ }
-    ensures { λ r. ⌜ r ≡ chosenStop (now (day .entry)) t c k ⌝ }
+    ensures { λ r. ⌜ (r ≡ chosenStop (now (day .entry)) t c k) × (r ≤ z .stops) ⌝ }
 {
     if is_near_capacity(day, z, c) {
         let x = nearest_tip(day, z, t.place, t.minute);
@@ -72,7 +72,7 @@ fn chosen_stop(day: &[u32], z: Layout, t: Trip, c: Cargo, k: usize) -> usize
 // Step 5, without a load.
 fn wait_next(day: &[u32], z: Layout, t: Trip, c: Cargo, left: Marks) -> Next
     requires { ⌜ LayoutOf (now day) z × SmallTrip (now day) 2147483648 t × SmallCargo c ⌝ }
-    ensures { λ r. ⌜ nextOf r ≡ waitBy (now (day .entry)) t c (marked (left .words)) ⌝ }
+    ensures { λ r. ⌜ (nextOf r ≡ waitBy (now (day .entry)) t c (marked (left .words))) × NextWithin z r ⌝ }
 {
     let k = earliest_stop(day, z, t, c, left);
     if k == 0 {
@@ -84,7 +84,7 @@ fn wait_next(day: &[u32], z: Layout, t: Trip, c: Cargo, left: Marks) -> Next
 // Step 4, with a load.
 fn tip_next(day: &[u32], z: Layout, t: Trip) -> Next
     requires { ⌜ LayoutOf (now day) z × SmallTrip (now day) 2147483648 t ⌝ }
-    ensures { λ r. ⌜ nextOf r ≡ emptying (nearestTip (now (day .entry)) (t .place) (t .minute)) ⌝ }
+    ensures { λ r. ⌜ (nextOf r ≡ emptying (nearestTip (now (day .entry)) (t .place) (t .minute))) × NextWithin z r ⌝ }
 {
     let x = nearest_tip(day, z, t.place, t.minute);
     if x == 0 {
@@ -96,7 +96,7 @@ fn tip_next(day: &[u32], z: Layout, t: Trip) -> Next
 // The next task of a vehicle that has rested if that was due.
 pub fn next_task(day: &[u32], z: Layout, t: Trip, c: Cargo, left: Marks) -> Next
     requires { ⌜ LayoutOf (now day) z × SmallTrip (now day) 2147483648 t × SmallCargo c ⌝ }
-    ensures { λ r. ⌜ nextOf r ≡ nextBy (now (day .entry)) t c (marked (left .words)) ⌝ }
+    ensures { λ r. ⌜ (nextOf r ≡ nextBy (now (day .entry)) t c (marked (left .words))) × NextWithin z r ⌝ }
 {
     let near = nearest_stop(day, z, t, c, left);
     let k = chosen_stop(day, z, t, c, near);

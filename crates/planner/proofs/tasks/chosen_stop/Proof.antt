@@ -22,15 +22,15 @@ is-farther-requires c κs = search needs
 
 -- src/tasks.rt:65:13
 returns : tie.Need-returns
-returns c = search dropped
+returns c = (search dropped, search needs)
 
 -- src/tasks.rt:67:9
 returns-2 : tie.Need-returns-2
-returns-2 c = search kept-near
+returns-2 c = (search kept-near, search needs)
 
 -- src/tasks.rt:58:1
 returns-3 : tie.Need-returns-3
-returns-3 c = search kept
+returns-3 c = (search kept, search needs)
 
 pub chosen-stop-spec : {M : Type 1} → statement M
 chosen-stop-spec =

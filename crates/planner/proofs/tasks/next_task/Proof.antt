@@ -19,7 +19,7 @@ chosen-stop-requires c κs = search needs
 
 -- src/tasks.rt:104:9
 returns : tie.Need-returns
-returns c = search next-stop
+returns c = (search next-stop, search needs)
 
 -- src/tasks.rt:107:9
 tip-next-requires : tie.Need-tip-next-requires
@@ -27,7 +27,7 @@ tip-next-requires c κs = search needs
 
 -- src/tasks.rt:107:9
 returns-2 : tie.Need-returns-2
-returns-2 c = search next-tip
+returns-2 c = (search next-tip, search needs)
 
 -- src/tasks.rt:109:5
 wait-next-requires : tie.Need-wait-next-requires
@@ -35,7 +35,7 @@ wait-next-requires c κs = search needs
 
 -- src/tasks.rt:97:1
 returns-3 : tie.Need-returns-3
-returns-3 c = search next-wait
+returns-3 c = (search next-wait, search needs)
 
 pub next-task-spec : {M : Type 1} → statement M
 next-task-spec =

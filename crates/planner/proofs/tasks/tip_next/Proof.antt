@@ -12,11 +12,11 @@ nearest-tip-requires c κs = search needs
 
 -- src/tasks.rt:91:9
 returns : tie.Need-returns
-returns c = search tip-home
+returns c = (search tip-home, search needs)
 
 -- src/tasks.rt:85:1
 returns-2 : tie.Need-returns-2
-returns-2 c = search tip-next
+returns-2 c = (search tip-next, search needs)
 
 pub tip-next-spec : {M : Type 1} → statement M
 tip-next-spec = tie.close (tie.spec nearest-tip-requires returns returns-2)

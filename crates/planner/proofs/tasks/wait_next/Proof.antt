@@ -12,11 +12,11 @@ earliest-stop-requires c κs = search needs
 
 -- src/tasks.rt:79:9
 returns : tie.Need-returns
-returns c = search wait-home
+returns c = (search wait-home, search needs)
 
 -- src/tasks.rt:73:1
 returns-2 : tie.Need-returns-2
-returns-2 c = search wait-stop
+returns-2 c = (search wait-stop, search needs)
 
 pub wait-next-spec : {M : Type 1} → statement M
 wait-next-spec = tie.close (tie.spec earliest-stop-requires returns returns-2)
