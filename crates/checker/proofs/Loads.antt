@@ -32,7 +32,7 @@ pub record Limited (day : List ℕ) (c : Cargo) : Type 0 where
   pub visits : c .visits ≤ stopLimit day
 
 -- a vehicle that is over no limit is within each
-not-over : (day : List ℕ) (c : Cargo) → overLimits day c ≡ false → Limited day c
+pub not-over : (day : List ℕ) (c : Cargo) → overLimits day c ≡ false → Limited day c
 unfolding overLimits
 not-over day c e =
     let each = none-holds (ltb (loadLimit day) (c .load)) (ltb (dayLimit day) (c .kg)) (ltb (stopLimit day) (c .visits)) e in

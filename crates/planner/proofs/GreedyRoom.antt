@@ -17,14 +17,14 @@ use Rattle.checker.specs.Lawful.{restsIn}
 use Rattle.checker.specs.Plan.{Task, serve, empty, lunch, Round, taskWord, roundWords, roundsWords, planWords, stopsOn, stopsOnAll}
 use Rattle.checker.specs.PlanWords.{backWord, leftWord}
 use Rattle.checker.proofs.Timetables.{restsTaken}
-use Rattle.planner.specs.Build.{Truck, fresh, doing, oneVehicle, greedyRounds, greedyLefts, greedyPlan}
+use Rattle.planner.specs.Build.{Truck, fresh, doing, oneVehicle, greedyRounds, greedyLefts, greedyPlan, resting}
 use Rattle.planner.specs.Home.{due}
 use Rattle.planner.proofs.Decided.{bit-most}
-use Rattle.planner.proofs.Driving.{Reached, reached-keeps, vehicle-keeps}
+use Rattle.planner.proofs.Driving.{Reached, reached-keeps, vehicle-keeps, resting-keeps}
 use Rattle.planner.proofs.Fleets.{fleet-every}
 use Rattle.planner.proofs.GreedyForm.{greedy-busy, greedy-named}
 use Rattle.planner.proofs.NextTasks.{IsNext, takes, empties, waits}
-use Rattle.planner.proofs.VehicleStops.{Routes, reached-routes, vehicle-routes}
+use Rattle.planner.proofs.VehicleStops.{Routes, reached-routes, vehicle-routes, rested-routes}
 use Rattle.planner.proofs.WaysHome.{due-true}
 
 -- how many tips a vehicle visits
@@ -97,6 +97,9 @@ module _ (day : List ℕ) where
     pub reached-paid : (v : Truck) → Reached day before v → Paid v
     reached-paid v = reached-keeps day Paid paid-rest paid-next before v (paid-fresh before)
 
+    pub rested-paid : (v : Truck) → Reached day before v → Paid (resting day v)
+    rested-paid v h = resting-keeps day Paid paid-rest v (reached-paid v h)
+
     pub vehicle-paid : Paid (oneVehicle day before)
     vehicle-paid = vehicle-keeps day Paid paid-rest paid-next before (paid-fresh before)
 
@@ -118,6 +121,9 @@ paid-room day before v r p =
 module _ (day before : List ℕ) where
   pub reached-room : (v : Truck) → Reached day before v → Room (v .tasks)
   reached-room v h = paid-room day before v (reached-routes day before v h) (reached-paid day before v h)
+
+  pub rested-room : (v : Truck) → Reached day before v → Room (resting day v .tasks)
+  rested-room v h = paid-room day before (resting day v) (rested-routes day before v h) (rested-paid day before v h)
 
   pub vehicle-room : Room (oneVehicle day before .tasks)
   vehicle-room = paid-room day before (oneVehicle day before) (vehicle-routes day before) (vehicle-paid day before)

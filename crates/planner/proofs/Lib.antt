@@ -10,6 +10,7 @@ pub mod HomeLaws
 pub mod LeftOut
 pub mod NextTasks
 pub mod OnTheRoad
+pub mod SmallTrucks
 pub mod TaskLaws
 pub mod TipLaws
 pub mod VehicleStops

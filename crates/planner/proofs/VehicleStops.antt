@@ -15,9 +15,9 @@ use Rattle.checker.specs.Plan.{Task, serve, empty, lunch, Round, stopsOn, stops
 use Rattle.checker.specs.Vehicles.{wordFor}
 use Rattle.checker.specs.declared.walk.Cargo.{Cargo}
 use Rattle.checker.proofs.PlanChecks.{known-all}
-use Rattle.planner.specs.Build.{Truck, fresh, doing, oneVehicle}
+use Rattle.planner.specs.Build.{Truck, fresh, doing, oneVehicle, resting}
 use Rattle.planner.specs.Home.{due}
-use Rattle.planner.proofs.Driving.{Reached, reached-keeps, vehicle-keeps}
+use Rattle.planner.proofs.Driving.{Reached, reached-keeps, vehicle-keeps, resting-keeps}
 use Rattle.planner.proofs.NextTasks.{IsNext, takes, empties, waits}
 
 -- the stops of two parts of a round
@@ -100,6 +100,9 @@ module _ (day before : List ℕ) where
 
   pub reached-routes : (v : Truck) → Reached day before v → Routes day before v
   reached-routes v = reached-keeps day (Routes day before) rests does before v routes-fresh
+
+  pub rested-routes : (v : Truck) → Reached day before v → Routes day before (resting day v)
+  rested-routes v h = resting-keeps day (Routes day before) rests v (reached-routes v h)
 
   pub vehicle-routes : Routes day before (oneVehicle day before)
   vehicle-routes = vehicle-keeps day (Routes day before) rests does before routes-fresh
