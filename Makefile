@@ -1,10 +1,10 @@
 # make lib     the proved library, target/staticlib/libkazhuvendi.a
 # make test    everything that has to hold before a change is taken in
-# make demo    judges the sample day
+# make demo    judges the sample day and checks a plan of it
 # make bench   times of the library beside plain Rust
 # make fuzz    compares the library with the second implementation for SECONDS seconds;
 #              SEED=... repeats a run
-# make examples  writes the sample days anew
+# make examples  writes the sample day and its plan anew
 # make clean   removes all that was made
 
 SECONDS ?= 60
@@ -27,6 +27,7 @@ test:
 
 demo: lib
 	@$(RUN) -p kazhuvendi --example judge_day -- ../examples/day-m.day
+	@$(RUN) -p kazhuvendi --example check_plan -- ../examples/day-m.day ../examples/day-m.plan
 
 bench: lib
 	@$(RUN) -p bench
@@ -36,6 +37,7 @@ fuzz: lib
 
 examples:
 	@$(RUN) -p reference --example day_m > ../examples/day-m.day
+	@$(RUN) -p reference --example plan_m > ../examples/day-m.plan
 
 clean:
 	rm -rf target host/target

@@ -28,11 +28,27 @@
  *    4   the words are not as many as word 0 asks for;
  *        place: the words given
  *    5   a value is outside its range; place: the index of its word, from 0
+ *    6   the plan has more than 4,096 words; place: 4,096
+ *    7   a word of the plan is none, may not stand there or has a number
+ *        outside; place: its index, from 0. Or the plan ends inside a vehicle;
+ *        place: the plan's length
+ *    8   a stop is met again; place: the index of that word. Or a stop is
+ *        missing at the end; place: the plan's length
+ *    9   a vehicle has too many kg at once, too many kg a day or too many
+ *        stops a day; place: the index of the stop's word
+ *   10   a vehicle comes back with load; place: the index of that word
+ *   11   a visit starts after its closing, or a vehicle comes back after the
+ *        depot's; place: the index of that word
+ *   12   a vehicle's second rest, a rest that starts too late, or a vehicle
+ *        that has not rested and comes back after the rest window; place: the
+ *        index of that word
  *   14   the lent buffer is too short; place: the words needed
+ *   15   the plan has no such vehicle; place: the number asked for
  *
  * Where several apply the first of this order is given: 1; word 0: 2, 3;
- * then 4; each later word in turn: 2, 5. Reading bytes gives 1 and 14 alone,
- * in this order.
+ * then 4; each later word of the day in turn: 2, 5; then 6; each word of the
+ * plan in turn: 7 to 12, rising; the plan's end: 7, 8; then 15. Reading bytes
+ * gives 1 and 14 alone, in this order.
  */
 #ifndef KAZHUVENDI_H
 #define KAZHUVENDI_H
@@ -60,6 +76,35 @@ void kz_read_words(const uint8_t *bytes, size_t n, uint32_t *words, size_t room,
  *   out[2]   the tips, 1 to 15
  */
 void kz_judge(const uint32_t *day, size_t n, uint64_t out[6]);
+
+/*
+ * Judges a day of n words and checks a plan of it of m words.
+ *
+ *   out[1]   the distance, the sum over the legs driven
+ *   out[2]   the vehicles
+ *   out[3]   the stops served
+ */
+void kz_check(const uint32_t *day, size_t n, const uint32_t *plan, size_t m, uint64_t out[6]);
+
+/*
+ * Checks as kz_check, then finds the vehicle of this number, counted from 1:
+ * its words, A to E, are plan[start] to plan[start + length - 1].
+ *
+ *   out[1]   the start
+ *   out[2]   the length
+ */
+void kz_vehicle(const uint32_t *day, size_t n, const uint32_t *plan, size_t m, uint64_t number,
+                uint64_t out[6]);
+
+/*
+ * Checks a plan of m words to its end, then one of l words, and says whether
+ * their vehicles, in order, visit the same stops in order. Tips and rests do
+ * not count. To each place of a refusal of the second plan m is added.
+ *
+ *   out[1]   1 if they do, 0 if not
+ */
+void kz_same_rounds(const uint32_t *day, size_t n, const uint32_t *first, size_t m,
+                    const uint32_t *second, size_t l, uint64_t out[6]);
 
 #ifdef __cplusplus
 }

@@ -6,8 +6,8 @@ use mathlib.Core.Bool.{Bool, true, false, not, _&&_, true≢false, false≢true}
 use mathlib.Core.List.{List, [], _∷_, _++_, map, append-assoc}
 use native.Mathlib.Omega.{arith}
 use lib.ListN.{length, length-append}
-use lib.Dec.{leb, ltb, eqb}
-use borrow.Author.Tests.{leb-true, ltb-true, ltb-false, eqb-true}
+use lib.Dec.{ltb, eqb}
+use borrow.Author.Tests.{ltb-true, ltb-false, eqb-true}
 use Rattle.laws.specs.Answers.{given, refused}
 use Rattle.laws.specs.Lists.{Every, mem, unmet, collect, Fresh, Rising}
 use Rattle.laws.specs.Tests.{if_then_else_}
@@ -19,15 +19,12 @@ use Rattle.checker.specs.Check.{within, wellFormed, metAgain, metAfter, 
 use Rattle.checker.specs.Plan.{Task, serve, empty, lunch, Round, taskWord, roundWords, roundsWords, stopsOn, stopsOnAll, Known}
 use Rattle.checker.specs.PlanWords.{Word, vehicle, stop, tip, rest, back, left, stray, vehicleWord, backWord, leftWord, wordOf}
 use Rattle.checker.specs.Vehicles.{CargoClear, TripClear, Clear, walkTasks, walkRound}
+use Rattle.checker.proofs.Forming.{within-both}
 use Rattle.checker.proofs.Passing.{Passes, answer-passes, given-not-refused}
 use Rattle.checker.proofs.RoundWalks.{after-round}
 use Rattle.checker.proofs.WordForms.{Apart, isVehicle, isStop, isTip, isRest, isBack, isLeft, isStray, apart}
 
--- what is within, and what a test of a vehicle's word needs
-within-range : (most k : ℕ) → within most k ≡ true → (1 ≤ k) × (k ≤ most)
-unfolding within
-within-range most k e = let b = both-true (leb 1 k) (leb k most) e in (leb-true _ _ (b .0), leb-true _ _ (b .1))
-
+-- what a test of a vehicle's word needs
 pub inside-needed : (b t : Bool) → b ≡ false → (b && t) ≡ true → ⊥
 inside-needed b t e q = false≢true (sym e ∙ both-true b t q .0)
 
@@ -63,7 +60,7 @@ module _ (day : List ℕ) (a b c : ℕ) where
         tasks = serve k ∷ r .tasks;
         behind = r .behind;
         text = ap₂ (λ (v : ℕ) (l : List ℕ). v ∷ l) x (r .text);
-        known = (within-range (stops day) k (both-true (s .tally .inside) (within (stops day) k) (p .formed) .1), r .known);
+        known = (within-both (stops day) k (both-true (s .tally .inside) (within (stops day) k) (p .formed) .1), r .known);
         fresh = (p .new, r .fresh);
         cargo = (p .cargo, r .cargo);
         trip = (p .trip, r .trip);
@@ -77,7 +74,7 @@ module _ (day : List ℕ) (a b c : ℕ) where
         tasks = empty k ∷ r .tasks;
         behind = r .behind;
         text = ap₂ (λ (v : ℕ) (l : List ℕ). v ∷ l) x (r .text);
-        known = (within-range (tips day) k (both-true (s .tally .inside) (within (tips day) k) (p .formed) .1), r .known);
+        known = (within-both (tips day) k (both-true (s .tally .inside) (within (tips day) k) (p .formed) .1), r .known);
         fresh = r .fresh;
         cargo = (p .cargo, r .cargo);
         trip = (p .trip, r .trip);
@@ -150,7 +147,7 @@ module _ (day : List ℕ) (a b c : ℕ) where
         lefts = k ∷ r .lefts;
         text = ap₂ (λ (v : ℕ) (l : List ℕ). v ∷ l) x (r .text);
         rising = (ltb-true _ _ (f .1), r .rising);
-        others = (within-range (stops day) k (number .1) .1, r .others);
+        others = (within-both (stops day) k (number .1) .1, r .others);
         fresh = (p .new, r .fresh);
         missing = r .missing;
       }

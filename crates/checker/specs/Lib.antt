@@ -1,3 +1,4 @@
+pub mod Answers
 pub mod Cargo
 pub mod Check
 pub mod DayM
@@ -7,6 +8,7 @@ pub mod Plan
 pub mod PlanWords
 pub mod Rounds
 pub mod SameRounds
+pub mod Steps
 pub mod Trip
 pub mod VehiclePlace
 pub mod Vehicles

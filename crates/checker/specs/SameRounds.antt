@@ -36,12 +36,12 @@ sameWords (x ∷ xs) (y ∷ ys) = if eqb x y then sameWords xs ys else false
 abbrev pub behind : ℕ → List ℕ → List ℕ
 behind by answer = refused (getD answer 0 0) (getD answer 1 0 + by)
 
--- "the first plan is judged before the second": 1 for the same rounds, 0 for others
+-- the answer once the first plan is known to be lawful: 1 for the same rounds, 0 for others
+unfoldable pub secondAnswer : List ℕ → List ℕ → List ℕ → List ℕ
+secondAnswer day first second =
+    if isGiven (checkPlan day second) then given ((if sameWords (counted first) (counted second) then 1 else 0) ∷ [])
+    else behind (length first) (checkPlan day second)
+
+-- "the first plan is judged before the second"
 unfoldable pub sameRounds : List ℕ → List ℕ → List ℕ → List ℕ
-sameRounds day first second =
-    if isGiven (checkPlan day first)
-    then
-    (if isGiven (checkPlan day second)
-    then given ((if sameWords (counted first) (counted second) then 1 else 0) ∷ [])
-    else behind (length first) (checkPlan day second))
-    else checkPlan day first
+sameRounds day first second = if isGiven (checkPlan day first) then secondAnswer day first second else checkPlan day first

@@ -5,7 +5,7 @@ use mathlib.Core.Path.{_≡_}
 use mathlib.Core.List.{List, [], _∷_}
 use Rattle.laws.specs.Answers.{inSix}
 
--- answers of two and of three values
+-- answers of two, three and four values
 pub two-values : (answer out : List ℕ) {a b : ℕ} → a ∷ b ∷ [] ≡ answer → out ≡ a ∷ b ∷ 0 ∷ 0 ∷ 0 ∷ 0 ∷ [] → out ≡ inSix answer
 unfolding inSix
 two-values answer out e o = rw (← e) o
@@ -13,3 +13,7 @@ two-values answer out e o = rw (← e) o
 pub three-values : (answer out : List ℕ) {a b c : ℕ} → a ∷ b ∷ c ∷ [] ≡ answer → out ≡ a ∷ b ∷ c ∷ 0 ∷ 0 ∷ 0 ∷ [] → out ≡ inSix answer
 unfolding inSix
 three-values answer out e o = rw (← e) o
+
+pub four-values : (answer out : List ℕ) {a b c d : ℕ} → a ∷ b ∷ c ∷ d ∷ [] ≡ answer → out ≡ a ∷ b ∷ c ∷ d ∷ 0 ∷ 0 ∷ [] → out ≡ inSix answer
+unfolding inSix
+four-values answer out e o = rw (← e) o

@@ -6,6 +6,9 @@ ghost use lib.ListN.{length};
 ghost use Rattle.laws.specs.Answers.{inSix};
 ghost use Rattle.day.specs.Bytes.{readAnswer, readBuffer};
 ghost use Rattle.day.specs.Day.{judgeDay};
+ghost use Rattle.checker.specs.Check.{checkPlan};
+ghost use Rattle.checker.specs.SameRounds.{sameRounds};
+ghost use Rattle.checker.specs.VehiclePlace.{vehiclePlace};
 
 // All six places of an answer.
 fn write_six(out: &mut [u64; 6], a: u64, b: u64, c: u64, d: u64, e: u64, f: u64)
@@ -38,6 +41,60 @@ pub extern "C" fn kz_judge(day: &[u32], out: &mut [u64; 6])
             write_six(out, 0, stops as u64, tips as u64, 0, 0, 0)
         }
         day::DayAnswer::Refused { number, place } => {
+            write_six(out, number as u64, place as u64, 0, 0, 0, 0)
+        }
+    }
+}
+
+#[no_mangle]
+pub extern "C" fn kz_check(day: &[u32], plan: &[u32], out: &mut [u64; 6])
+    ensures { λ r. ⌜ now (out .exit) ≡ inSix (checkPlan (now (day .entry)) (now (plan .entry))) ⌝ }
+{
+    let answer = checker::check(day, plan);
+    match answer {
+        checker::Answer::Lawful {
+            distance,
+            vehicles,
+            served,
+        } => write_six(
+            out,
+            0,
+            distance as u64,
+            vehicles as u64,
+            served as u64,
+            0,
+            0,
+        ),
+        checker::Answer::Refused { number, place } => {
+            write_six(out, number as u64, place as u64, 0, 0, 0, 0)
+        }
+    }
+}
+
+#[no_mangle]
+pub extern "C" fn kz_vehicle(day: &[u32], plan: &[u32], number: u64, out: &mut [u64; 6])
+    ensures { λ r. ⌜ now (out .exit) ≡ inSix (vehiclePlace (now (day .entry)) (now (plan .entry)) number) ⌝ }
+{
+    let answer = checker::vehicle_place(day, plan, number);
+    match answer {
+        checker::vehicles::PlaceAnswer::Found { start, length } => {
+            write_six(out, 0, start as u64, length as u64, 0, 0, 0)
+        }
+        checker::vehicles::PlaceAnswer::Refused { number, place } => {
+            write_six(out, number as u64, place as u64, 0, 0, 0, 0)
+        }
+    }
+}
+
+#[no_mangle]
+pub extern "C" fn kz_same_rounds(day: &[u32], first: &[u32], second: &[u32], out: &mut [u64; 6])
+    ensures { λ r. ⌜ now (out .exit) ≡ inSix (sameRounds (now (day .entry)) (now (first .entry)) (now (second .entry))) ⌝ }
+{
+    let answer = checker::same_rounds(day, first, second);
+    match answer {
+        checker::RoundsAnswer::Same => write_six(out, 0, 1, 0, 0, 0, 0),
+        checker::RoundsAnswer::Different => write_six(out, 0, 0, 0, 0, 0, 0),
+        checker::RoundsAnswer::Refused { number, place } => {
             write_six(out, number as u64, place as u64, 0, 0, 0, 0)
         }
     }

@@ -1,15 +1,14 @@
 -- Laws of lists of numbers: what stands in a list, and how many of 1..n do not.
 -- Assumes nothing.
 use Prim.Native.Nat.{ℕ, zero, suc, _+_, _≤_, _<_}
-use mathlib.Core.Path.{_≡_, refl, sym, ap, _∙_}
-use mathlib.Core.Bool.{Bool, true, false}
+use mathlib.Core.Path.{_≡_, refl, ap, _∙_}
+use mathlib.Core.Bool.{true, false}
 use mathlib.Core.Logic.{_≢_}
 use mathlib.Core.List.{List, [], _∷_}
 use native.Mathlib.Decide.{ℕ-discrete}
 use native.Mathlib.Omega.{arith}
 use borrow.Author.Tests.{eq-eqb, ne-eqb}
 use Rattle.laws.specs.Lists.{mem, unmet}
-use Rattle.laws.specs.Tests.{if_then_else_}
 
 -- a number put in front stands in the list, and each other stands there as before
 pub mem-same : (k j : ℕ) (xs : List ℕ) → j ≡ k → mem j (k ∷ xs) ≡ true

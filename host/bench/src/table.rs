@@ -33,28 +33,47 @@ impl Table {
         mut plain: impl FnMut() -> A,
     ) {
         assert_eq!(library(), plain(), "{name}");
-        let library_calls = calls_a_turn(&mut library);
-        let plain_calls = calls_a_turn(&mut plain);
-        let mut row = Row { name, words, library: f64::INFINITY, plain: f64::INFINITY };
-        for _ in 0..TURNS {
-            row.library = row.library.min(nanoseconds(library_calls, &mut library));
-            row.plain = row.plain.min(nanoseconds(plain_calls, &mut plain));
+        let [library, plain] = best([&mut timed(library), &mut timed(plain)]);
+        self.rows.push(Row { name, words, library, plain });
+    }
+
+    /// Adds a row of two calls that begin with the same step, whose time is taken off both.
+    pub fn row_less<A: Debug + PartialEq, S>(
+        &mut self,
+        name: &'static str,
+        words: usize,
+        step: impl FnMut() -> S,
+        mut library: impl FnMut() -> A,
+        mut plain: impl FnMut() -> A,
+    ) {
+        assert_eq!(library(), plain(), "{name}");
+        let [step, library, plain] =
+            best([&mut timed(step), &mut timed(library), &mut timed(plain)]);
+        self.rows.push(Row { name, words, library: library - step, plain: plain - step });
+    }
+}
+
+/// The best times of one call, in nanoseconds. The calls take turns.
+fn best<const N: usize>(mut timers: [&mut dyn FnMut(usize) -> f64; N]) -> [f64; N] {
+    let calls = timers.each_mut().map(|timer| (TURN_NANOSECONDS / timer(10)) as usize + 1);
+    let mut best = [f64::INFINITY; N];
+    for _ in 0..TURNS {
+        for ((best, calls), timer) in best.iter_mut().zip(calls).zip(&mut timers) {
+            *best = best.min(timer(calls));
         }
-        self.rows.push(row);
     }
+    best
 }
 
-fn calls_a_turn<A>(call: &mut impl FnMut() -> A) -> usize {
-    (TURN_NANOSECONDS / nanoseconds(10, call)) as usize + 1
-}
-
-/// The time of one call, on the average of so many.
-fn nanoseconds<A>(calls: usize, call: &mut impl FnMut() -> A) -> f64 {
-    let start = Instant::now();
-    for _ in 0..calls {
-        black_box(call());
+/// The time of one call in nanoseconds, on the average of so many.
+fn timed<A>(mut call: impl FnMut() -> A) -> impl FnMut(usize) -> f64 {
+    move |calls| {
+        let start = Instant::now();
+        for _ in 0..calls {
+            black_box(call());
+        }
+        start.elapsed().as_nanos() as f64 / calls as f64
     }
-    start.elapsed().as_nanos() as f64 / calls as f64
 }
 
 impl fmt::Display for Table {

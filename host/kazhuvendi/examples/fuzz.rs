@@ -1,5 +1,5 @@
-//! Compares the library with the second implementation on random files for some seconds. The
-//! seed comes from the clock where none is given, and is printed so that a run can be repeated.
+//! Compares the library with the second implementation on random files and plans for some seconds.
+//! The seed comes from the clock where none is given, and is printed so that a run can be repeated.
 
 use std::error::Error;
 use std::time::{Duration, Instant, SystemTime};
@@ -8,6 +8,10 @@ use reference::random::Random;
 
 #[path = "../tests/compare/mod.rs"]
 mod compare;
+#[path = "../tests/compare/days.rs"]
+mod days;
+#[path = "../tests/compare/plans.rs"]
+mod plans;
 
 fn main() -> Result<(), Box<dyn Error>> {
     let mut settings = std::env::args().skip(1);
@@ -19,10 +23,12 @@ fn main() -> Result<(), Box<dyn Error>> {
     println!("seed {seed}");
     let mut random = Random::new(seed);
     let mut tally = compare::Tally::default();
+    let mut tallies = plans::Tallies::default();
     let end = Instant::now() + Duration::from_secs(seconds);
     while Instant::now() < end {
-        compare::round(&mut random, &mut tally);
+        days::round(&mut random, &mut tally);
+        plans::round(&mut random, &mut tallies);
     }
-    println!("{tally}");
+    println!("days: {tally}\n{tallies}");
     Ok(())
 }

@@ -1,21 +1,29 @@
 //! A proved planner for commercial waste rounds, called from safe Rust.
 //!
-//! A day file is read from bytes into words by [`read_words`] and judged by [`judge`]. Each call
-//! gives its answer or a [`Refusal`], for any input whatever, and a refusal changes no buffer.
-//! Nothing is allocated: the caller lends the buffers.
+//! A day file is read from bytes into words by [`read_words`] and judged by [`judge`]. A plan of a
+//! day is checked by [`check`]; of a lawful plan [`vehicle`] gives one vehicle's part, and
+//! [`same_rounds`] compares two. Each call gives its answer or a [`Refusal`], for any input
+//! whatever, and a refusal changes no buffer. Nothing is allocated: the caller lends the buffers.
 //!
 //! ```
 //! let bytes = std::fs::read("../../examples/day-m.day")?;
-//! let mut words = vec![0; bytes.len() / 4];
-//! let count = kazhuvendi::read_words(&bytes, &mut words)?;
-//! let size = kazhuvendi::judge(&words[..count])?;
+//! let mut day = vec![0; bytes.len() / 4];
+//! let count = kazhuvendi::read_words(&bytes, &mut day)?;
+//! let size = kazhuvendi::judge(&day[..count])?;
 //! assert_eq!((size.stops, size.tips), (2, 1));
+//!
+//! // One vehicle: stop 1, the tip, a rest, stop 2, the tip, back.
+//! let plan = [0xA0000001, 0xB0000001, 0xC0000001, 0xD0000000, 0xB0000002, 0xC0000001, 0xE0000000];
+//! let totals = kazhuvendi::check(&day, &plan)?;
+//! assert_eq!((totals.distance, totals.vehicles, totals.served), (35, 1, 2));
 //! # Ok::<(), Box<dyn std::error::Error>>(())
 //! ```
 
+mod plan;
 mod raw;
 mod refusal;
 
+pub use plan::{check, same_rounds, vehicle, vehicle_place, Totals};
 pub use refusal::Refusal;
 
 /// How large an accepted day is.

@@ -5,6 +5,24 @@
 extern "C" {
     fn kz_read_words(bytes: *const u8, n: usize, words: *mut u32, room: usize, out: *mut [u64; 6]);
     fn kz_judge(day: *const u32, n: usize, out: *mut [u64; 6]);
+    fn kz_check(day: *const u32, n: usize, plan: *const u32, m: usize, out: *mut [u64; 6]);
+    fn kz_vehicle(
+        day: *const u32,
+        n: usize,
+        plan: *const u32,
+        m: usize,
+        number: u64,
+        out: *mut [u64; 6],
+    );
+    fn kz_same_rounds(
+        day: *const u32,
+        n: usize,
+        first: *const u32,
+        m: usize,
+        second: *const u32,
+        l: usize,
+        out: *mut [u64; 6],
+    );
 }
 
 pub fn read_words(bytes: &[u8], words: &mut [u32], out: &mut [u64; 6]) {
@@ -18,8 +36,27 @@ pub fn judge(day: &[u32], out: &mut [u64; 6]) {
     unsafe { kz_judge(day.as_ptr(), day.len(), out) }
 }
 
+pub fn check(day: &[u32], plan: &[u32], out: &mut [u64; 6]) {
+    // SAFETY: as above; `out` alone is written.
+    unsafe { kz_check(day.as_ptr(), day.len(), plan.as_ptr(), plan.len(), out) }
+}
+
+pub fn vehicle(day: &[u32], plan: &[u32], number: u64, out: &mut [u64; 6]) {
+    // SAFETY: as above; `out` alone is written.
+    unsafe { kz_vehicle(day.as_ptr(), day.len(), plan.as_ptr(), plan.len(), number, out) }
+}
+
+pub fn same_rounds(day: &[u32], first: &[u32], second: &[u32], out: &mut [u64; 6]) {
+    let (n, m, l) = (day.len(), first.len(), second.len());
+    // SAFETY: as above; `out` alone is written.
+    unsafe { kz_same_rounds(day.as_ptr(), n, first.as_ptr(), m, second.as_ptr(), l, out) }
+}
+
 #[cfg(test)]
 mod tests {
+    use reference::worked::DAY_M;
+    use reference::worked_plans::{PLAN_M, TWO_VEHICLES};
+
     /// What `out` held before shows wherever a call leaves a number of it unwritten.
     const BEFORE: [u64; 6] = [u64::MAX; 6];
 
@@ -39,7 +76,7 @@ mod tests {
 
     #[test]
     fn judging_writes_all_of_out() {
-        let mut words = reference::samples::day_m().words();
+        let mut words = DAY_M;
         let mut out = BEFORE;
         super::judge(&words, &mut out);
         assert_eq!(out, [0, 2, 1, 0, 0, 0]);
@@ -47,5 +84,44 @@ mod tests {
         let mut out = BEFORE;
         super::judge(&words, &mut out);
         assert_eq!(out, [5, 30, 0, 0, 0, 0]);
+    }
+
+    #[test]
+    fn checking_writes_all_of_out() {
+        let mut out = BEFORE;
+        super::check(&DAY_M, &PLAN_M, &mut out);
+        assert_eq!(out, [0, 35, 1, 2, 0, 0]);
+        let mut out = BEFORE;
+        super::check(&DAY_M, &PLAN_M[..6], &mut out);
+        assert_eq!(out, [7, 6, 0, 0, 0, 0]);
+        let mut out = BEFORE;
+        super::check(&DAY_M[..30], &PLAN_M, &mut out);
+        assert_eq!(out, [4, 30, 0, 0, 0, 0]);
+    }
+
+    #[test]
+    fn finding_a_vehicle_writes_all_of_out() {
+        let mut out = BEFORE;
+        super::vehicle(&DAY_M, &TWO_VEHICLES, 2, &mut out);
+        assert_eq!(out, [0, 4, 4, 0, 0, 0]);
+        let mut out = BEFORE;
+        super::vehicle(&DAY_M, &TWO_VEHICLES, u64::MAX, &mut out);
+        assert_eq!(out, [15, u64::MAX, 0, 0, 0, 0]);
+        let mut out = BEFORE;
+        super::vehicle(&DAY_M, &[], 0, &mut out);
+        assert_eq!(out, [8, 0, 0, 0, 0, 0]);
+    }
+
+    #[test]
+    fn comparing_rounds_writes_all_of_out() {
+        let mut out = BEFORE;
+        super::same_rounds(&DAY_M, &PLAN_M, &PLAN_M, &mut out);
+        assert_eq!(out, [0, 1, 0, 0, 0, 0]);
+        let mut out = BEFORE;
+        super::same_rounds(&DAY_M, &PLAN_M, &TWO_VEHICLES, &mut out);
+        assert_eq!(out, [0, 0, 0, 0, 0, 0]);
+        let mut out = BEFORE;
+        super::same_rounds(&DAY_M, &PLAN_M, &[], &mut out);
+        assert_eq!(out, [8, 7, 0, 0, 0, 0]);
     }
 }

@@ -2,8 +2,11 @@
 //! were worked out by hand.
 
 mod compare;
+#[path = "compare/days.rs"]
+mod days;
 
-use compare::{expected_size, judge_alike, read_alike, round, Tally};
+use compare::Tally;
+use days::{expected_size, judge_alike, read_alike, round};
 use kazhuvendi::{judge, Refusal, Size};
 use reference::random::Random;
 use reference::samples::random_day;
@@ -87,7 +90,7 @@ fn a_day_of_each_size_is_accepted_at_its_own_length_alone() {
         words.push(0x9000_0000);
         judge_alike(&words, &mut tally);
     }
-    assert_eq!(tally.to_string(), "0 days accepted, 0 files read, refusal 4 7230 times");
+    assert_eq!(tally.to_string(), "refusal 4 7230 times");
 }
 
 #[test]
@@ -147,7 +150,7 @@ fn random_and_damaged_files_answer_as_the_reference() {
         }
     }
     println!("{tally}");
-    assert!(tally.accepted >= 100 && tally.read >= 100);
+    assert!(tally.met["days accepted"] >= 100 && tally.met["files read"] >= 100);
     for number in [1, 2, 3, 4, 5, 14] {
         assert!(tally.refused[number] >= 100, "refusal {number}");
     }

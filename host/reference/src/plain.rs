@@ -1,7 +1,11 @@
-//! The judge and byte reading as ordinary Rust: loops that leave at the first fault, no
+//! The judge, byte reading and the check as ordinary Rust: loops that leave at the first fault, no
 //! allocation, no step taken for the sake of a benchmark. The library's times are set beside it.
 
+mod check;
+
 use crate::Refusal;
+
+pub use check::{check, check_accepted};
 
 /// The stops and tips of an accepted day, or the first of refusals 1 to 5.
 pub fn judge(day: &[u32]) -> Result<(usize, usize), Refusal> {

@@ -78,7 +78,7 @@ fn value(random: &mut Random, range: RangeInclusive<u32>) -> u32 {
 }
 
 /// Square legs, each as `leg` says but those from a place to itself.
-fn legs(places: usize, mut leg: impl FnMut() -> Leg) -> Vec<Vec<Leg>> {
+pub(crate) fn legs(places: usize, mut leg: impl FnMut() -> Leg) -> Vec<Vec<Leg>> {
     let mut row = |from: usize| {
         let to = |to| if from == to { Leg::NONE } else { leg() };
         (0..places).map(to).collect()

@@ -19,6 +19,11 @@ const fn lone(kind: u32) -> Form<1> {
     form(kind, [(26, 0)])
 }
 
+/// "The number is in bits 7-0": a word of a plan.
+const fn numbered(kind: u32) -> Form<1> {
+    form(kind, [(7, 0)])
+}
+
 /// Word 0: the tips d, then the stops n.
 pub const SIZE: Form<2> = form(1, [(11, 8), (7, 0)]);
 /// Q, the load in kg.
@@ -37,6 +42,19 @@ pub const MINUTES: Form<1> = lone(7);
 pub const QUANTITY: Form<1> = lone(8);
 /// A leg: its minutes, then its distance.
 pub const LEG: Form<2> = form(9, [(27, 16), (15, 0)]);
+
+/// A in a plan: a vehicle, by its count.
+pub const PLAN_VEHICLE: Form<1> = numbered(0xA);
+/// B in a plan: a stop.
+pub const PLAN_STOP: Form<1> = numbered(0xB);
+/// C in a plan: a tip.
+pub const PLAN_TIP: Form<1> = numbered(0xC);
+/// D in a plan: a rest, whose number is 0.
+pub const PLAN_REST: Form<0> = form(0xD, []);
+/// E in a plan: back at the depot, whose number is 0.
+pub const PLAN_BACK: Form<0> = form(0xE, []);
+/// F in a plan: a stop left out.
+pub const PLAN_LEFT_OUT: Form<1> = numbered(0xF);
 
 impl<const N: usize> Form<N> {
     /// The values of a word, or nothing where its kind is another one or an unnamed bit is not

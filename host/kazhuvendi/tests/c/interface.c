@@ -18,6 +18,16 @@ static uint32_t day_m[31] = {
     0x900A0007, 0x900A0007, 0x900A0007, 0x90000000,
 };
 
+/* One vehicle for both stops, and one for each. */
+static const uint32_t plan_m[7] = {
+    0xA0000001, 0xB0000001, 0xC0000001, 0xD0000000, 0xB0000002, 0xC0000001, 0xE0000000,
+};
+static const uint32_t two_vehicles[8] = {
+    0xA0000001, 0xB0000001, 0xC0000001, 0xE0000000,
+    0xA0000002, 0xB0000002, 0xC0000001, 0xE0000000,
+};
+static const uint32_t zeros[4097];
+
 static const uint8_t bytes[28] = {
     0x78, 0x56, 0x34, 0x12, 0, 0, 0, 0, 0, 0, 0, 0, 0, 0,
     0, 0, 0, 0, 0, 0, 0, 0, 0, 0, 0xFF, 0, 0, 0x80,
@@ -38,6 +48,27 @@ static void judge(const char *name, const uint32_t *day, size_t n)
     print(name, out);
 }
 
+static void check(const char *name, const uint32_t *plan, size_t m)
+{
+    uint64_t out[6] = {99, 99, 99, 99, 99, 99};
+    kz_check(day_m, 31, plan, m, out);
+    print(name, out);
+}
+
+static void vehicle(const char *name, const uint32_t *plan, size_t m, uint64_t number)
+{
+    uint64_t out[6] = {99, 99, 99, 99, 99, 99};
+    kz_vehicle(day_m, 31, plan, m, number, out);
+    print(name, out);
+}
+
+static void same_rounds(const char *name, const uint32_t *second, size_t l)
+{
+    uint64_t out[6] = {99, 99, 99, 99, 99, 99};
+    kz_same_rounds(day_m, 31, plan_m, 7, second, l, out);
+    print(name, out);
+}
+
 static void read_words(const char *name, size_t n, size_t room)
 {
     uint32_t words[9] = {7, 7, 7, 7, 7, 7, 7, 7, 7};
@@ -54,8 +85,25 @@ int main(void)
     judge("cut", day_m, 30);
     judge("short", day_m, 6);
     judge("none", NULL, 0);
+    check("lawful", plan_m, 7);
+    check("vehicles", two_vehicles, 8);
+    check("unfinished", plan_m, 6);
+    check("missing", two_vehicles, 4);
+    check("empty", NULL, 0);
+    check("long", zeros, 4097);
+    vehicle("whole", plan_m, 7, 1);
+    vehicle("second", two_vehicles, 8, 2);
+    vehicle("third", two_vehicles, 8, 3);
+    vehicle("zeroth", two_vehicles, 8, 0);
+    vehicle("wide", two_vehicles, 8, UINT64_C(0x100000001));
+    vehicle("neither", NULL, 0, 1);
+    same_rounds("same", plan_m, 7);
+    same_rounds("other", two_vehicles, 8);
+    same_rounds("longer", zeros, 4097);
+    same_rounds("nothing", NULL, 0);
     day_m[5] = 0x6003C01E;
     judge("window", day_m, 31);
+    check("day", plan_m, 7);
     day_m[4] = 0x40000064;
     judge("kind", day_m, 31);
     day_m[0] = 0x10000002;

@@ -1,38 +1,35 @@
 //! How often each answer was met.
 
+use std::collections::BTreeMap;
 use std::fmt;
 
-use kazhuvendi::{Refusal, Size};
+use kazhuvendi::Refusal;
 
 #[derive(Default)]
 pub struct Tally {
-    pub accepted: u64,
-    pub read: u64,
+    pub met: BTreeMap<&'static str, u64>,
     pub refused: [u64; 16],
 }
 
 impl Tally {
-    pub fn judged(&mut self, answer: Result<Size, Refusal>) {
+    /// Counts an answer under the name that it goes by, or its refusal.
+    pub fn add(&mut self, answer: Result<&'static str, Refusal>) {
         match answer {
-            Ok(_) => self.accepted += 1,
+            Ok(name) => self.note(name),
             Err(refusal) => self.refused[refusal.number as usize] += 1,
         }
     }
 
-    pub fn read(&mut self, answer: Result<usize, Refusal>) {
-        match answer {
-            Ok(_) => self.read += 1,
-            Err(refusal) => self.refused[refusal.number as usize] += 1,
-        }
+    pub fn note(&mut self, name: &'static str) {
+        *self.met.entry(name).or_default() += 1;
     }
 }
 
 impl fmt::Display for Tally {
     fn fmt(&self, f: &mut fmt::Formatter<'_>) -> fmt::Result {
-        write!(f, "{} days accepted, {} files read", self.accepted, self.read)?;
-        for (number, &times) in self.refused.iter().enumerate().filter(|(_, &times)| times > 0) {
-            write!(f, ", refusal {number} {times} times")?;
-        }
-        Ok(())
+        let met = self.met.iter().map(|(name, times)| format!("{times} {name}"));
+        let refused = self.refused.iter().enumerate().filter(|(_, &times)| times > 0);
+        let refused = refused.map(|(number, times)| format!("refusal {number} {times} times"));
+        write!(f, "{}", met.chain(refused).collect::<Vec<_>>().join(", "))
     }
 }

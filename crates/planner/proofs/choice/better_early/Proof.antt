@@ -1,43 +1,30 @@
-use Rattle.planner.proofs.ChoiceLaws.{routed-already, not-better, not-had, is-taken}
+-- `planner::choice::better_early` meets its contract.
 use borrow.Author.Needs.{needs}
+use Rattle.planner.proofs.ChoiceLaws.{routed-already, not-better, not-had, is-taken}
 use Rattle.planner.proofs.choice.better_early.Statement.{statement}
 use Rattle.planner.proofs.choice.better_early.Tie as tie
-use Rattle.planner.proofs.choice.better_early.Reads as reads
-use Rattle.planner.proofs.choice.better_early.Lts as lts
-use Rattle.day.proofs.fields.stop_window.Reads as stop-window-reads
-use Rattle.marks.proofs.is_marked.Reads as is-marked-reads
-use Rattle.planner.proofs.choice.is_earlier.Reads as is-earlier-reads
-use Rattle.planner.proofs.choice.is_waitable.Reads as is-waitable-reads
 
--- src/choice.rt:141:8
 is-marked-requires : tie.Need-is-marked-requires
 is-marked-requires c κs = search needs
 
--- src/choice.rt:142:13
 stop-window-requires : tie.Need-stop-window-requires
 stop-window-requires c κs = search needs
 
--- src/choice.rt:143:12
 is-earlier-requires : tie.Need-is-earlier-requires
 is-earlier-requires c κs = search needs
 
--- src/choice.rt:144:16
 is-waitable-requires : tie.Need-is-waitable-requires
 is-waitable-requires c κs = search needs
 
--- src/choice.rt:145:17
 returns : tie.Need-returns
 returns c = let t = c .before in let n = t .before .before in let w = n .before in let m = w .before .before in is-taken _ _ _ _ _ (m .is-marked .ensures) (w .before .if1 .taken) (w .stop-window .ensures .opens) (n .is-earlier .ensures) (t .before .if2 .taken) (t .is-waitable .ensures) (c .if3 .taken)
 
--- src/choice.rt:147:13
 returns-2 : tie.Need-returns-2
 returns-2 c = search not-had
 
--- src/choice.rt:149:9
 returns-3 : tie.Need-returns-3
 returns-3 c = not-better _ _ _ _ _ (c .before .before .stop-window .ensures .opens) (c .before .is-earlier .ensures) (c .if2 .left)
 
--- src/choice.rt:129:1
 returns-4 : tie.Need-returns-4
 returns-4 c = search routed-already
 

@@ -1,47 +1,33 @@
-use Rattle.planner.proofs.ChoiceLaws.{routed-already, not-better, not-had, is-taken, near-read}
+-- `planner::choice::better_near` meets its contract.
 use borrow.Author.Needs.{needs}
+use Rattle.planner.proofs.ChoiceLaws.{routed-already, not-better, not-had, is-taken, near-read}
 use Rattle.planner.proofs.choice.better_near.Statement.{statement}
 use Rattle.planner.proofs.choice.better_near.Tie as tie
-use Rattle.planner.proofs.choice.better_near.Reads as reads
-use Rattle.planner.proofs.choice.better_near.Lts as lts
-use Rattle.day.proofs.fields.leg_between.Reads as leg-between-reads
-use Rattle.marks.proofs.is_marked.Reads as is-marked-reads
-use Rattle.planner.proofs.choice.is_nearer.Reads as is-nearer-reads
-use Rattle.planner.proofs.choice.is_takeable.Reads as is-takeable-reads
 
--- src/choice.rt:115:8
 is-marked-requires : tie.Need-is-marked-requires
 is-marked-requires c κs = search needs
 
--- src/choice.rt:116:61
 add-leg-between : tie.Need-add-leg-between
 add-leg-between c = search needs
 
--- src/choice.rt:116:13
 leg-between-requires : tie.Need-leg-between-requires
 leg-between-requires c κs = search needs
 
--- src/choice.rt:117:12
 is-nearer-requires : tie.Need-is-nearer-requires
 is-nearer-requires c κs = search needs
 
--- src/choice.rt:118:16
 is-takeable-requires : tie.Need-is-takeable-requires
 is-takeable-requires c κs = search needs
 
--- src/choice.rt:119:17
 returns : tie.Need-returns
 returns c = let t = c .before in let n = t .before .before in let l = n .before in let m = l .before .before .before in is-taken _ _ _ _ _ (m .is-marked .ensures) (l .before .before .if1 .taken) (near-read _ _ (m .before .before .args .t) _ _ (m .before .before .pre .0) (l .leg-between .ensures)) (n .is-nearer .ensures) (t .before .if2 .taken) (t .is-takeable .ensures) (c .if3 .taken)
 
--- src/choice.rt:121:13
 returns-2 : tie.Need-returns-2
 returns-2 c = search not-had
 
--- src/choice.rt:123:9
 returns-3 : tie.Need-returns-3
 returns-3 c = let n = c .before in let l = n .before in not-better _ _ _ _ _ (near-read _ _ (l .before .before .before .before .before .args .t) _ _ (l .before .before .before .before .before .pre .0) (l .leg-between .ensures)) (n .is-nearer .ensures) (c .if2 .left)
 
--- src/choice.rt:103:1
 returns-4 : tie.Need-returns-4
 returns-4 c = search routed-already
 

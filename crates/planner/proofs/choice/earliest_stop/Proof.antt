@@ -1,17 +1,15 @@
-use borrow.Author.Needs.{needs}
-use native.Mathlib.Omega.{arith}
+-- `planner::choice::earliest_stop` meets its contract: the best so far is the least of the first k stops.
 use Prim.Native.Nat.{_≤_, _-_}
+use borrow.Author.Needs.{needs}
 use mathlib.Core.Path.{_≡_}
+use native.Mathlib.Omega.{arith}
 use Rattle.laws.specs.Gather.{both}
 use Rattle.laws.specs.Least.{least}
 use Rattle.laws.specs.Marks.{marked}
-use Rattle.planner.specs.Choice.{waitable, openKey}
 use Rattle.planner.proofs.ChoiceLaws.{pass-none, pass-next, pass-most, pass-all}
+use Rattle.planner.specs.Choice.{waitable, openKey}
 use Rattle.planner.proofs.choice.earliest_stop.Statement.{statement}
 use Rattle.planner.proofs.choice.earliest_stop.Tie as tie
-use Rattle.planner.proofs.choice.earliest_stop.Reads as reads
-use Rattle.planner.proofs.choice.earliest_stop.Lts as lts
-use Rattle.planner.proofs.choice.better_early.Reads as better-early-reads
 
 abbrev Inv-loop : tie.InvT-loop
 Inv-loop day z t c left stops best₀ k₀ best k = (k ≤ stops) × (best ≤ k) × (best ≡ least (both (marked (left .words)) (waitable day t c)) (openKey day) k)
@@ -19,31 +17,24 @@ Inv-loop day z t c left stops best₀ k₀ best k = (k ≤ stops) × (best ≤ k
 abbrev μ-loop : tie.MeasureT-loop
 μ-loop day z t c left stops best₀ k₀ best k = stops - k
 
--- src/choice.rt:177:5
 loop-holds : tie.Need-loop-holds Inv-loop μ-loop
 loop-holds c = (search needs, search needs, pass-none _ _)
 
--- src/choice.rt:178:49
 add-better-early : tie.Need-add-better-early Inv-loop μ-loop
 add-better-early c = search needs
 
--- src/choice.rt:178:9
 better-early-requires : tie.Need-better-early-requires Inv-loop μ-loop
 better-early-requires c κs = search needs
 
--- src/choice.rt:179:9
 add-k : tie.Need-add-k Inv-loop μ-loop
 add-k c = search needs
 
--- src/choice.rt:177:5
 loop-less : tie.Need-loop-less Inv-loop μ-loop
 loop-less c = search needs
 
--- src/choice.rt:177:5
 loop-again : tie.Need-loop-again Inv-loop μ-loop
 loop-again c = let e = pass-next _ _ _ _ (c .before .before .loop .inv .2) (c .better-early .ensures) in (search needs, pass-most _ _ _ _ e, e)
 
--- src/choice.rt:170:1
 returns : tie.Need-returns Inv-loop μ-loop
 returns c =
     let l = c .before .loop in

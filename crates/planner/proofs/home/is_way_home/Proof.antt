@@ -1,36 +1,25 @@
+-- `planner::home::is_way_home` meets its contract.
+use borrow.Author.Needs.{needs}
 use native.Mathlib.Omega.{arith}
 use Rattle.planner.proofs.HomeLaws.{empty-home, loaded-home, rest-small}
-use borrow.Author.Needs.{needs}
 use Rattle.planner.proofs.home.is_way_home.Statement.{statement}
 use Rattle.planner.proofs.home.is_way_home.Tie as tie
-use Rattle.planner.proofs.home.is_way_home.Reads as reads
-use Rattle.planner.proofs.home.is_way_home.Lts as lts
-use Rattle.planner.proofs.home.is_home_by_tip.Reads as is-home-by-tip-reads
-use Rattle.planner.proofs.home.is_home_direct.Reads as is-home-direct-reads
-use Rattle.planner.proofs.home.rest_if_due.Reads as rest-if-due-reads
-use Rattle.planner.proofs.tips.nearest_tip.Reads as nearest-tip-reads
 
--- src/home.rt:92:9
 rest-if-due-requires : tie.Need-rest-if-due-requires
 rest-if-due-requires c κs = search needs
 
--- src/home.rt:94:9
 is-home-direct-requires : tie.Need-is-home-direct-requires
 is-home-direct-requires c κs = let s = rest-small _ _ _ _ (c .before .before .before .pre .1) (c .before .rest-if-due .ensures) in (search needs, omega (arith, s .place), omega (arith, s .minute))
 
--- src/home.rt:94:9
 returns : tie.Need-returns
 returns c = search empty-home
 
--- src/home.rt:96:9
 nearest-tip-requires : tie.Need-nearest-tip-requires
 nearest-tip-requires c κs = let s = rest-small _ _ _ _ (c .before .before .before .pre .1) (c .before .rest-if-due .ensures) in (search needs, omega (arith, s .place), omega (arith, s .minute))
 
--- src/home.rt:97:5
 is-home-by-tip-requires : tie.Need-is-home-by-tip-requires
 is-home-by-tip-requires c κs = (search needs, rest-small _ _ _ _ (c .before .before .before .before .pre .1) (c .before .before .rest-if-due .ensures), search needs)
 
--- src/home.rt:88:1
 returns-2 : tie.Need-returns-2
 returns-2 c = search loaded-home
 

@@ -1,41 +1,30 @@
-use mathlib.Core.Path.{refl}
+-- `planner::state::do_task` meets its contract.
 use borrow.Author.Needs.{needs}
+use mathlib.Core.Path.{refl}
 use Rattle.planner.proofs.state.do_task.Statement.{statement}
 use Rattle.planner.proofs.state.do_task.Tie as tie
-use Rattle.planner.proofs.state.do_task.Reads as reads
-use Rattle.planner.proofs.state.do_task.Lts as lts
-use Rattle.planner.proofs.state.empty_load.Reads as empty-load-reads
-use Rattle.planner.proofs.state.serve_stop.Reads as serve-stop-reads
 
--- src/state.rt:77:20
 enum-known-next : tie.Need-enum-known-next
 enum-known-next c = search needs
 
--- src/state.rt:77:26
 serve-stop-requires : tie.Need-serve-stop-requires
 serve-stop-requires c κs = let p = c .before .before .before .before .pre in let e = c .before .next .given .1 in let w = rw e at (p .3) in (p .0, p .1, p .2, w .0, w .1, rw e at (p .4))
 
--- src/state.rt:78:19
 enum-known-next-2 : tie.Need-enum-known-next-2
 enum-known-next-2 c = search needs
 
--- src/state.rt:78:25
 empty-load-requires : tie.Need-empty-load-requires
 empty-load-requires c κs = let p = c .before .before .before .before .pre in let e = c .before .next2 .given .1 in let w = rw e at (p .3) in (p .0, p .1, w .0, w .1)
 
--- src/state.rt:79:23
 enum-told : tie.Need-enum-told
 enum-told c = search needs
 
--- src/state.rt:72:1
 returns : tie.Need-returns
 returns c = rw (c .before .before .next .given .1) (c .serve-stop .ensures)
 
--- src/state.rt:72:1
 returns-2 : tie.Need-returns-2
 returns-2 c = rw (c .before .before .next2 .given .1) (c .empty-load .ensures)
 
--- src/state.rt:72:1
 returns-3 : tie.Need-returns-3
 returns-3 c = rw (c .enum-told .given .1) refl
 

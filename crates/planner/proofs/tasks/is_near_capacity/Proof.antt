@@ -1,62 +1,45 @@
-use Rattle.planner.proofs.TaskLaws.{no-load, near-load, near-kg, near-stops}
+-- `planner::tasks::is_near_capacity` meets its contract.
 use borrow.Author.Needs.{needs}
+use Rattle.planner.proofs.TaskLaws.{no-load, near-load, near-kg, near-stops}
 use Rattle.planner.proofs.tasks.is_near_capacity.Statement.{statement}
 use Rattle.planner.proofs.tasks.is_near_capacity.Tie as tie
-use Rattle.planner.proofs.tasks.is_near_capacity.Reads as reads
-use Rattle.planner.proofs.tasks.is_near_capacity.Lts as lts
-use Rattle.day.proofs.fields.day_limit.Reads as day-limit-reads
-use Rattle.day.proofs.fields.load_limit.Reads as load-limit-reads
-use Rattle.day.proofs.fields.stop_limit.Reads as stop-limit-reads
 
--- src/tasks.rt:33:9
 returns : tie.Need-returns
 returns c = search no-load
 
--- src/tasks.rt:35:12
 load-limit-requires : tie.Need-load-limit-requires
 load-limit-requires c κs = search needs
 
--- src/tasks.rt:35:8
 mul-if2 : tie.Need-mul-if2
 mul-if2 c = search needs
 
--- src/tasks.rt:35:46
 mul-if2-2 : tie.Need-mul-if2-2
 mul-if2-2 c = search needs
 
--- src/tasks.rt:36:9
 returns-2 : tie.Need-returns-2
 returns-2 c = search near-load
 
--- src/tasks.rt:38:12
 day-limit-requires : tie.Need-day-limit-requires
 day-limit-requires c κs = search needs
 
--- src/tasks.rt:38:8
 mul-if3 : tie.Need-mul-if3
 mul-if3 c = search needs
 
--- src/tasks.rt:38:45
 mul-if3-2 : tie.Need-mul-if3-2
 mul-if3-2 c = search needs
 
--- src/tasks.rt:39:9
 returns-3 : tie.Need-returns-3
 returns-3 c = search near-kg
 
--- src/tasks.rt:41:9
 stop-limit-requires : tie.Need-stop-limit-requires
 stop-limit-requires c κs = search needs
 
--- src/tasks.rt:41:5
 mul-result : tie.Need-mul-result
 mul-result c = search needs
 
--- src/tasks.rt:41:43
 mul-result-2 : tie.Need-mul-result-2
 mul-result-2 c = search needs
 
--- src/tasks.rt:28:1
 returns-4 : tie.Need-returns-4
 returns-4 c = search near-stops
 

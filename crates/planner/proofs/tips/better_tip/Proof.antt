@@ -1,45 +1,33 @@
-use Rattle.planner.proofs.TipLaws.{tip-early, tip-late, tip-first, tip-nearer, tip-farther}
+-- `planner::tips::better_tip` meets its contract.
 use borrow.Author.Needs.{needs}
+use Rattle.planner.proofs.TipLaws.{tip-early, tip-late, tip-first, tip-nearer, tip-farther}
 use Rattle.planner.proofs.tips.better_tip.Statement.{statement}
 use Rattle.planner.proofs.tips.better_tip.Tie as tie
-use Rattle.planner.proofs.tips.better_tip.Reads as reads
-use Rattle.planner.proofs.tips.better_tip.Lts as lts
-use Rattle.day.proofs.fields.leg_between.Reads as leg-between-reads
-use Rattle.day.proofs.fields.tip_window.Reads as tip-window-reads
 
--- src/tips.rt:16:9
 tip-window-requires : tie.Need-tip-window-requires
 tip-window-requires c κs = search needs
 
--- src/tips.rt:17:9
 leg-between-requires : tie.Need-leg-between-requires
 leg-between-requires c κs = search needs
 
--- src/tips.rt:18:14
 add-at : tie.Need-add-at
 add-at c = search needs
 
--- src/tips.rt:20:9
 returns : tie.Need-returns
 returns c = search tip-early
 
--- src/tips.rt:23:9
 returns-2 : tie.Need-returns-2
 returns-2 c = search tip-late
 
--- src/tips.rt:26:9
 returns-3 : tie.Need-returns-3
 returns-3 c = search tip-first
 
--- src/tips.rt:28:9
 leg-between-requires-2 : tie.Need-leg-between-requires-2
 leg-between-requires-2 c κs = search needs
 
--- src/tips.rt:30:9
 returns-4 : tie.Need-returns-4
 returns-4 c = search tip-nearer
 
--- src/tips.rt:12:1
 returns-5 : tie.Need-returns-5
 returns-5 c =
     let far = c .before .before .before in

@@ -1,16 +1,14 @@
-use borrow.Author.Needs.{needs}
+-- `planner::tips::nearest_tip` meets its contract: the best so far is the least of the first k tips.
 use Prim.Native.Nat.{_≤_, _-_}
-use native.Mathlib.Omega.{arith}
+use borrow.Author.Needs.{needs}
 use mathlib.Core.Path.{_≡_}
-use Rattle.laws.specs.Least.{least}
+use native.Mathlib.Omega.{arith}
 use Rattle.day.specs.Fields.{legMinutes}
-use Rattle.planner.specs.Tips.{openTip}
+use Rattle.laws.specs.Least.{least}
 use Rattle.planner.proofs.TipLaws.{tips-none, tips-next, tips-few, tips-all}
+use Rattle.planner.specs.Tips.{openTip}
 use Rattle.planner.proofs.tips.nearest_tip.Statement.{statement}
 use Rattle.planner.proofs.tips.nearest_tip.Tie as tie
-use Rattle.planner.proofs.tips.nearest_tip.Reads as reads
-use Rattle.planner.proofs.tips.nearest_tip.Lts as lts
-use Rattle.planner.proofs.tips.better_tip.Reads as better-tip-reads
 
 abbrev Inv-loop : tie.InvT-loop
 Inv-loop day z place minute tips best₀ k₀ best k = (k ≤ tips) × (best ≤ k) × (best ≡ least (openTip day place minute) (legMinutes day place) k)
@@ -18,31 +16,24 @@ Inv-loop day z place minute tips best₀ k₀ best k = (k ≤ tips) × (best ≤
 abbrev μ-loop : tie.MeasureT-loop
 μ-loop day z place minute tips best₀ k₀ best k = tips - k
 
--- src/tips.rt:43:5
 loop-holds : tie.Need-loop-holds Inv-loop μ-loop
 loop-holds c = (search needs, search needs, tips-none _ _ _)
 
--- src/tips.rt:44:50
 add-better-tip : tie.Need-add-better-tip Inv-loop μ-loop
 add-better-tip c = search needs
 
--- src/tips.rt:44:9
 better-tip-requires : tie.Need-better-tip-requires Inv-loop μ-loop
 better-tip-requires c κs = search needs
 
--- src/tips.rt:45:9
 add-k : tie.Need-add-k Inv-loop μ-loop
 add-k c = search needs
 
--- src/tips.rt:43:5
 loop-less : tie.Need-loop-less Inv-loop μ-loop
 loop-less c = search needs
 
--- src/tips.rt:43:5
 loop-again : tie.Need-loop-again Inv-loop μ-loop
 loop-again c = let e = tips-next _ _ _ _ _ (c .before .before .loop .inv .2) (c .better-tip .ensures) in (search needs, tips-few _ _ _ _ _ e, e)
 
--- src/tips.rt:36:1
 returns : tie.Need-returns Inv-loop μ-loop
 returns c = (search tips-all, search needs)
 

@@ -1,10 +1,11 @@
-//! A buffer to lend, with canaries on both sides.
+//! A buffer to lend to the library, with canaries on both sides.
 
 use std::fmt::Debug;
 use std::ops::Range;
 
 const CANARIES: usize = 16;
 
+/// Items that can be lent, and what stands around them.
 pub struct Lent<T> {
     store: Vec<T>,
     lent: Range<usize>,
@@ -21,15 +22,21 @@ impl<T: Copy + Debug + PartialEq + From<u8>> Lent<T> {
         Lent { store, lent }
     }
 
+    /// The items.
     pub fn items(&self) -> &[T] {
         &self.store[self.lent.clone()]
     }
 
+    /// The items, to be written.
     pub fn items_mut(&mut self) -> &mut [T] {
         &mut self.store[self.lent.clone()]
     }
 
     /// The buffer holds these items, and each canary is as it was.
+    ///
+    /// # Panics
+    ///
+    /// Where that is not so.
     pub fn assert_holds(&self, items: &[T]) {
         let (start, end) = (self.lent.start, self.lent.end);
         assert!(self.items() == items, "a lent buffer was changed where it should not be");

@@ -1,0 +1,43 @@
+-- `checker::second_answer` meets its contract: one law for each case of the check's answer.
+use borrow.Author.Needs.{needs}
+use native.Mathlib.Omega.{arith}
+use Rattle.checker.proofs.PlanCalls.{rounds-same, rounds-differ, second-refused, place-small}
+use Rattle.checker.proofs.second_answer.Statement.{statement}
+use Rattle.checker.proofs.second_answer.Tie as tie
+
+check-requires : tie.Need-check-requires
+check-requires c κs = search needs
+
+enum-told : tie.Need-enum-told
+enum-told c = search needs
+
+are-same-requires : tie.Need-are-same-requires
+are-same-requires c κs = search needs
+
+returns : tie.Need-returns
+returns c = let told = c .before .before in rounds-same _ _ _ (rw (told .enum-told .given .1) at (told .before .before .check .ensures)) (c .before .are-same .ensures) (c .if1 .taken)
+
+enum-known-answer : tie.Need-enum-known-answer
+enum-known-answer c = search needs
+
+add-t10 : tie.Need-add-t10
+add-t10 c = omega (arith, place-small _ _ (rw (c .before .answer .given .1) at (c .before .before .before .check .ensures)))
+
+returns-2 : tie.Need-returns-2
+returns-2 c = let told = c .before .before in rounds-differ _ _ _ (rw (told .enum-told .given .1) at (told .before .before .check .ensures)) (c .before .are-same .ensures) (c .if1 .left)
+
+returns-3 : tie.Need-returns-3
+returns-3 c = second-refused _ _ _ (rw (c .before .answer .given .1) at (c .before .before .before .check .ensures))
+
+pub second-answer-spec : {M : Type 1} → statement M
+second-answer-spec =
+    tie.close
+    (tie.spec
+    check-requires
+    enum-told
+    are-same-requires
+    returns
+    enum-known-answer
+    add-t10
+    returns-2
+    returns-3)

@@ -1,0 +1,83 @@
+// The walk over all words of a plan.
+ghost use mathlib.Core.Path.{_≡_};
+ghost use mathlib.Core.List.{[]};
+ghost use Prim.Native.Nat.{_≤_};
+ghost use lib.ListN.{length};
+ghost use Rattle.day.specs.Layout.{LayoutOf};
+ghost use Rattle.checker.specs.Answers.{answerValues};
+ghost use Rattle.checker.specs.Check.{start, checkFrom};
+ghost use Rattle.checker.specs.Steps.{noneMet, TallyWithin, walkOf, endOf};
+use crate::Answer;
+use crate::cargo::nothing;
+use crate::steps::State;
+use crate::tally::none_told;
+use crate::trip::leave;
+use crate::walk::Tally;
+use crate::words::word_step;
+
+// Before the first word.
+fn first_state(day: &[u32], z: day::fields::Layout) -> State
+    requires { ⌜ LayoutOf (now day) z ⌝ }
+    ensures { λ r. ⌜ walkOf r [] ≡ start (now (day .entry)) ⌝ }
+{
+    State {
+        tally: none_told(),
+        cargo: nothing(),
+        trip: leave(day, z),
+    }
+}
+
+// No stop is met.
+fn no_stops() -> [u8; 256]
+    ensures { λ r. ⌜ r ≡ noneMet ⌝ }
+{
+    [0u8; 256]
+}
+
+// The answer at the plan's end: every stop is met where as many are served or left out as there are.
+fn finish(y: Tally, stops: usize, end: usize) -> Answer
+    requires { ⌜ TallyWithin 4096 y ⌝ }
+    ensures { λ r. ⌜ answerValues r ≡ endOf stops end y ⌝ }
+{
+    if y.inside {
+        return Answer::Refused {
+            number: 7,
+            place: end,
+        };
+    }
+    if ((y.served + y.left) as usize) < stops {
+        return Answer::Refused {
+            number: 8,
+            place: end,
+        };
+    }
+    Answer::Lawful {
+        distance: y.distance,
+        vehicles: y.vehicles,
+        served: y.served,
+    }
+}
+
+// The answer on a plan of at most 4,096 words. A word that names no stop marks number 0, which no stop has.
+pub fn check_words(day: &[u32], z: day::fields::Layout, plan: &[u32]) -> Answer
+    requires { ⌜ LayoutOf (now day) z × (length (now plan) ≤ 4096) ⌝ }
+    ensures { λ r. ⌜ answerValues r ≡ checkFrom (now (day .entry)) (now (plan .entry)) 0 (start (now (day .entry))) ⌝ }
+{
+    let mut s = first_state(day, z);
+    let mut met = no_stops();
+    let mut i: usize = 0;
+    while i < plan.len() {
+        let step = word_step(day, z, s, &met, plan[i]);
+        if step.fault != 0 {
+            return Answer::Refused {
+                number: step.fault,
+                place: i,
+            };
+        }
+        let at = step.stop;
+        met[at] = 1;
+        s = step.state;
+        i += 1;
+    }
+    finish(s.tally, z.stops, i)
+}

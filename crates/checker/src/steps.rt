@@ -1,0 +1,162 @@
+// What a word does to the walk, one function for each kind, where the word has the form and names no stop that was met before.
+ghost use mathlib.Core.Path.{_≡_};
+ghost use mathlib.Core.Bool.{true};
+ghost use Prim.Native.Nat.{_<_, _≤_};
+ghost use Rattle.day.specs.Layout.{LayoutOf};
+ghost use Rattle.checker.specs.PlanWords.{vehicle, stop, tip, rest, back, left};
+ghost use Rattle.checker.specs.Steps.{formedFault, StepOf, Within};
+use crate::cargo::is_over;
+use crate::cargo::load_on;
+use crate::cargo::nothing;
+use crate::cargo::same_cargo;
+use crate::cargo::tip_out;
+use crate::tally::none_told;
+use crate::tally::one_back;
+use crate::tally::one_left;
+use crate::tally::one_out;
+use crate::tally::one_served;
+use crate::tally::same_tally;
+use crate::trip::back;
+use crate::trip::leave;
+use crate::trip::nowhere;
+use crate::trip::rest;
+use crate::trip::same_trip;
+use crate::trip::visit_stop;
+use crate::trip::visit_tip;
+use crate::walk::Cargo;
+use crate::walk::Tally;
+use crate::walk::Trip;
+
+// The walk between two words, but for the stops met.
+pub struct State {
+    pub tally: Tally,
+    pub cargo: Cargo,
+    pub trip: Trip,
+}
+
+// The state after a word and the stop that the word names, 0 for none; or the word's fault, which is not 0, and then the rest means
+// nothing.
+pub struct Step {
+    pub fault: u32,
+    pub stop: usize,
+    pub state: State,
+}
+
+pub fn at_fault(number: u32) -> Step
+    ensures { λ r. ⌜ r .fault ≡ number ⌝ }
+{
+    Step {
+        fault: number,
+        stop: 0,
+        state: State {
+            tally: none_told(),
+            cargo: nothing(),
+            trip: nowhere(),
+        },
+    }
+}
+
+// B, a stop is served.
+pub fn serve(day: &[u32], z: day::fields::Layout, s: State, k: usize) -> Step
+    requires { ⌜ LayoutOf (now day) z × Within (now day) 4096 s × (0 < k) × (k ≤ z .stops) ⌝ }
+    ensures { λ r. ⌜ StepOf (formedFault (now (day .entry)) s (stop k)) (now (day .entry)) s (stop k) r ⌝ }
+{
+    let cargo = load_on(s.cargo, day::fields::stop_quantity(day, z, k));
+    if is_over(day, z, cargo) {
+        return at_fault(9);
+    }
+    let drive = visit_stop(day, z, s.trip, k);
+    let tally = one_served(s.tally);
+    let trip = drive.trip;
+    Step {
+        fault: drive.fault,
+        stop: k,
+        state: State { tally, cargo, trip },
+    }
+}
+
+// C, the load is tipped.
+pub fn empty_out(day: &[u32], z: day::fields::Layout, s: State, k: usize) -> Step
+    requires { ⌜ LayoutOf (now day) z × Within (now day) 4096 s × (0 < k) × (k ≤ z .tips) ⌝ }
+    ensures { λ r. ⌜ StepOf (formedFault (now (day .entry)) s (tip k)) (now (day .entry)) s (tip k) r ⌝ }
+{
+    let drive = visit_tip(day, z, s.trip, k);
+    let tally = same_tally(s.tally);
+    let cargo = tip_out(s.cargo);
+    let trip = drive.trip;
+    Step {
+        fault: drive.fault,
+        stop: 0,
+        state: State { tally, cargo, trip },
+    }
+}
+
+// D, the vehicle rests.
+pub fn take_rest(day: &[u32], z: day::fields::Layout, s: State) -> Step
+    requires { ⌜ LayoutOf (now day) z × Within (now day) 4096 s ⌝ }
+    ensures { λ r. ⌜ StepOf (formedFault (now (day .entry)) s rest) (now (day .entry)) s rest r ⌝ }
+{
+    let drive = rest(day, z, s.trip);
+    let tally = same_tally(s.tally);
+    let cargo = same_cargo(s.cargo);
+    let trip = drive.trip;
+    Step {
+        fault: drive.fault,
+        stop: 0,
+        state: State { tally, cargo, trip },
+    }
+}
+
+// E, the vehicle is back.
+pub fn come_back(day: &[u32], z: day::fields::Layout, s: State) -> Step
+    requires { ⌜ LayoutOf (now day) z × Within (now day) 4096 s × (s .tally .inside ≡ true) ⌝ }
+    ensures { λ r. ⌜ StepOf (formedFault (now (day .entry)) s back) (now (day .entry)) s back r ⌝ }
+{
+    if 0 < s.cargo.load {
+        return at_fault(10);
+    }
+    let drive = back(day, z, s.trip);
+    if drive.fault != 0 {
+        return at_fault(drive.fault);
+    }
+    let trip = drive.trip;
+    let cargo = same_cargo(s.cargo);
+    let tally = one_back(s.tally, trip.distance);
+    Step {
+        fault: 0,
+        stop: 0,
+        state: State { tally, cargo, trip },
+    }
+}
+
+// A, a vehicle leaves.
+pub fn set_out(day: &[u32], z: day::fields::Layout, s: State, k: u32) -> Step
+    requires { ⌜ LayoutOf (now day) z × Within (now day) 4096 s ⌝ }
+    ensures { λ r. ⌜ StepOf (formedFault (now (day .entry)) s (vehicle k)) (now (day .entry)) s (vehicle k) r ⌝ }
+{
+    Step {
+        fault: 0,
+        stop: 0,
+        state: State {
+            tally: one_out(s.tally),
+            cargo: nothing(),
+            trip: leave(day, z),
+        },
+    }
+}
+
+// F, a stop is left out.
+pub fn leave_out(day: &[u32], s: State, k: u32) -> Step
+    requires { ⌜ Within (now day) 4096 s ⌝ }
+    ensures { λ r. ⌜ StepOf (formedFault (now (day .entry)) s (left k)) (now (day .entry)) s (left k) r ⌝ }
+{
+    Step {
+        fault: 0,
+        stop: k as usize,
+        state: State {
+            tally: one_left(s.tally, k),
+            cargo: same_cargo(s.cargo),
+            trip: same_trip(s.trip),
+        },
+    }
+}
