@@ -19,6 +19,7 @@ use Rattle.checker.specs.Cargo.{cargoAfter}
 use Rattle.checker.specs.Check.{metAfter}
 use Rattle.checker.specs.Plan.{Task, lunch}
 use Rattle.planner.specs.Build.{Truck, fresh, doing, resting, nextTask, drive, oneVehicle}
+use Rattle.planner.specs.Reached.{Reached, setOut, goesOn}
 use Rattle.planner.specs.Home.{due, restIfDue}
 use Rattle.planner.proofs.Decided.{known, known-option, bit-most}
 use Rattle.planner.proofs.NextTasks.{IsNext, takes, empties, waits, next-some}
@@ -103,12 +104,6 @@ drive-ended day (suc most) v h = elim (known-option (nextTask day (resting day v
   | inr s ↦ subst (Ended day) (sym (drive-some day most v (s .0) (s .1)))
       (drive-ended day most (doing day (resting day v) (s .0)) (omega (arith, step-toDo day v (s .0) (s .1))))
 ]
-
--- the vehicles that the build reaches before a rest and a task: a fresh one, and one that has done its next task
-pub data Reached (day before : List ℕ) : Truck → Type 0 where
-  setOut : Reached day before (fresh day before)
-  goesOn : (v : Truck) (task : Task) → Reached day before v → nextTask day (resting day v) ≡ some task
-      → Reached day before (doing day (resting day v) task)
 
 -- what a rest that is due keeps
 pub resting-keeps : (day : List ℕ) (P : Truck → Type 0) → ((v : Truck) → due day (v .trip) ≡ true → P v → P (doing day v lunch))

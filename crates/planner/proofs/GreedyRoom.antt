@@ -20,7 +20,8 @@ use Rattle.checker.proofs.Timetables.{restsTaken}
 use Rattle.planner.specs.Build.{Truck, fresh, doing, oneVehicle, greedyRounds, greedyLefts, greedyPlan, resting}
 use Rattle.planner.specs.Home.{due}
 use Rattle.planner.proofs.Decided.{bit-most}
-use Rattle.planner.proofs.Driving.{Reached, reached-keeps, vehicle-keeps, resting-keeps}
+use Rattle.planner.specs.Reached.{Reached}
+use Rattle.planner.proofs.Driving.{reached-keeps, vehicle-keeps, resting-keeps}
 use Rattle.planner.proofs.Fleets.{fleet-every}
 use Rattle.planner.proofs.GreedyForm.{greedy-busy, greedy-named}
 use Rattle.planner.proofs.NextTasks.{IsNext, takes, empties, waits}

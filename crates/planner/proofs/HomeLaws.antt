@@ -20,27 +20,39 @@ use Rattle.planner.specs.Home.{due, restIfDue, homeDirect, homeByTip, ho
 use Rattle.planner.specs.States.{SmallTrip}
 use Rattle.planner.specs.Tips.{nearestTip}
 
--- rest if due: done already, too early, too late, taken
+-- whether a rest is due: done already, too early, and else by R2
 module _ (day : List ℕ) (t : Trip) where
-  pub rest-done : t .rested ≡ true → t ≡ restIfDue day t
-  unfolding restIfDue due
-  rest-done e = rw e
+  pub due-done : t .rested ≡ true → false ≡ due day t
+  unfolding due
+  due-done e = rw e
 
   module _ (w : Window) (h : (w .opening ≡ restOpening day) × (w .closing ≡ restClosing day)) where
-    pub rest-early : t .rested ≡ false → t .minute < w .opening → t ≡ restIfDue day t
-    unfolding restIfDue due
-    rest-early e l = rw (e, lt-leb _ _ (rw (h .0) at l))
+    pub due-early : t .rested ≡ false → t .minute < w .opening → false ≡ due day t
+    unfolding due
+    due-early e l = rw (e, lt-leb _ _ (rw (h .0) at l))
 
-    pub rest-late : t .rested ≡ false → w .opening ≤ t .minute → w .closing < t .minute → t ≡ restIfDue day t
-    unfolding restIfDue due
-    rest-late e g l = rw (e, le-leb _ _ (rw (h .0) at g), lt-leb _ _ (rw (h .1) at l))
+    pub due-by : t .rested ≡ false → w .opening ≤ t .minute → leb (t .minute) (w .closing) ≡ due day t
+    unfolding due
+    due-by e g = rw (e, le-leb _ _ (rw (h .0) at g), h .1)
 
-    pub rest-taken : {m : ℕ} → t .rested ≡ false → w .opening ≤ t .minute → t .minute ≤ w .closing → m ≡ restMinutes day
-        → record { minute = t .minute + m; place = t .place; rested = true; distance = t .distance } ≡ restIfDue day t
-    unfolding restIfDue due
-    rest-taken e g l em =
-        let start : max (t .minute) (restOpening day) ≡ t .minute = omega (arith, h .0) in
-        rw (e, le-leb _ _ (rw (h .0) at g), le-leb _ _ (rw (h .1) at l), em, start)
+  -- a rest that is due begins at once
+  due-opened : due day t ≡ true → restOpening day ≤ t .minute
+  unfolding due
+  due-opened e =
+      let both = both-true (not (t .rested)) (leb (restOpening day) (t .minute) && leb (t .minute) (restClosing day)) e in
+      leb-true _ _ (both-true (leb (restOpening day) (t .minute)) (leb (t .minute) (restClosing day)) (both .1) .0)
+
+  pub rest-taken : {b : Bool} {m : ℕ} → b ≡ due day t → b ≡ true → m ≡ restMinutes day
+      → record { minute = t .minute + m; place = t .place; rested = true; distance = t .distance } ≡ restIfDue day t
+  unfolding restIfDue
+  rest-taken eb z em =
+      let yes-due : due day t ≡ true = sym eb ∙ z in
+      let start : max (t .minute) (restOpening day) ≡ t .minute = omega (arith, due-opened yes-due) in
+      rw (yes-due, em, start)
+
+  pub rest-not : {b : Bool} → b ≡ due day t → b ≡ false → t ≡ restIfDue day t
+  unfolding restIfDue
+  rest-not eb z = rw (← eb, z)
 
 -- a visit's trip
 pub visit-made : (day : List ℕ) (t : Trip) (place : ℕ) (w : Window) (l : Leg) {start m : ℕ} → WindowOf day place w → LegOf day (t .place) place l

@@ -25,7 +25,8 @@ use Rattle.planner.specs.Build.{Truck, fresh, doing, resting, oneVehicle
 use Rattle.planner.specs.Choice.{taking, suits, takeable, waitable}
 use Rattle.planner.specs.Home.{due, wayHome}
 use Rattle.planner.specs.Tips.{nearestTip}
-use Rattle.planner.proofs.Driving.{Ended, resting-done, resting-keeps, Reached, reached-keeps, vehicle-keeps, vehicle-ended}
+use Rattle.planner.specs.Reached.{Reached}
+use Rattle.planner.proofs.Driving.{Ended, resting-done, resting-keeps, reached-keeps, vehicle-keeps, vehicle-ended}
 use Rattle.planner.proofs.NextTasks.{OpenTip, IsNext, takes, empties, waits, next-none}
 use Rattle.planner.proofs.WaysHome.{due-fault, way-home-rested, way-home-loaded, way-home-empty}
 

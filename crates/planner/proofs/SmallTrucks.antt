@@ -21,7 +21,8 @@ use Rattle.planner.specs.Build.{Truck, fresh, doing, resting}
 use Rattle.planner.specs.Choice.{taking, suits, takeable, waitable}
 use Rattle.planner.specs.Home.{due, wayHome}
 use Rattle.planner.specs.States.{SmallTrip, SmallCargo}
-use Rattle.planner.proofs.Driving.{Reached, reached-keeps, resting-keeps}
+use Rattle.planner.specs.Reached.{Reached}
+use Rattle.planner.proofs.Driving.{reached-keeps, resting-keeps}
 use Rattle.planner.proofs.NextTasks.{IsNext, takes, empties, waits}
 use Rattle.planner.proofs.WaysHome.{due-true}
 

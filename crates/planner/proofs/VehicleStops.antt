@@ -17,7 +17,8 @@ use Rattle.checker.specs.declared.walk.Cargo.{Cargo}
 use Rattle.checker.proofs.PlanChecks.{known-all}
 use Rattle.planner.specs.Build.{Truck, fresh, doing, oneVehicle, resting}
 use Rattle.planner.specs.Home.{due}
-use Rattle.planner.proofs.Driving.{Reached, reached-keeps, vehicle-keeps, resting-keeps}
+use Rattle.planner.specs.Reached.{Reached}
+use Rattle.planner.proofs.Driving.{reached-keeps, vehicle-keeps, resting-keeps}
 use Rattle.planner.proofs.NextTasks.{IsNext, takes, empties, waits}
 
 -- the stops of two parts of a round

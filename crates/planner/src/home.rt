@@ -4,7 +4,7 @@ ghost use Prim.Native.Nat.{_<_, _≤_, max};
 ghost use Rattle.day.specs.Fields.{stopPlace, service};
 ghost use Rattle.day.specs.Layout.{LayoutOf, WindowOf};
 ghost use Rattle.checker.specs.Trip.{visited};
-ghost use Rattle.planner.specs.Home.{restIfDue, homeDirect, homeByTip, wayHome};
+ghost use Rattle.planner.specs.Home.{due, restIfDue, homeDirect, homeByTip, wayHome};
 ghost use Rattle.planner.specs.States.{SmallTrip};
 use checker::walk::Trip;
 use day::fields::Layout;
@@ -16,27 +16,35 @@ fn later(a: u32, b: u32) -> u32
     if a < b { b } else { a }
 }
 
+// Whether a rest is due.
+pub fn is_due(day: &[u32], z: Layout, t: Trip) -> bool
+    requires { ⌜ LayoutOf (now day) z ⌝ }
+    ensures { λ r. ⌜ r ≡ due (now (day .entry)) t ⌝ }
+{
+    if t.rested {
+        return false;
+    }
+    let hours = day::fields::rest_window(day, z);
+    if t.minute < hours.opening {
+        return false;
+    }
+    t.minute <= hours.closing
+}
+
 // After a rest where one is due, else as before.
 pub fn rest_if_due(day: &[u32], z: Layout, t: Trip) -> Trip
     requires { ⌜ LayoutOf (now day) z × (t .minute < 1073741824) ⌝ }
     ensures { λ r. ⌜ r ≡ restIfDue (now (day .entry)) t ⌝ }
 {
-    if t.rested {
-        return t;
+    if is_due(day, z, t) {
+        return Trip {
+            minute: t.minute + day::fields::rest_minutes(day, z),
+            place: t.place,
+            rested: true,
+            distance: t.distance,
+        };
     }
-    let hours = day::fields::rest_window(day, z);
-    if t.minute < hours.opening {
-        return t;
-    }
-    if hours.closing < t.minute {
-        return t;
-    }
-    Trip {
-        minute: t.minute + day::fields::rest_minutes(day, z),
-        place: t.place,
-        rested: true,
-        distance: t.distance,
-    }
+    t
 }
 
 // After a visit that is known to be in time.

@@ -4,3 +4,4 @@ pub mod home;
 pub mod state;
 pub mod tasks;
 pub mod tips;
+pub mod writer;
