@@ -3,6 +3,7 @@ pub mod ChoiceLaws
 pub mod Decided
 pub mod Driving
 pub mod Fleets
+pub mod GoingLaws
 pub mod GreedyForm
 pub mod GreedyLawful
 pub mod GreedyRoom

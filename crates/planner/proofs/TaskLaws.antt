@@ -110,7 +110,7 @@ module _ (day : List ℕ) (t : Trip) (c : Cargo) (p : ℕ → Bool) where
   next-wait en ek z l e = e ∙ rw (← en, ← ek, z, le-ltb 0 (c .load) l)
 
 -- by the unrouted stops it is the definition's next task
-unrouted-in : (n : ℕ) (taken : List ℕ) (k : ℕ) → 0 < k → k ≤ n → unrouted n taken k ≡ not (mem k taken)
+pub unrouted-in : (n : ℕ) (taken : List ℕ) (k : ℕ) → 0 < k → k ≤ n → unrouted n taken k ≡ not (mem k taken)
 unfolding unrouted
 unrouted-in n taken k h g = rw (upTo-in n k h g)
 

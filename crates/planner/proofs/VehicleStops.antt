@@ -43,13 +43,13 @@ visits-task day c (empty k) = omega arith
 visits-task day c lunch = omega arith
 
 -- the next task's stop is new, and its number is known
-next-new : (day : List ℕ) (v : Truck) (task : Task) → IsNext day v task → Fresh (v .taken) (stopsOn (task ∷ []))
+pub next-new : (day : List ℕ) (v : Truck) (task : Task) → IsNext day v task → Fresh (v .taken) (stopsOn (task ∷ []))
 unfolding Fresh stopsOn
 next-new day v task (takes k c) = (c .new, tt)
 next-new day v task (empties x l e o) = tt
 next-new day v task (waits k z c) = (c .new, tt)
 
-next-known : (day : List ℕ) (v : Truck) (task : Task) → IsNext day v task → Every (Known day) (task ∷ [])
+pub next-known : (day : List ℕ) (v : Truck) (task : Task) → IsNext day v task → Every (Known day) (task ∷ [])
 unfolding Every Known
 next-known day v task (takes k c) = ((c .first, c .within), tt)
 next-known day v task (empties x l e o) = ((o .first, o .within), tt)

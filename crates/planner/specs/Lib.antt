@@ -1,6 +1,7 @@
 pub mod Build
 pub mod Choice
 pub mod Done
+pub mod Going
 pub mod Home
 pub mod NextBy
 pub mod Reached

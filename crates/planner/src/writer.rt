@@ -5,10 +5,21 @@ ghost use lib.ListN.{length, set};
 ghost use Rattle.laws.specs.Tests.{if_then_else_};
 ghost use Rattle.day.specs.Layout.{LayoutOf};
 ghost use Rattle.checker.specs.PlanWords.{restWord};
+ghost use Rattle.planner.specs.Going.{SomeGoing, GoesOn};
 ghost use Rattle.planner.specs.Home.{due};
+ghost use mathlib.Core.Bool.{false};
+ghost use Rattle.planner.specs.NextBy.{goesHome};
 use crate::home::is_due;
+use crate::state::State;
+use crate::state::do_task;
+use crate::state::is_home;
+use crate::state::rest_state;
+use crate::state::word_of;
+use crate::tasks::Next;
+use crate::tasks::next_task;
 use checker::walk::Trip;
 use day::fields::Layout;
+use marks::Marks;
 
 // The D word where a rest is due; how many words there are then.
 fn write_rest(day: &[u32], z: Layout, t: Trip, part: &mut [u32], at: usize) -> usize
@@ -21,4 +32,31 @@ fn write_rest(day: &[u32], z: Layout, t: Trip, part: &mut [u32], at: usize) -> u
         return at + 1;
     }
     at
+}
+
+// Where the writer of one vehicle stands: the state behind the task written last, the next task, and how many words there are.
+pub struct Progress {
+    pub state: State,
+    pub next: Next,
+    pub at: usize,
+}
+
+// One task more is written and done, and the rest behind it where one is due.
+fn write_task(day: &[u32], z: Layout, s: State, next: Next, part: &mut [u32], at: usize) -> Progress
+    requires { ⌜ LayoutOf (now day) z × SomeGoing (now day) z (now part) at s next × (goesHome next ≡ false) ⌝ }
+    ensures { λ r. ⌜ GoesOn (now (day .entry)) z (now (part .entry)) at s next (now (part .exit)) (r .at) (r .state) (r .next) ⌝ }
+{
+    part[at] = word_of(z, next);
+    let done = do_task(day, z, s, next);
+    let t = done.trip;
+    let end = write_rest(day, z, t, part, at + 1);
+    let rested = rest_state(day, z, done);
+    let u = rested.trip;
+    let c = rested.cargo;
+    let left = rested.left;
+    Progress {
+        state: rested,
+        next: next_task(day, z, u, c, left),
+        at: end,
+    }
 }

@@ -1,0 +1,54 @@
+-- One vehicle's words while they are written. It serves the contracts of this crate's own functions. Assumes nothing.
+use Prim.Native.Nat.{ℕ, _*_, _≤_, _<_}
+use mathlib.Core.Path.{_≡_}
+use mathlib.Core.List.{List, [], _∷_, map}
+use lib.ListN.{length}
+use Rattle.laws.specs.Buffer.{Wrote}
+use Rattle.laws.specs.Lists.{unmet}
+use Rattle.laws.specs.Marks.{marked, onesOf}
+use Rattle.day.specs.Fields.{stops}
+use Rattle.day.specs.declared.fields.Layout.{Layout}
+use Rattle.checker.specs.Plan.{taskWord, roundWords}
+use Rattle.checker.specs.PlanWords.{vehicleWord}
+use Rattle.marks.specs.declared.Marks.{Marks}
+use Rattle.planner.specs.Build.{Truck, resting, nextTask, oneVehicle}
+use Rattle.planner.specs.NextBy.{nextOf, NextWithin}
+use Rattle.planner.specs.Reached.{Reached}
+use Rattle.planner.specs.States.{unrouted}
+use Rattle.planner.specs.declared.state.State.{State}
+use Rattle.planner.specs.declared.tasks.Next.{Next}
+
+-- the marks are those of the stops still to be routed, and as many
+pub record LeftOf (day taken : List ℕ) (m : Marks) : Type 0 where
+  pub are : marked (m .words) ≡ unrouted (stops day) taken
+  pub count : onesOf (m .words) ≡ unmet (stops day) taken
+
+-- a vehicle that set out when some stops were routed, has rested if due, and has its next task before it; p is what the part was
+pub record Going (day : List ℕ) (z : Layout) (before : List ℕ) (number : ℕ) (p part : List ℕ) (at : ℕ) (s : State) (next : Next) : Type 0 where
+  pub truck : Truck
+  pub reached : Reached day before truck
+  pub tripIs : s .trip ≡ resting day truck .trip
+  pub cargoIs : s .cargo ≡ resting day truck .cargo
+  pub leftIs : LeftOf day (resting day truck .taken) (s .left)
+  pub text : Wrote (vehicleWord number ∷ map taskWord (resting day truck .tasks)) p part at
+  pub nextIs : nextOf next ≡ nextTask day (resting day truck)
+  pub nextIn : NextWithin z next
+
+-- there is such a vehicle, and room for it: five words for each stop still to be routed, of which there is one at least
+pub record SomeGoing (day : List ℕ) (z : Layout) (part : List ℕ) (at : ℕ) (s : State) (next : Next) : Type 0 where
+  pub before : List ℕ
+  pub number : ℕ
+  pub p : List ℕ
+  pub going : Going day z before number p part at s next
+  pub some : 0 < unmet (stops day) before
+  pub room : 5 * unmet (stops day) before ≤ length p
+
+-- each vehicle that stood so now stands so
+abbrev pub GoesOn : List ℕ → Layout → List ℕ → ℕ → State → Next → List ℕ → ℕ → State → Next → Type 0
+GoesOn day z part at s next now end after following =
+    (before : List ℕ) (number : ℕ) (p : List ℕ) → Going day z before number p part at s next → Going day z before number p now end after following
+
+-- the vehicle's words stand at the front of the part, and the marks are those that it leaves
+pub record VehicleDone (day before : List ℕ) (number : ℕ) (p part : List ℕ) (m : Marks) (words : ℕ) : Type 0 where
+  pub text : Wrote (roundWords number (oneVehicle day before .tasks)) p part words
+  pub leftIs : LeftOf day (oneVehicle day before .taken) m
