@@ -24,25 +24,25 @@ use Rattle.day.specs.Layout.{LayoutOf}
 use Rattle.day.specs.declared.fields.Layout.{Layout}
 use Rattle.checker.specs.Cargo.{cargoAfter, emptied}
 use Rattle.checker.specs.Check.{metAfter}
-use Rattle.checker.specs.Plan.{Task, serve, empty, lunch, Round, taskWord, stopsOn, Known}
-use Rattle.checker.specs.PlanWords.{vehicleWord, restWord}
+use Rattle.checker.specs.Plan.{Task, serve, empty, lunch, taskWord, roundWords, stopsOn}
+use Rattle.checker.specs.PlanWords.{vehicleWord, restWord, backWord}
 use Rattle.checker.specs.Trip.{visited}
 use Rattle.checker.specs.declared.walk.Cargo.{Cargo}
 use Rattle.checker.specs.declared.walk.Trip.{Trip}
 use Rattle.marks.specs.declared.Marks.{Marks}
-use Rattle.planner.specs.Build.{Truck, doing, resting, nextTask}
+use Rattle.planner.specs.Build.{Truck, doing, resting, nextTask, oneVehicle}
 use Rattle.planner.specs.Choice.{taking}
 use Rattle.planner.specs.Done.{Done, Doable}
-use Rattle.planner.specs.Going.{LeftOf, Going, SomeGoing}
+use Rattle.planner.specs.Going.{LeftOf, Going, SomeGoing, GoesOn, VehicleDone}
 use Rattle.planner.specs.Home.{due, restIfDue}
-use Rattle.planner.specs.NextBy.{nextOf, nextBy, NextWithin, nextWord, goesHome}
+use Rattle.planner.specs.NextBy.{nextOf, nextBy, NextWithin, nextWord, isTask}
 use Rattle.planner.specs.Reached.{Reached, goesOn}
 use Rattle.planner.specs.States.{SmallTrip, SmallCargo, unrouted}
 use Rattle.planner.specs.declared.state.State.{State}
 use Rattle.planner.specs.declared.tasks.Next.{Next}
 use Rattle.planner.specs.declared.tasks.Next.the-variants as Nexts
 use Rattle.planner.proofs.Decided.{known, bit-most}
-use Rattle.planner.proofs.Driving.{resting-due, resting-not, resting-trip, resting-cargo, resting-taken}
+use Rattle.planner.proofs.Driving.{resting-due, resting-not, resting-trip, resting-cargo, resting-taken, end-none, reached-end}
 use Rattle.planner.proofs.GreedyRoom.{Paid, Room, tasks-counted, rested-paid, rested-room, reached-room}
 use Rattle.planner.proofs.NextTasks.{IsNext, takes, empties, waits, next-some}
 use Rattle.planner.proofs.SmallTrucks.{SmallTruck, reached-small, rested-small}
@@ -89,10 +89,10 @@ next-room day before v task (empties x l q o) r p =
     omega (arith, r .visits, rw (lt-ltb 0 (v .cargo .load) l) at (p .tips), p .rests, tasks-counted (v .tasks), routes-unmet day before v r, bit-most (v .trip .rested))
 
 -- the task that stands before the vehicle
-named : (next : Next) → goesHome next ≡ false → (task : Task) × (nextOf next ≡ some task)
+named : (next : Next) → isTask next ≡ true → (task : Task) × (nextOf next ≡ some task)
 named (Nexts.Stop k) e = (serve k, refl)
 named (Nexts.Tip x) e = (empty x, refl)
-named Nexts.Home e = absurd (true≢false e)
+named Nexts.Home e = absurd (true≢false (sym e))
 
 module _ {day before : List ℕ} {z : Layout} {number : ℕ} {p part : List ℕ} {at : ℕ} {s : State} {next : Next} where
   -- what the vehicle has for its numbers
@@ -110,7 +110,7 @@ module _ {day before : List ℕ} {z : Layout} {number : ℕ} {p part : List ℕ}
   going-at : (g : Going day z before number p part at s next) → at ≡ length (resting day (g .truck) .tasks) + 1
   going-at g = omega (arith, g .text .count, length-map (resting day (g .truck) .tasks) taskWord)
 
-  going-room : (g : Going day z before number p part at s next) → goesHome next ≡ false → at + 1 < 5 * unmet (stops day) before
+  going-room : (g : Going day z before number p part at s next) → isTask next ≡ true → at + 1 < 5 * unmet (stops day) before
   going-room g e =
       let n = named next e in
       let w = next-room day before (resting day (g .truck)) (n .0) (going-next g (n .0) (n .1)) (rested-routes day before (g .truck) (g .reached)) (rested-paid day before (g .truck) (g .reached)) in
@@ -140,7 +140,7 @@ record Behind (day : List ℕ) (v : Truck) (next : Next) (r : State) : Type 0 wh
   leftIs : LeftOf day (doing day v task .taken) (r .left)
 
 going-done : (day : List ℕ) (z : Layout) (before : List ℕ) (number : ℕ) (p part : List ℕ) (at : ℕ) (s r : State) (next : Next) → LayoutOf day z
-    → (g : Going day z before number p part at s next) → goesHome next ≡ false → Done day s next r → Behind day (resting day (g .truck)) next r
+    → (g : Going day z before number p part at s next) → isTask next ≡ true → Done day s next r → Behind day (resting day (g .truck)) next r
 unfolding cargoAfter metAfter taskWord
 going-done day z before number p part at s r (Nexts.Stop k) l g e d =
     let v = resting day (g .truck) in
@@ -163,7 +163,7 @@ going-done day z before number p part at s r (Nexts.Tip x) l g e d =
       cargo = d .1 ∙ ap emptied (g .cargoIs);
       leftIs = subst (LeftOf day (v .taken)) (sym (d .2)) (g .leftIs);
     }
-going-done day z before number p part at s r Nexts.Home l g e d = absurd (true≢false e)
+going-done day z before number p part at s r Nexts.Home l g e d = absurd (true≢false (sym e))
 
 -- the words of a vehicle that has rested if due, behind a task
 rested-words : (day : List ℕ) (number : ℕ) {word : ℕ} {p part : List ℕ} {at end : ℕ} {now : List ℕ} (v : Truck) (task : Task) (t : Trip)
@@ -193,7 +193,7 @@ rested-words day number {word} {p} {part} {at} {end} {now} v task t w l e q n x 
 
 -- the words, the state and the next task behind the task and the rest
 module _ {day before : List ℕ} {z : Layout} {number : ℕ} {p part : List ℕ} {at : ℕ} {s : State} {next : Next} where
-  pub going-step : {word : ℕ} (r after : State) {now : List ℕ} {end : ℕ} (following : Next) → LayoutOf day z → Going day z before number p part at s next → goesHome next ≡ false
+  pub going-step : {word : ℕ} (r after : State) {now : List ℕ} {end : ℕ} (following : Next) → LayoutOf day z → Going day z before number p part at s next → isTask next ≡ true
       → at + 1 < length part → word ≡ nextWord next → Done day s next r
       → end ≡ (if due day (r .trip) then at + 1 + 1 else at + 1)
       → now ≡ (if due day (r .trip) then set (set part at word) (at + 1) restWord else set part at word)
@@ -207,7 +207,7 @@ module _ {day before : List ℕ} {z : Layout} {number : ℕ} {p part : List ℕ}
       let tripIs : after .trip ≡ resting day u .trip = t ∙ ap (restIfDue day) (b .trip) ∙ sym (resting-trip day u) in
       let cargoIs : after .cargo ≡ resting day u .cargo = c ∙ b .cargo ∙ sym (resting-cargo day u) in
       let leftIs : LeftOf day (resting day u .taken) (after .left) =
-          subst (λ (ks : List ℕ). LeftOf day ks (after .left)) (sym (resting-taken day u)) (subst (LeftOf day (u .taken)) (sym m) (b .leftIs)) in
+      subst (λ (ks : List ℕ). LeftOf day ks (after .left)) (sym (resting-taken day u)) (subst (LeftOf day (u .taken)) (sym m) (b .leftIs)) in
       record {
         truck = u;
         reached = goesOn (g .truck) (b .task) (g .reached) (b .isNext);
@@ -225,7 +225,7 @@ module _ {day before : List ℕ} {z : Layout} {number : ℕ} {p part : List ℕ}
       }
 
   -- the trip behind the task is small too
-  pub done-small : (r : State) → LayoutOf day z → Going day z before number p part at s next → goesHome next ≡ false → Done day s next r
+  pub done-small : (r : State) → LayoutOf day z → Going day z before number p part at s next → isTask next ≡ true → Done day s next r
       → SmallTrip day 2147483648 (r .trip) × SmallCargo (r .cargo)
   done-small r l g e d =
       let b = going-done day z before number p part at s r next l g e d in
@@ -235,9 +235,50 @@ module _ {day before : List ℕ} {z : Layout} {number : ℕ} {p part : List ℕ}
       (subst (SmallTrip day 2147483648) (sym (b .trip)) (truck-small day before v small (reached-routes day before v reached) (reached-room day before v reached)), subst SmallCargo (sym (b .cargo)) (small .cargo))
 
 -- room where some vehicle is under way, and few words so far
-module _ {day : List ℕ} {z : Layout} {part : List ℕ} {at : ℕ} {s : State} {next : Next} (g : SomeGoing day z part at s next) (e : goesHome next ≡ false) where
+module _ {day : List ℕ} {z : Layout} {part : List ℕ} {at : ℕ} {s : State} {next : Next} (g : SomeGoing day z part at s next) (e : isTask next ≡ true) where
   pub some-space : at + 1 < length part
   some-space = omega (arith, going-room (g .going) e, g .room, g .going .text .size)
 
   pub some-few : at < 1280
   some-few = omega (arith, going-room (g .going) e, unmet-most (stops day) (g .before))
+
+-- a rest or none, there are more words
+pub word-more : {at end : ℕ} (day : List ℕ) (t : Trip) → end ≡ (if due day t then at + 1 + 1 else at + 1) → at < end
+word-more day t e = elim (known (due day t)) [ inl d ↦ omega (arith, rw d at e) | inr d ↦ omega (arith, rw d at e) ]
+
+-- some vehicle is still under way behind a task
+pub still-going : {day : List ℕ} {z : Layout} {part now : List ℕ} {at end : ℕ} {s after : State} {next following : Next} → SomeGoing day z part at s next
+    → GoesOn day z part at s next now end after following → SomeGoing day z now end after following
+still-going g on =
+    record { before = g .before; number = g .number; p = g .p; going = on (g .before) (g .number) (g .p) (g .going); some = g .some; room = g .room }
+
+-- no task is left: the vehicle is at its end
+home-none : (next : Next) → isTask next ≡ false → nextOf next ≡ none
+home-none (Nexts.Stop k) e = absurd (true≢false e)
+home-none (Nexts.Tip x) e = absurd (true≢false e)
+home-none Nexts.Home e = refl
+
+-- with room for its way back
+module _ {day : List ℕ} {z : Layout} {part : List ℕ} {at : ℕ} {s : State} {next : Next} (g : SomeGoing day z part at s next) where
+  end-room : at < 5 * unmet (stops day) (g .before)
+  end-room =
+      let v = g .going .truck in
+      let r = rested-routes day (g .before) v (g .going .reached) in
+      omega (arith, going-at (g .going), rested-room day (g .before) v (g .going .reached) .size, r .visits, routes-unmet day (g .before) (resting day v) r, g .some)
+
+  pub end-space : at < length part
+  end-space = omega (arith, end-room, g .room, g .going .text .size)
+
+  pub end-few : at < 1280
+  end-few = omega (arith, end-room, unmet-most (stops day) (g .before))
+
+pub going-end : {day before : List ℕ} {z : Layout} {number : ℕ} {p part : List ℕ} {at : ℕ} {s : State} {next : Next} → Going day z before number p part at s next
+    → isTask next ≡ false → at < length part → VehicleDone day before number p (set part at backWord) (s .left) (at + 1)
+unfolding roundWords
+going-end {day} {before} {z} {number} {p} {part} {at} {s} {next} g e l =
+    let v = g .truck in
+    let end : resting day v ≡ oneVehicle day before = sym (end-none day v (sym (g .nextIs) ∙ home-none next e)) ∙ reached-end day before v (g .reached) in
+    record {
+      text = subst (λ (u : Truck). Wrote (roundWords number (u .tasks)) p (set part at backWord) (at + 1)) end (wrote-put (g .text) backWord (omega (arith, g .text .size)));
+      leftIs = subst (λ (u : Truck). LeftOf day (u .taken) (s .left)) end (g .leftIs);
+    }

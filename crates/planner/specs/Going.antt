@@ -52,3 +52,8 @@ GoesOn day z part at s next now end after following =
 pub record VehicleDone (day before : List ℕ) (number : ℕ) (p part : List ℕ) (m : Marks) (words : ℕ) : Type 0 where
   pub text : Wrote (roundWords number (oneVehicle day before .tasks)) p part words
   pub leftIs : LeftOf day (oneVehicle day before .taken) m
+
+-- each vehicle that stood so is now written
+abbrev pub EndsAll : List ℕ → Layout → List ℕ → ℕ → State → Next → List ℕ → Marks → ℕ → Type 0
+EndsAll day z part at s next now m words =
+    (before : List ℕ) (number : ℕ) (p : List ℕ) → Going day z before number p part at s next → VehicleDone day before number p now m words

@@ -52,8 +52,8 @@ nextWord (Nexts.Stop k) = stopWord k
 nextWord (Nexts.Tip x) = tipWord x
 nextWord Nexts.Home = backWord
 
--- no task is left
-abbrev pub goesHome : Next → Bool
-goesHome (Nexts.Stop k) = false
-goesHome (Nexts.Tip x) = false
-goesHome Nexts.Home = true
+-- there is a task
+abbrev pub isTask : Next → Bool
+isTask (Nexts.Stop k) = true
+isTask (Nexts.Tip x) = true
+isTask Nexts.Home = false

@@ -9,7 +9,7 @@ ghost use Rattle.checker.specs.Cargo.{emptied};
 ghost use Rattle.checker.specs.Trip.{visited};
 ghost use Rattle.planner.specs.Choice.{taking};
 ghost use Rattle.planner.specs.Home.{restIfDue};
-ghost use Rattle.planner.specs.NextBy.{NextWithin, nextWord, goesHome};
+ghost use Rattle.planner.specs.NextBy.{NextWithin, nextWord, isTask};
 ghost use Rattle.planner.specs.States.{SmallTrip, SmallCargo};
 ghost use Rattle.planner.specs.Done.{Done, Doable};
 use crate::home::rest_if_due;
@@ -107,13 +107,13 @@ pub fn word_of(z: Layout, next: Next) -> u32
     }
 }
 
-// Whether the vehicle goes home next.
-pub fn is_home(next: Next) -> bool
-    ensures { λ r. ⌜ r ≡ goesHome next ⌝ }
+// Whether there is a task.
+pub fn is_task(next: Next) -> bool
+    ensures { λ r. ⌜ r ≡ isTask next ⌝ }
 {
     match next {
-        Next::Stop(_) => false,
-        Next::Tip(_) => false,
-        Next::Home => true,
+        Next::Stop(_) => true,
+        Next::Tip(_) => true,
+        Next::Home => false,
     }
 }

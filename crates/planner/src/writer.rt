@@ -5,14 +5,14 @@ ghost use lib.ListN.{length, set};
 ghost use Rattle.laws.specs.Tests.{if_then_else_};
 ghost use Rattle.day.specs.Layout.{LayoutOf};
 ghost use Rattle.checker.specs.PlanWords.{restWord};
-ghost use Rattle.planner.specs.Going.{SomeGoing, GoesOn};
+ghost use Rattle.planner.specs.Going.{SomeGoing, GoesOn, EndsAll};
 ghost use Rattle.planner.specs.Home.{due};
-ghost use mathlib.Core.Bool.{false};
-ghost use Rattle.planner.specs.NextBy.{goesHome};
+ghost use mathlib.Core.Bool.{true};
+ghost use Rattle.planner.specs.NextBy.{isTask};
 use crate::home::is_due;
 use crate::state::State;
 use crate::state::do_task;
-use crate::state::is_home;
+use crate::state::is_task;
 use crate::state::rest_state;
 use crate::state::word_of;
 use crate::tasks::Next;
@@ -43,8 +43,9 @@ pub struct Progress {
 
 // One task more is written and done, and the rest behind it where one is due.
 fn write_task(day: &[u32], z: Layout, s: State, next: Next, part: &mut [u32], at: usize) -> Progress
-    requires { ⌜ LayoutOf (now day) z × SomeGoing (now day) z (now part) at s next × (goesHome next ≡ false) ⌝ }
-    ensures { λ r. ⌜ GoesOn (now (day .entry)) z (now (part .entry)) at s next (now (part .exit)) (r .at) (r .state) (r .next) ⌝ }
+    requires { ⌜ LayoutOf (now day) z × SomeGoing (now day) z (now part) at s next × (isTask next ≡ true) ⌝ }
+    ensures grows { λ r. ⌜ at < r .at ⌝ }
+    ensures goesOn { λ r. ⌜ GoesOn (now (day .entry)) z (now (part .entry)) at s next (now (part .exit)) (r .at) (r .state) (r .next) ⌝ }
 {
     part[at] = word_of(z, next);
     let done = do_task(day, z, s, next);
@@ -58,5 +59,40 @@ fn write_task(day: &[u32], z: Layout, s: State, next: Next, part: &mut [u32], at
         state: rested,
         next: next_task(day, z, u, c, left),
         at: end,
+    }
+}
+
+// What the writer of one vehicle hands back: the stops still to be routed, and how many words it wrote.
+pub struct Written {
+    pub left: Marks,
+    pub words: usize,
+}
+
+// The tasks of a vehicle that has its first one before it, and its way back.
+fn write_tasks(
+    day: &[u32],
+    z: Layout,
+    first: State,
+    task: Next,
+    part: &mut [u32],
+    from: usize,
+) -> Written
+    requires { ⌜ LayoutOf (now day) z × SomeGoing (now day) z (now part) from first task ⌝ }
+    ensures { λ r. ⌜ EndsAll (now (day .entry)) z (now (part .entry)) from first task (now (part .exit)) (r .left) (r .words) ⌝ }
+{
+    let mut s = first;
+    let mut next = task;
+    let mut at = from;
+    while is_task(next) {
+        let g = write_task(day, z, s, next, part, at);
+        s = g.state;
+        next = g.next;
+        at = g.at;
+    }
+    part[at] = 3758096384;
+    let left = s.left;
+    Written {
+        left,
+        words: at + 1,
     }
 }

@@ -1,70 +1,55 @@
+-- `planner::writer::write_task` meets its contract.
 use borrow.Author.Needs.{needs}
-use native.Mathlib.Omega.{arith}
 use lib.ListN.{length-set}
+use mathlib.Core.Path.{sym, subst, _∙_}
+use native.Mathlib.Omega.{arith}
 use Rattle.planner.proofs.ChoiceLaws.{weaker-trip}
-use Rattle.planner.proofs.GoingLaws.{going-small, going-cargo, going-doable, going-step, done-small, some-space, some-few}
+use Rattle.planner.proofs.GoingLaws.{going-small, going-cargo, going-doable, going-step, done-small, some-space, some-few, word-more}
 use Rattle.planner.proofs.HomeLaws.{rest-small}
 use Rattle.planner.specs.States.{SmallCargo}
-use mathlib.Core.Path.{sym, subst, _∙_}
 use Rattle.planner.proofs.writer.write_task.Statement.{statement}
 use Rattle.planner.proofs.writer.write_task.Tie as tie
-use Rattle.planner.proofs.writer.write_task.Reads as reads
-use Rattle.planner.proofs.writer.write_task.Lts as lts
-use Rattle.planner.proofs.state.do_task.Reads as do-task-reads
-use Rattle.planner.proofs.state.rest_state.Reads as rest-state-reads
-use Rattle.planner.proofs.state.word_of.Reads as word-of-reads
-use Rattle.planner.proofs.tasks.next_task.Reads as next-task-reads
-use Rattle.planner.proofs.writer.write_rest.Reads as write-rest-reads
 
--- src/writer.rt:49:16
 word-of-requires : tie.Need-word-of-requires
 word-of-requires c κs = search needs
 
--- src/writer.rt:49:5
 mul-part : tie.Need-mul-part
 mul-part c = let p = c .before .before .before .pre in omega (arith, some-few (p .1) (p .2))
 
--- src/writer.rt:49:5
 slice-write-part : tie.Need-slice-write-part
 slice-write-part c = let p = c .before .before .before .pre in omega (arith, some-space (p .1) (p .2))
 
--- src/writer.rt:50:9
 do-task-requires : tie.Need-do-task-requires
 do-task-requires c κs = let p = c .before .before .before .pre in let g = p .1 .going in (p .0, going-small g, going-cargo g, g .nextIn, going-doable _ _ _ _ _ _ _ _ _ (p .0) g)
 
--- src/writer.rt:52:43
 add-write-rest : tie.Need-add-write-rest
 add-write-rest c = let p = c .before .before .before .before .before .before .pre in omega (arith, some-few (p .1) (p .2))
 
--- src/writer.rt:52:9
 write-rest-requires : tie.Need-write-rest-requires
 write-rest-requires c κs = let p = c .before .before .before .before .before .before .pre in (p .0, omega (arith, some-space (p .1) (p .2), length-set (c .before .before .before .before .before .before .args .part .now) (c .before .before .before .before .before .before .args .at) (c .before .before .before .word-of .result)))
 
--- src/writer.rt:53:9
 rest-state-requires : tie.Need-rest-state-requires
 rest-state-requires c κs = let p = c .before .before .before .before .before .before .before .before .before .pre in (p .0, weaker-trip _ _ _ _ (omega arith) (done-small _ (p .0) (p .1 .going) (p .2) (c .before .before .before .before .before .do-task .ensures) .0))
 
--- src/writer.rt:59:15
 next-task-requires : tie.Need-next-task-requires
-next-task-requires c κs = 
+next-task-requires c κs =
     let p = c .before .before .before .before .before .before .before .before .before .before .before .before .before .pre in
     let d = done-small _ (p .0) (p .1 .going) (p .2) (c .before .before .before .before .before .before .before .before .before .do-task .ensures) in
     let r = c .before .before .before .rest-state .ensures in
     (p .0, rest-small _ _ _ _ (d .0) (r .0), subst SmallCargo (sym (r .1)) (d .1))
 
--- src/writer.rt:45:1
 returns : tie.Need-returns
-returns c = λ before number q g.
+returns c =
     let p = c .before .before .before .before .before .before .before .before .before .before .before .before .before .before .pre in
     let w = c .before .before .before .before .before .before .before .write-rest .ensures in
     let r = c .before .before .before .before .rest-state .ensures in
     let t = c .next-task .ensures in
-    going-step _ _ _ (p .0) g (p .2) (some-space (p .1) (p .2)) (c .before .before .before .before .before .before .before .before .before .before .before .word-of .ensures) (c .before .before .before .before .before .before .before .before .before .before .do-task .ensures) (w .0) (w .1) (r .0) (r .1) (r .2) (t .0) (t .1)
+    (word-more _ _ (w .0), λ before number q g. going-step _ _ _ (p .0) g (p .2) (some-space (p .1) (p .2)) (c .before .before .before .before .before .before .before .before .before .before .before .word-of .ensures) (c .before .before .before .before .before .before .before .before .before .before .do-task .ensures) (w .0) (w .1) (r .0) (r .1) (r .2) (t .0) (t .1))
 
 same-length : tie.Need-same-length
 same-length c =
     let g = c .before .before .before .before .before .before .before .before .before .before .before .before .before .before .pre .1 .going in
-    returns c _ _ _ g .text .size ∙ sym (g .text .size)
+    returns c .1 _ _ _ g .text .size ∙ sym (g .text .size)
 
 pub write-task-spec : {M : Type 1} → statement M
 write-task-spec =
