@@ -9,7 +9,7 @@ use mathlib.Core.Option.{Option, none, some}
 use native.Mathlib.Omega.{arith}
 use lib.Dec.{ltb, eqb}
 use native.Mathlib.Decide.{ℕ-discrete}
-use lib.ListN.{length, length-append, length-map, set}
+use lib.ListN.{length, length-append, length-map, set, length-set}
 use borrow.Author.Tests.{lt-ltb}
 use Rattle.laws.specs.Buffer.{Wrote}
 use Rattle.laws.specs.Lists.{mem, unmet, Fresh}
@@ -24,7 +24,7 @@ use Rattle.day.specs.Layout.{LayoutOf}
 use Rattle.day.specs.declared.fields.Layout.{Layout}
 use Rattle.checker.specs.Cargo.{cargoAfter, emptied}
 use Rattle.checker.specs.Check.{metAfter}
-use Rattle.checker.specs.Plan.{Task, serve, empty, lunch, taskWord, roundWords, stopsOn}
+use Rattle.checker.specs.Plan.{Task, serve, empty, lunch, Round, taskWord, roundWords, stopsOn}
 use Rattle.checker.specs.PlanWords.{vehicleWord, restWord, backWord}
 use Rattle.checker.specs.Trip.{visited}
 use Rattle.checker.specs.declared.walk.Cargo.{Cargo}
@@ -79,7 +79,7 @@ truck-small day before v q r w =
     }
 
 -- room for a task and a rest behind it: a stop is still to be routed, or a stop pays for the tip
-next-room : (day before : List ℕ) (v : Truck) (task : Task) → IsNext day v task → Routes day before v → Paid v
+pub next-room : (day before : List ℕ) (v : Truck) (task : Task) → IsNext day v task → Routes day before v → Paid v
     → length (v .tasks) + 2 < 5 * unmet (stops day) before
 next-room day before v task (takes k c) r p =
     omega (arith, r .visits, p .tips, p .rests, tasks-counted (v .tasks), routes-unmet day before v r, unmet-less (stops day) k (v .taken) (c .first) (c .within) (c .new), bit-most (v .trip .rested))
@@ -89,7 +89,7 @@ next-room day before v task (empties x l q o) r p =
     omega (arith, r .visits, rw (lt-ltb 0 (v .cargo .load) l) at (p .tips), p .rests, tasks-counted (v .tasks), routes-unmet day before v r, bit-most (v .trip .rested))
 
 -- the task that stands before the vehicle
-named : (next : Next) → isTask next ≡ true → (task : Task) × (nextOf next ≡ some task)
+pub named : (next : Next) → isTask next ≡ true → (task : Task) × (nextOf next ≡ some task)
 named (Nexts.Stop k) e = (serve k, refl)
 named (Nexts.Tip x) e = (empty x, refl)
 named Nexts.Home e = absurd (true≢false (sym e))
@@ -165,31 +165,28 @@ going-done day z before number p part at s r (Nexts.Tip x) l g e d =
     }
 going-done day z before number p part at s r Nexts.Home l g e d = absurd (true≢false (sym e))
 
--- the words of a vehicle that has rested if due, behind a task
-rested-words : (day : List ℕ) (number : ℕ) {word : ℕ} {p part : List ℕ} {at end : ℕ} {now : List ℕ} (v : Truck) (task : Task) (t : Trip)
-    → Wrote (vehicleWord number ∷ map taskWord (v .tasks)) p part at → at + 1 < length part → word ≡ taskWord task → t ≡ doing day v task .trip
-    → end ≡ (if due day t then at + 1 + 1 else at + 1)
-    → now ≡ (if due day t then set (set part at word) (at + 1) restWord else set part at word)
-    → Wrote (vehicleWord number ∷ map taskWord (resting day (doing day v task) .tasks)) p now end
+-- the words of a vehicle that has rested if due
+pub rest-words : (day : List ℕ) (number : ℕ) {p part : List ℕ} {at end : ℕ} {now : List ℕ} (v : Truck) (t : Trip)
+    → Wrote (vehicleWord number ∷ map taskWord (v .tasks)) p part at → at < length part → t ≡ v .trip
+    → end ≡ (if due day t then at + 1 else at) → now ≡ (if due day t then set part at restWord else part)
+    → Wrote (vehicleWord number ∷ map taskWord (resting day v .tasks)) p now end
 unfolding taskWord
-rested-words day number {word} {p} {part} {at} {end} {now} v task t w l e q n x = elim (known (due day (doing day v task .trip))) [
-  | inl d ↦ subst (λ (u : Truck). Wrote (vehicleWord number ∷ map taskWord (u .tasks)) p now end) (sym (resting-due day (doing day v task) d))
-      (subst (λ (b : List ℕ). Wrote (vehicleWord number ∷ map taskWord ((v .tasks ++ (task ∷ [])) ++ (lunch ∷ []))) p b end) (sym (x ∙ rw (q, d)))
-      (wrote-same (wrote-put one restWord (omega (arith, w .size))) more (sym (n ∙ rw (q, d)))))
-  | inr d ↦ subst (λ (u : Truck). Wrote (vehicleWord number ∷ map taskWord (u .tasks)) p now end) (sym (resting-not day (doing day v task) d))
-      (subst (λ (b : List ℕ). Wrote (vehicleWord number ∷ map taskWord (v .tasks ++ (task ∷ []))) p b end) (sym (x ∙ rw (q, d)))
-      (wrote-same one refl (sym (n ∙ rw (q, d)))))
+rest-words day number {p} {part} {at} {end} {now} v t w l q n x = elim (known (due day (v .trip))) [
+  | inl d ↦ subst (λ (u : Truck). Wrote (vehicleWord number ∷ map taskWord (u .tasks)) p now end) (sym (resting-due day v d))
+      (subst (λ (b : List ℕ). Wrote (vehicleWord number ∷ map taskWord (v .tasks ++ (lunch ∷ []))) p b end) (sym (x ∙ rw (q, d)))
+      (wrote-same (wrote-put w restWord (omega (arith, w .size))) (ap (λ (ws : List ℕ). vehicleWord number ∷ ws) (sym (map-append taskWord (v .tasks) (lunch ∷ [])))) (sym (n ∙ rw (q, d)))))
+  | inr d ↦ subst (λ (u : Truck). Wrote (vehicleWord number ∷ map taskWord (u .tasks)) p now end) (sym (resting-not day v d))
+      (subst (λ (b : List ℕ). Wrote (vehicleWord number ∷ map taskWord (v .tasks)) p b end) (sym (x ∙ rw (q, d))) (wrote-same w refl (sym (n ∙ rw (q, d)))))
 ]
-  where
-    one : Wrote (vehicleWord number ∷ map taskWord (v .tasks ++ (task ∷ []))) p (set part at word) (at + 1)
-    one =
-        wrote-same (wrote-put w word (omega (arith, w .size)))
-        (ap (λ (ws : List ℕ). vehicleWord number ∷ ws) (ap (λ (b : ℕ). map taskWord (v .tasks) ++ (b ∷ [])) e ∙ sym (map-append taskWord (v .tasks) (task ∷ []))))
-        refl
 
-    more : (vehicleWord number ∷ map taskWord (v .tasks ++ (task ∷ []))) ++ (restWord ∷ [])
-        ≡ vehicleWord number ∷ map taskWord ((v .tasks ++ (task ∷ [])) ++ (lunch ∷ []))
-    more = ap (λ (ws : List ℕ). vehicleWord number ∷ ws) (sym (map-append taskWord (v .tasks ++ (task ∷ [])) (lunch ∷ [])))
+-- and behind a task
+task-words : (number : ℕ) {word : ℕ} {p part : List ℕ} {at : ℕ} (tasks : Round) (task : Task)
+    → Wrote (vehicleWord number ∷ map taskWord tasks) p part at → at < length part → word ≡ taskWord task
+    → Wrote (vehicleWord number ∷ map taskWord (tasks ++ (task ∷ []))) p (set part at word) (at + 1)
+task-words number {word} tasks task w l e =
+    wrote-same (wrote-put w word (omega (arith, w .size)))
+    (ap (λ (ws : List ℕ). vehicleWord number ∷ ws) (ap (λ (b : ℕ). map taskWord tasks ++ (b ∷ [])) e ∙ sym (map-append taskWord tasks (task ∷ []))))
+    refl
 
 -- the words, the state and the next task behind the task and the rest
 module _ {day before : List ℕ} {z : Layout} {number : ℕ} {p part : List ℕ} {at : ℕ} {s : State} {next : Next} where
@@ -214,7 +211,9 @@ module _ {day before : List ℕ} {z : Layout} {number : ℕ} {p part : List ℕ}
         tripIs = tripIs;
         cargoIs = cargoIs;
         leftIs = leftIs;
-        text = rested-words day number v (b .task) (r .trip) (g .text) room (w ∙ b .word) (b .trip) n x;
+        text =
+            rest-words day number u (r .trip) (task-words number (v .tasks) (b .task) (g .text) (omega arith) (w ∙ b .word))
+            (omega (arith, length-set part at word)) (b .trip) n x;
         nextIs =
             q
             ∙ ap (λ (y : Trip). nextBy day y (after .cargo) (marked (after .left .words))) tripIs
@@ -253,7 +252,7 @@ still-going g on =
     record { before = g .before; number = g .number; p = g .p; going = on (g .before) (g .number) (g .p) (g .going); some = g .some; room = g .room }
 
 -- no task is left: the vehicle is at its end
-home-none : (next : Next) → isTask next ≡ false → nextOf next ≡ none
+pub home-none : (next : Next) → isTask next ≡ false → nextOf next ≡ none
 home-none (Nexts.Stop k) e = absurd (true≢false e)
 home-none (Nexts.Tip x) e = absurd (true≢false e)
 home-none Nexts.Home e = refl

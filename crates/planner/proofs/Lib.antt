@@ -11,6 +11,7 @@ pub mod HomeLaws
 pub mod LeftOut
 pub mod NextTasks
 pub mod OnTheRoad
+pub mod SettingOut
 pub mod SmallTrucks
 pub mod TaskLaws
 pub mod TipLaws

@@ -11,7 +11,7 @@ use Rattle.day.specs.declared.fields.Layout.{Layout}
 use Rattle.checker.specs.Plan.{taskWord, roundWords}
 use Rattle.checker.specs.PlanWords.{vehicleWord}
 use Rattle.marks.specs.declared.Marks.{Marks}
-use Rattle.planner.specs.Build.{Truck, resting, nextTask, oneVehicle}
+use Rattle.planner.specs.Build.{Truck, fresh, resting, nextTask, oneVehicle}
 use Rattle.planner.specs.NextBy.{nextOf, NextWithin}
 use Rattle.planner.specs.Reached.{Reached}
 use Rattle.planner.specs.States.{unrouted}
@@ -48,6 +48,24 @@ abbrev pub GoesOn : List ℕ → Layout → List ℕ → ℕ → State → Next 
 GoesOn day z part at s next now end after following =
     (before : List ℕ) (number : ℕ) (p : List ℕ) → Going day z before number p part at s next → Going day z before number p now end after following
 
+-- the state of a fresh vehicle that has rested if due, and its first task
+pub record First (day : List ℕ) (z : Layout) (before : List ℕ) (s : State) (next : Next) : Type 0 where
+  pub tripIs : s .trip ≡ resting day (fresh day before) .trip
+  pub cargoIs : s .cargo ≡ resting day (fresh day before) .cargo
+  pub leftIs : LeftOf day (resting day (fresh day before) .taken) (s .left)
+  pub nextIs : nextOf next ≡ nextTask day (resting day (fresh day before))
+  pub nextIn : NextWithin z next
+
+-- so it is for whatever stops were routed that leave these marks
+abbrev pub SetsOut : List ℕ → Layout → Marks → State → Next → Type 0
+SetsOut day z m s next = (before : List ℕ) → LeftOf day before m → First day z before s next
+
+-- the marks are those of some stops still to be routed, with room for them
+pub record SomeLeft (day part : List ℕ) (m : Marks) : Type 0 where
+  pub before : List ℕ
+  pub leftIs : LeftOf day before m
+  pub room : 5 * unmet (stops day) before ≤ length part
+
 -- the vehicle's words stand at the front of the part, and the marks are those that it leaves
 pub record VehicleDone (day before : List ℕ) (number : ℕ) (p part : List ℕ) (m : Marks) (words : ℕ) : Type 0 where
   pub text : Wrote (roundWords number (oneVehicle day before .tasks)) p part words
@@ -57,3 +75,14 @@ pub record VehicleDone (day before : List ℕ) (number : ℕ) (p part : List ℕ
 abbrev pub EndsAll : List ℕ → Layout → List ℕ → ℕ → State → Next → List ℕ → Marks → ℕ → Type 0
 EndsAll day z part at s next now m words =
     (before : List ℕ) (number : ℕ) (p : List ℕ) → Going day z before number p part at s next → VehicleDone day before number p now m words
+
+-- nothing is written where the vehicle takes no stop
+pub record VehicleWritten (day before : List ℕ) (number : ℕ) (p part : List ℕ) (m : Marks) (words : ℕ) : Type 0 where
+  pub none : words ≡ 0 → oneVehicle day before .cargo .visits ≡ 0
+  pub kept : words ≡ 0 → part ≡ p
+  pub some : 0 < words → 0 < oneVehicle day before .cargo .visits
+  pub done : 0 < words → VehicleDone day before number p part m words
+
+-- so it is for whatever stops were routed that leave these marks
+abbrev pub WritesOne : List ℕ → Marks → ℕ → List ℕ → List ℕ → Marks → ℕ → Type 0
+WritesOne day left number part now m words = (before : List ℕ) → LeftOf day before left → VehicleWritten day before number part now m words

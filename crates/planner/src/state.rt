@@ -5,8 +5,8 @@ ghost use Prim.Native.Nat.{_<_, _≤_};
 ghost use Rattle.laws.specs.Marks.{marked, Unmarked};
 ghost use Rattle.day.specs.Fields.{stopPlace};
 ghost use Rattle.day.specs.Layout.{LayoutOf};
-ghost use Rattle.checker.specs.Cargo.{emptied};
-ghost use Rattle.checker.specs.Trip.{visited};
+ghost use Rattle.checker.specs.Cargo.{empty, emptied};
+ghost use Rattle.checker.specs.Trip.{leaving, visited};
 ghost use Rattle.planner.specs.Choice.{taking};
 ghost use Rattle.planner.specs.Home.{restIfDue};
 ghost use Rattle.planner.specs.NextBy.{NextWithin, nextWord, isTask};
@@ -25,6 +25,28 @@ pub struct State {
     pub trip: Trip,
     pub cargo: Cargo,
     pub left: Marks,
+}
+
+// A fresh vehicle, at the depot when it opens.
+pub fn fresh_state(day: &[u32], z: Layout, left: Marks) -> State
+    requires { ⌜ LayoutOf (now day) z ⌝ }
+    ensures { λ r. ⌜ (r .trip ≡ leaving (now (day .entry))) × (r .cargo ≡ empty) × (r .left ≡ left) ⌝ }
+{
+    let hours = day::fields::depot_window(day, z);
+    State {
+        trip: Trip {
+            minute: hours.opening,
+            place: 0,
+            rested: false,
+            distance: 0,
+        },
+        cargo: Cargo {
+            load: 0,
+            kg: 0,
+            visits: 0,
+        },
+        left,
+    }
 }
 
 // Stop k is served.

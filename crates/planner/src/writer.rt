@@ -4,14 +4,17 @@ ghost use Prim.Native.Nat.{_+_, _<_};
 ghost use lib.ListN.{length, set};
 ghost use Rattle.laws.specs.Tests.{if_then_else_};
 ghost use Rattle.day.specs.Layout.{LayoutOf};
+ghost use Rattle.checker.specs.Cargo.{empty};
 ghost use Rattle.checker.specs.PlanWords.{restWord};
-ghost use Rattle.planner.specs.Going.{SomeGoing, GoesOn, EndsAll};
+ghost use Rattle.checker.specs.Trip.{leaving};
+ghost use Rattle.planner.specs.Going.{SomeGoing, GoesOn, EndsAll, SetsOut, SomeLeft, WritesOne};
 ghost use Rattle.planner.specs.Home.{due};
 ghost use mathlib.Core.Bool.{true};
 ghost use Rattle.planner.specs.NextBy.{isTask};
 use crate::home::is_due;
 use crate::state::State;
 use crate::state::do_task;
+use crate::state::fresh_state;
 use crate::state::is_task;
 use crate::state::rest_state;
 use crate::state::word_of;
@@ -95,4 +98,38 @@ fn write_tasks(
         left,
         words: at + 1,
     }
+}
+
+// The first task of a fresh vehicle, behind a rest if due; no word is written yet.
+fn set_out(day: &[u32], z: Layout, start: State) -> Progress
+    requires { ⌜ LayoutOf (now day) z × (start .trip ≡ leaving (now day)) × (start .cargo ≡ empty) ⌝ }
+    ensures { λ r. ⌜ SetsOut (now (day .entry)) z (start .left) (r .state) (r .next) ⌝ }
+{
+    let s = rest_state(day, z, start);
+    let t = s.trip;
+    let c = s.cargo;
+    let left = s.left;
+    Progress {
+        state: s,
+        next: next_task(day, z, t, c, left),
+        at: 0,
+    }
+}
+
+// One vehicle, with the stops still to be routed; nothing is written where it takes none.
+pub fn write_vehicle(day: &[u32], z: Layout, left: Marks, number: u32, part: &mut [u32]) -> Written
+    requires { ⌜ LayoutOf (now day) z × (number < 256) × SomeLeft (now day) (now part) left ⌝ }
+    ensures { λ r. ⌜ WritesOne (now (day .entry)) left number (now (part .entry)) (now (part .exit)) (r .left) (r .words) ⌝ }
+{
+    let start = fresh_state(day, z, left);
+    let t = start.trip;
+    let out = set_out(day, z, start);
+    let next = out.next;
+    if is_task(next) {
+        let s = out.state;
+        part[0] = 2684354560 + number;
+        let at = write_rest(day, z, t, part, 1);
+        return write_tasks(day, z, s, next, part, at);
+    }
+    Written { left, words: 0 }
 }
