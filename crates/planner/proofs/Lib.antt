@@ -2,6 +2,7 @@ pub mod BuildCases
 pub mod ChoiceLaws
 pub mod Decided
 pub mod Driving
+pub mod FleetWords
 pub mod Fleets
 pub mod GoingLaws
 pub mod GreedyForm

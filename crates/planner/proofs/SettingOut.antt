@@ -56,7 +56,7 @@ first-is {day} {z} {before} start s next h t c t' c' l' q i =
     let tripIs : s .trip ≡ resting day v .trip = t' ∙ ap (restIfDue day) t ∙ sym (resting-trip day v) in
     let cargoIs : s .cargo ≡ resting day v .cargo = c' ∙ c ∙ sym (resting-cargo day v) in
     let leftIs : LeftOf day (resting day v .taken) (s .left) =
-        subst (LeftOf day (resting day v .taken)) (sym l') (subst (λ (ks : List ℕ). LeftOf day ks (start .left)) (sym (resting-taken day v)) h) in
+    subst (LeftOf day (resting day v .taken)) (sym l') (subst (λ (ks : List ℕ). LeftOf day ks (start .left)) (sym (resting-taken day v)) h) in
     record {
       tripIs = tripIs;
       cargoIs = cargoIs;
@@ -99,7 +99,7 @@ module _ {day : List ℕ} {z : Layout} {before : List ℕ} {s : State} {next : N
   first-going {number} {part} {now} {at} {word} t l q w n x =
       let v = fresh day before in
       let one : Wrote (vehicleWord number ∷ []) part (set part 0 word) 1 =
-          subst (λ (b : ℕ). Wrote (b ∷ []) part (set part 0 word) 1) w (wrote-put (wrote-none part) word (omega arith)) in
+      subst (λ (b : ℕ). Wrote (b ∷ []) part (set part 0 word) 1) w (wrote-put (wrote-none part) word (omega arith)) in
       record {
         truck = v;
         reached = setOut;
@@ -143,9 +143,12 @@ written-some {day} {before} {number} l d =
     record {
       none = λ z. absurd (omega (arith, d .text .count));
       kept = λ z. absurd (omega (arith, d .text .count));
+      left = λ z. absurd (omega (arith, d .text .count));
       some = λ h. l;
       done = λ h. d;
     }
 
-pub written-none : {day before : List ℕ} {number : ℕ} (p : List ℕ) {m : Marks} → oneVehicle day before .cargo .visits ≡ 0 → VehicleWritten day before number p p m 0
-written-none p e = record { none = λ z. e; kept = λ z. refl; some = λ h. absurd (omega arith); done = λ h. absurd (omega arith) }
+pub written-none : {day before : List ℕ} {number : ℕ} (p : List ℕ) {m : Marks} → oneVehicle day before .cargo .visits ≡ 0 → LeftOf day before m
+    → VehicleWritten day before number p p m 0
+written-none p e h =
+    record { none = λ z. e; kept = λ z. refl; left = λ z. h; some = λ l. absurd (omega arith); done = λ l. absurd (omega arith) }

@@ -80,6 +80,7 @@ EndsAll day z part at s next now m words =
 pub record VehicleWritten (day before : List ℕ) (number : ℕ) (p part : List ℕ) (m : Marks) (words : ℕ) : Type 0 where
   pub none : words ≡ 0 → oneVehicle day before .cargo .visits ≡ 0
   pub kept : words ≡ 0 → part ≡ p
+  pub left : words ≡ 0 → LeftOf day before m
   pub some : 0 < words → 0 < oneVehicle day before .cargo .visits
   pub done : 0 < words → VehicleDone day before number p part m words
 

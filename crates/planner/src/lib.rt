@@ -1,5 +1,6 @@
 // The greedy build.
 pub mod choice;
+pub mod fleet;
 pub mod home;
 pub mod state;
 pub mod tasks;

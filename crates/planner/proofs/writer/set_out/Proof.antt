@@ -1,3 +1,4 @@
+-- `planner::writer::set_out` meets its contract.
 use mathlib.Core.Path.{_∙_}
 use native.Mathlib.Omega.{arith}
 use Rattle.planner.proofs.ChoiceLaws.{weaker-trip}
@@ -5,20 +6,13 @@ use Rattle.planner.proofs.HomeLaws.{rest-small}
 use Rattle.planner.proofs.SettingOut.{leaving-small, empty-small, first-is}
 use Rattle.planner.proofs.writer.set_out.Statement.{statement}
 use Rattle.planner.proofs.writer.set_out.Tie as tie
-use Rattle.planner.proofs.writer.set_out.Reads as reads
-use Rattle.planner.proofs.writer.set_out.Lts as lts
-use Rattle.planner.proofs.state.rest_state.Reads as rest-state-reads
-use Rattle.planner.proofs.tasks.next_task.Reads as next-task-reads
 
--- src/writer.rt:108:9
 rest-state-requires : tie.Need-rest-state-requires
 rest-state-requires c κs = let p = c .before .pre in (p .0, weaker-trip _ _ _ _ (omega arith) (leaving-small _ (p .1)))
 
--- src/writer.rt:114:15
 next-task-requires : tie.Need-next-task-requires
 next-task-requires c κs = let p = c .before .before .before .before .before .pre in let r = c .before .before .before .rest-state .ensures in (p .0, rest-small _ _ _ _ (leaving-small _ (p .1)) (r .0), empty-small _ (r .1 ∙ p .2))
 
--- src/writer.rt:104:1
 returns : tie.Need-returns
 returns c = λ before h. let p = c .before .before .before .before .before .before .pre in let r = c .before .before .before .before .rest-state .ensures in let t = c .next-task .ensures in first-is _ _ _ h (p .1) (p .2) (r .0) (r .1) (r .2) (t .0) (t .1)
 

@@ -1,54 +1,40 @@
+-- `planner::writer::write_vehicle` meets its contract.
 use Prim.Native.Nat.{_+_}
+use borrow.Author.Needs.{needs}
+use lib.ListN.{length-set}
 use mathlib.Core.Path.{refl, sym, _∙_}
 use native.Mathlib.Omega.{arith}
-use lib.ListN.{length-set}
 use Rattle.planner.proofs.SettingOut.{out-first, out-space, out-going, first-some, first-none, first-going, written-some, written-none}
-use borrow.Author.Needs.{needs}
 use Rattle.planner.proofs.writer.write_vehicle.Statement.{statement}
 use Rattle.planner.proofs.writer.write_vehicle.Tie as tie
-use Rattle.planner.proofs.writer.write_vehicle.Reads as reads
-use Rattle.planner.proofs.writer.write_vehicle.Lts as lts
-use Rattle.planner.proofs.state.fresh_state.Reads as fresh-state-reads
-use Rattle.planner.proofs.state.is_task.Reads as is-task-reads
-use Rattle.planner.proofs.writer.set_out.Reads as set-out-reads
-use Rattle.planner.proofs.writer.write_rest.Reads as write-rest-reads
-use Rattle.planner.proofs.writer.write_tasks.Reads as write-tasks-reads
 
--- src/writer.rt:124:9
 fresh-state-requires : tie.Need-fresh-state-requires
 fresh-state-requires c κs = search needs
 
--- src/writer.rt:126:9
 set-out-requires : tie.Need-set-out-requires
 set-out-requires c κs = search needs
 
--- src/writer.rt:128:8
 is-task-requires : tie.Need-is-task-requires
 is-task-requires c κs = search needs
 
--- src/writer.rt:130:19
 add-part : tie.Need-add-part
 add-part c = search needs
 
--- src/writer.rt:130:9
 slice-write-part : tie.Need-slice-write-part
 slice-write-part c = let some = c .before .before .before .before .before .before .before .before .pre .2 in omega (arith, out-space (out-first (c .before .before .before .set-out .ensures) (c .before .before .before .before .before .fresh-state .ensures .2)) some (sym (c .before .before .is-task .ensures) ∙ c .before .if1 .taken))
 
--- src/writer.rt:131:13
 write-rest-requires : tie.Need-write-rest-requires
-write-rest-requires c κs = 
+write-rest-requires c κs =
     let p = c .before .before .before .before .before .before .before .before .before .pre in
     let space = out-space (out-first (c .before .before .before .before .set-out .ensures) (c .before .before .before .before .before .before .fresh-state .ensures .2)) (p .2) (sym (c .before .before .before .is-task .ensures) ∙ c .before .before .if1 .taken) in
     (p .0, omega (arith, length-set (c .before .before .before .before .before .before .before .before .before .args .part .now) 0 (2684354560 + c .before .before .before .before .before .before .before .before .before .args .number)))
 
--- src/writer.rt:132:9
 write-tasks-requires : tie.Need-write-tasks-requires
-write-tasks-requires c κs = 
+write-tasks-requires c κs =
     let p = c .before .before .before .before .before .before .before .before .before .before .before .before .before .pre in
     let w = c .before .before .before .write-rest .ensures in
     (p .0, out-going (out-first (c .before .before .before .before .before .before .before .before .set-out .ensures) (c .before .before .before .before .before .before .before .before .before .before .fresh-state .ensures .2)) (p .2) (sym (c .before .before .before .before .before .before .before .is-task .ensures) ∙ c .before .before .before .before .before .before .if1 .taken) (c .before .before .before .before .before .before .before .before .before .before .before .before .before .args .number) _ (c .before .before .before .before .before .before .before .before .before .before .fresh-state .ensures .0) refl (w .0) (w .1))
 
--- src/writer.rt:132:9
 same-length : tie.Need-same-length
 same-length c =
     let p = c .before .before .before .before .before .before .before .before .before .before .before .before .before .before .before .before .pre in
@@ -57,7 +43,6 @@ same-length c =
     let e = (sym (c .before .before .before .before .before .before .before .before .before .before .is-task .ensures) ∙ c .before .before .before .before .before .before .before .before .before .if1 .taken) in
     c .before .before .write-tasks .ensures _ (c .before .before .before .before .before .before .before .before .before .before .before .before .before .before .before .before .args .number) (c .before .before .before .before .before .before .before .before .before .before .before .before .before .before .before .before .args .part .now) (first-going (out (p .2 .before) (p .2 .leftIs)) _ (out-space out (p .2) e) (c .before .before .before .before .before .before .before .before .before .before .before .before .before .fresh-state .ensures .0) refl (w .0) (w .1)) .text .size
 
--- src/writer.rt:132:9
 returns : tie.Need-returns
 returns c = λ before h.
     let p = c .before .before .before .before .before .before .before .before .before .before .before .before .before .before .before .before .pre in
@@ -67,9 +52,8 @@ returns c = λ before h.
     let f = out before h in
     written-some (first-some f e) (c .before .before .write-tasks .ensures before _ _ (first-going f _ (out-space out (p .2) e) (c .before .before .before .before .before .before .before .before .before .before .before .before .before .fresh-state .ensures .0) refl (w .0) (w .1)))
 
--- src/writer.rt:120:1
 returns-2 : tie.Need-returns-2
-returns-2 c = λ before h. written-none _ (first-none ((out-first (c .before .before .set-out .ensures) (c .before .before .before .before .fresh-state .ensures .2)) before h) (sym (c .before .is-task .ensures) ∙ c .if1 .left))
+returns-2 c = λ before h. written-none _ (first-none ((out-first (c .before .before .set-out .ensures) (c .before .before .before .before .fresh-state .ensures .2)) before h) (sym (c .before .is-task .ensures) ∙ c .if1 .left)) h
 
 pub write-vehicle-spec : {M : Type 1} → statement M
 write-vehicle-spec =
