@@ -9,6 +9,7 @@ pub mod GreedyForm
 pub mod GreedyLawful
 pub mod GreedyRoom
 pub mod HomeLaws
+pub mod LeftLaws
 pub mod LeftOut
 pub mod NextTasks
 pub mod OnTheRoad

@@ -3,6 +3,7 @@ pub mod Choice
 pub mod Done
 pub mod Going
 pub mod Home
+pub mod Lefts
 pub mod NextBy
 pub mod Reached
 pub mod States

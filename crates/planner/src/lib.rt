@@ -2,6 +2,7 @@
 pub mod choice;
 pub mod fleet;
 pub mod home;
+pub mod lefts;
 pub mod state;
 pub mod tasks;
 pub mod tips;
