@@ -1,4 +1,5 @@
 pub mod BuildCases
+pub mod BuiltPlans
 pub mod ChoiceLaws
 pub mod Decided
 pub mod Driving

@@ -1,4 +1,5 @@
 pub mod Build
+pub mod Built
 pub mod Choice
 pub mod Done
 pub mod Going

@@ -10,7 +10,7 @@ use marks::lowest;
 use marks::unmark;
 
 // The F words of the stops still to be routed, rising, from place `from` on; how many words there are then.
-fn write_lefts(left: Marks, part: &mut [u32], from: usize) -> usize
+pub fn write_lefts(left: Marks, part: &mut [u32], from: usize) -> usize
     requires { ⌜ from + onesOf (left .words) ≤ length (now part) ⌝ }
     ensures count { λ r. ⌜ r ≤ from + onesOf (left .words) ⌝ }
     ensures text { λ r. ⌜ LeavesAll (now (part .entry)) from left (now (part .exit)) r ⌝ }
@@ -28,7 +28,7 @@ fn write_lefts(left: Marks, part: &mut [u32], from: usize) -> usize
 }
 
 // Zeros from place `from` up to place `to`.
-fn fill_zeros(part: &mut [u32], from: usize, to: usize)
+pub fn fill_zeros(part: &mut [u32], from: usize, to: usize)
     requires { ⌜ (from ≤ to) × (to ≤ length (now part)) ⌝ }
     ensures { λ r. ⌜ now (part .exit) ≡ take from (now (part .entry)) ++ replicate (to - from) 0 ++ drop to (now (part .entry)) ⌝ }
 {
