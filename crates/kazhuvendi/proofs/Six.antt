@@ -17,3 +17,9 @@ three-values answer out e o = rw (← e) o
 pub four-values : (answer out : List ℕ) {a b c d : ℕ} → a ∷ b ∷ c ∷ d ∷ [] ≡ answer → out ≡ a ∷ b ∷ c ∷ d ∷ 0 ∷ 0 ∷ [] → out ≡ inSix answer
 unfolding inSix
 four-values answer out e o = rw (← e) o
+
+-- an answer of six values, one of them under another name
+pub six-values : (answer out : List ℕ) {a b c d e f told : ℕ} → a ∷ b ∷ c ∷ d ∷ e ∷ f ∷ [] ≡ answer → told ≡ d → out ≡ a ∷ b ∷ c ∷ told ∷ e ∷ f ∷ []
+    → out ≡ inSix answer
+unfolding inSix
+six-values answer out q t o = rw (← q, ← t) o

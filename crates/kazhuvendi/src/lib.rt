@@ -4,17 +4,29 @@ ghost use mathlib.Core.Path.{_≡_};
 ghost use mathlib.Core.List.{[], _∷_};
 ghost use lib.ListN.{length};
 ghost use Rattle.laws.specs.Answers.{inSix};
+ghost use Rattle.laws.specs.Tests.{if_then_else_};
 ghost use Rattle.day.specs.Bytes.{readAnswer, readBuffer};
 ghost use Rattle.day.specs.Day.{judgeDay};
 ghost use Rattle.checker.specs.Check.{checkPlan};
 ghost use Rattle.checker.specs.SameRounds.{sameRounds};
 ghost use Rattle.checker.specs.VehiclePlace.{vehiclePlace};
+ghost use Rattle.planner.specs.Built.{buildAnswer, buildBuffer};
 
 // All six places of an answer.
 fn write_six(out: &mut [u64; 6], a: u64, b: u64, c: u64, d: u64, e: u64, f: u64)
     ensures { λ r. ⌜ now (out .exit) ≡ a ∷ b ∷ c ∷ d ∷ e ∷ f ∷ [] ⌝ }
 {
     *out = [a, b, c, d, e, f];
+}
+
+// 1 for yes, 0 for no.
+fn yes_or_no(b: bool) -> u64
+    ensures { λ r. ⌜ r ≡ (if b then 1 else 0) ⌝ }
+{
+    if b {
+        return 1;
+    }
+    0
 }
 
 #[no_mangle]
@@ -95,6 +107,34 @@ pub extern "C" fn kz_same_rounds(day: &[u32], first: &[u32], second: &[u32], out
         checker::RoundsAnswer::Same => write_six(out, 0, 1, 0, 0, 0, 0),
         checker::RoundsAnswer::Different => write_six(out, 0, 0, 0, 0, 0, 0),
         checker::RoundsAnswer::Refused { number, place } => {
+            write_six(out, number as u64, place as u64, 0, 0, 0, 0)
+        }
+    }
+}
+
+#[no_mangle]
+pub extern "C" fn kz_build(day: &[u32], plan: &mut [u32], out: &mut [u64; 6])
+    ensures answer { λ r. ⌜ now (out .exit) ≡ inSix (buildAnswer (now (day .entry)) (length (now (plan .entry)))) ⌝ }
+    ensures buffer { λ r. ⌜ now (plan .exit) ≡ buildBuffer (now (day .entry)) (now (plan .entry)) ⌝ }
+{
+    let answer = planner::build(day, plan);
+    match answer {
+        planner::PlanAnswer::Planned {
+            distance,
+            trials,
+            settled,
+            left_out,
+            words,
+        } => write_six(
+            out,
+            0,
+            distance as u64,
+            trials,
+            yes_or_no(settled),
+            left_out as u64,
+            words as u64,
+        ),
+        planner::PlanAnswer::Refused { number, place } => {
             write_six(out, number as u64, place as u64, 0, 0, 0, 0)
         }
     }

@@ -66,7 +66,7 @@ unfolding planned
 filled day {p} {part} {now} {end} to w e l x =
     x
     ∙ ap₂ (λ (a b : List ℕ). (a ++ replicate (to - end) 0) ++ b) (ap (take end) (w .text) ∙ over-front (greedyPlan day) p end (sym (w .count)))
-      (ap (drop to) (w .text) ∙ over-later (greedyPlan day) p end to (sym (w .count)) l)
+    (ap (drop to) (w .text) ∙ over-later (greedyPlan day) p end to (sym (w .count)) l)
     ∙ ap (λ (k : ℕ). (greedyPlan day ++ replicate k 0) ++ drop to p) same
     ∙ sym (over-drop (greedyPlan day ++ replicate (5 * stops day - length (greedyPlan day)) 0) p to size)
   where

@@ -51,7 +51,7 @@ same-length c = search needs
 
 -- src/greedy.rt:38:1
 returns-2 : tie.Need-returns-2
-returns-2 c = 
+returns-2 c =
     let p = c .before .before .before .before .before .before .before .before .before .before .before .before .before .before .pre in
     let w = c .before .before .before .before .before .before .before .before .write-plan .ensures in
     let long = room-is (p .0) (c .before .before .before .before .before .before .before .before .before .before .if1 .left) in
@@ -65,7 +65,7 @@ same-length-2 c = search needs
 
 -- src/greedy.rt:38:1
 returns-3 : tie.Need-returns-3
-returns-3 c = 
+returns-3 c =
     let p = c .before .before .before .before .before .before .before .before .before .before .before .before .before .before .pre in
     let w = c .before .before .before .before .before .before .before .before .write-plan .ensures in
     let long = room-is (p .0) (c .before .before .before .before .before .before .before .before .before .before .if1 .left) in

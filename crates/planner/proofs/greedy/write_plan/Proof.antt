@@ -35,7 +35,7 @@ same-length c = search needs
 
 -- src/greedy.rt:22:1
 returns : tie.Need-returns
-returns c = 
+returns c =
     let v = c .before .before .before .before .before .before .before .before .before .before .before .before .before .write-vehicles .ensures in
     let l = c .before .before .before .before .before .before .before .before .write-lefts .ensures in
     let p = c .before .before .before .before .before .before .before .before .before .before .before .before .before .before .before .before .before .pre in
