@@ -2,8 +2,8 @@
 use Prim.Native.Nat.{_-_, _≤_}
 use borrow.Author.Needs.{needs}
 use native.Mathlib.Omega.{arith}
-use Rattle.laws.specs.Buffer.{Wrote, zeros}
 use Rattle.laws.proofs.Buffer.{zeros-start, zeros-next, zeros-end}
+use Rattle.laws.specs.Buffer.{Wrote, zeros}
 use Rattle.planner.proofs.lefts.fill_zeros.Statement.{statement}
 use Rattle.planner.proofs.lefts.fill_zeros.Tie as tie
 

@@ -1,14 +1,14 @@
 -- `planner::lefts::write_lefts` meets its contract.
 use Prim.Native.Nat.{_+_}
 use borrow.Author.Needs.{needs}
+use lib.ListN.{length, length-set}
 use mathlib.Core.Path.{_≡_, refl, _∙_}
 use native.Mathlib.Omega.{arith}
-use lib.ListN.{length, length-set}
-use Rattle.laws.specs.Marks.{marked, onesOf, Lowest}
-use Rattle.laws.proofs.Marks.{unmark-words}
 use Rattle.checker.specs.PlanWords.{leftWord}
-use Rattle.planner.specs.Lefts.{LeavesOn}
+use Rattle.laws.proofs.Marks.{unmark-words}
+use Rattle.laws.specs.Marks.{marked, onesOf, Lowest}
 use Rattle.planner.proofs.LeftLaws.{leaving-none, leaving-next, leaving-end}
+use Rattle.planner.specs.Lefts.{LeavesOn}
 use Rattle.planner.proofs.lefts.write_lefts.Statement.{statement}
 use Rattle.planner.proofs.lefts.write_lefts.Tie as tie
 
