@@ -46,9 +46,9 @@ pub left-all : (day : List ℕ) (m : Marks) (n : ℕ) → n ≡ stops day → ma
 left-all day m n e a c =
     record { are = a ∙ ap upTo e ∙ sym (none-routed (stops day)); count = c ∙ e ∙ sym (unmet-nil (stops day)) }
 
-pub underway-start : (day p : List ℕ) (m : Marks) → LeftOf day [] m → Underway day p p m 0 0 1
+pub underway-start : (day p : List ℕ) (m : Marks) (words : ℕ) → 0 < words → LeftOf day [] m → Underway day p p m 0 0 words
 unfolding roundsWords
-underway-start day p m h =
+underway-start day p m words some h =
     let none = unmet-nil (stops day) in
     record {
       taken = [];

@@ -2,15 +2,17 @@
 -- day may be any list of words.
 -- Assumes nothing.
 use Prim.Native.Nat.{ℕ, zero, suc, _+_, _*_, _≤_, _<_}
-use mathlib.Core.Path.{_≡_, refl, sym, ap, _∙_}
+use mathlib.Core.Path.{_≡_, refl, sym, ap, _∙_, subst}
 use mathlib.Core.Bool.{false, _||_}
 use mathlib.Core.List.{List, []}
 use mathlib.Core.Logic.{inl, inr}
 use mathlib.Core.Option.{none}
 use native.Mathlib.Nat.{eq-or-lt-of-le}
 use native.Mathlib.Omega.{arith}
+use lib.ListN.{length}
 use borrow.Author.Tests.{eq-eqb, ne-eqb}
-use Rattle.laws.specs.Lists.{Every, mem, times, Rising}
+use Rattle.laws.specs.Lists.{Every, mem, times, unmet, Rising}
+use Rattle.laws.specs.Tests.{if_then_else_}
 use Rattle.laws.proofs.Fresh.{once, times-other, every-weaker, unmet-most}
 use Rattle.day.specs.Fields.{stops}
 use Rattle.checker.specs.Cargo.{cargoAfter}
@@ -52,6 +54,24 @@ remaining-rising taken from k (suc r) h = elim (known (mem k taken)) [
   | inl e ↦ rw e (remaining-rising taken from (suc k) r (omega arith))
   | inr e ↦ rw e (h, remaining-rising taken k (suc k) r (omega arith))
 ]
+
+-- one number more at the end remains or does not, and so as many remain as are missing: as many as the marks have ones
+remaining-last : (taken : List ℕ) (k r : ℕ) → length (remaining taken k (suc r)) ≡ (if mem (k + r) taken then 0 else 1) + length (remaining taken k r)
+unfolding remaining
+remaining-last taken k zero =
+    let end : k + 0 ≡ k = omega arith in
+    elim (known (mem k taken)) [ inl e ↦ rw (end, e) | inr e ↦ rw (end, e) ]
+remaining-last taken k (suc r) =
+    let end : suc k + r ≡ k + suc r = omega arith in
+    let later = subst (λ (j : ℕ). length (remaining taken (suc k) (suc r)) ≡ (if mem j taken then 0 else 1) + length (remaining taken (suc k) r)) end (remaining-last taken (suc k) r) in
+    elim (known (mem k taken)) [ inl e ↦ rw e later | inr e ↦ rw e (omega (arith, later)) ]
+
+pub remaining-count : (taken : List ℕ) (n : ℕ) → length (remaining taken 1 n) ≡ unmet n taken
+unfolding remaining unmet
+remaining-count taken zero = refl
+remaining-count taken (suc n) =
+    let next : 1 + n ≡ suc n = omega arith in
+    remaining-last taken 1 n ∙ rw (next, remaining-count taken n)
 
 -- each of the r numbers is routed or remains, and remains once
 remaining-before : (taken : List ℕ) (k r j : ℕ) → j < k → times j (remaining taken k r) ≡ 0

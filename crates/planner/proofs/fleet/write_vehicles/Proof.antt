@@ -15,7 +15,7 @@ all-to-requires : tie.Need-all-to-requires Inv-loop μ-loop
 all-to-requires c κs = omega (arith, c .before .before .pre .1)
 
 loop-holds : tie.Need-loop-holds Inv-loop μ-loop
-loop-holds c = underway-start _ _ _ (left-all _ _ _ (c .before .before .before .pre .0 .stopsAre) (c .all-to .ensures .0) (c .all-to .ensures .1))
+loop-holds c = underway-start _ _ _ _ (omega arith) (left-all _ _ _ (c .before .before .before .pre .0 .stopsAre) (c .all-to .ensures .0) (c .all-to .ensures .1))
 
 add-write-vehicle : tie.Need-add-write-vehicle Inv-loop μ-loop
 add-write-vehicle c = omega (arith, number-few (c .before .loop .inv) (omega (arith, c .before .before .before .before .before .pre .0 .stopsAre, c .before .before .before .before .before .pre .1)) (c .loop-test .taken))
