@@ -1,6 +1,6 @@
 # make lib     the proved library, target/staticlib/libkazhuvendi.a
 # make test    everything that has to hold before a change is taken in
-# make demo    judges the sample day and checks a plan of it
+# make demo    judges the sample day, checks a plan of it and plans it
 # make bench   times of the library beside plain Rust
 # make fuzz    compares the library with the second implementation for SECONDS seconds;
 #              SEED=... repeats a run
