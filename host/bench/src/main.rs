@@ -1,5 +1,6 @@
 //! Times of the library beside plain Rust that does the same, both taken in the same run.
 
+mod build;
 mod check;
 mod day;
 mod table;
@@ -8,5 +9,6 @@ fn main() {
     let mut table = table::Table::default();
     day::rows(&mut table);
     check::rows(&mut table);
-    print!("{table}\n{}", check::NOTE);
+    build::rows(&mut table);
+    print!("{table}\n{}{}", check::NOTE, build::NOTE);
 }

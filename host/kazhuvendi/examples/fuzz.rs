@@ -1,4 +1,5 @@
-//! Compares the library with the second implementation on random files and plans for some seconds.
+//! Compares the library with the second implementation on random files, plans and days to plan, for
+//! some seconds.
 //! The seed comes from the clock where none is given, and is printed so that a run can be repeated.
 
 use std::error::Error;
@@ -6,6 +7,8 @@ use std::time::{Duration, Instant, SystemTime};
 
 use reference::random::Random;
 
+#[path = "../tests/compare/builds.rs"]
+mod builds;
 #[path = "../tests/compare/mod.rs"]
 mod compare;
 #[path = "../tests/compare/days.rs"]
@@ -24,11 +27,13 @@ fn main() -> Result<(), Box<dyn Error>> {
     let mut random = Random::new(seed);
     let mut tally = compare::Tally::default();
     let mut tallies = plans::Tallies::default();
+    let mut built = compare::Tally::default();
     let end = Instant::now() + Duration::from_secs(seconds);
     while Instant::now() < end {
         days::round(&mut random, &mut tally);
         plans::round(&mut random, &mut tallies);
+        builds::round(&mut random, &mut built);
     }
-    println!("days: {tally}\n{tallies}");
+    println!("days: {tally}\n{tallies}\nbuild: {built}");
     Ok(())
 }

@@ -1,8 +1,8 @@
 //! A proved planner for commercial waste rounds, called from safe Rust.
 //!
 //! A day file is read from bytes into words by [`read_words`] and judged by [`judge`]. A plan of a
-//! day is checked by [`check`]; of a lawful plan [`vehicle`] gives one vehicle's part, and
-//! [`same_rounds`] compares two. Each call gives its answer or a [`Refusal`], for any input
+//! day is written by [`build`] and checked by [`check`]; of a lawful plan [`vehicle`] gives one
+//! vehicle's part, and [`same_rounds`] compares two. Each call gives its answer or a [`Refusal`], for any input
 //! whatever, and a refusal changes no buffer. Nothing is allocated: the caller lends the buffers.
 //!
 //! ```
@@ -19,10 +19,12 @@
 //! # Ok::<(), Box<dyn std::error::Error>>(())
 //! ```
 
+mod build;
 mod plan;
 mod raw;
 mod refusal;
 
+pub use build::{build, Planned};
 pub use plan::{check, same_rounds, vehicle, vehicle_place, Totals};
 pub use refusal::Refusal;
 

@@ -23,6 +23,7 @@ extern "C" {
         l: usize,
         out: *mut [u64; 6],
     );
+    fn kz_build(day: *const u32, n: usize, plan: *mut u32, room: usize, out: *mut [u64; 6]);
 }
 
 pub fn read_words(bytes: &[u8], words: &mut [u32], out: &mut [u64; 6]) {
@@ -50,6 +51,11 @@ pub fn same_rounds(day: &[u32], first: &[u32], second: &[u32], out: &mut [u64; 6
     let (n, m, l) = (day.len(), first.len(), second.len());
     // SAFETY: as above; `out` alone is written.
     unsafe { kz_same_rounds(day.as_ptr(), n, first.as_ptr(), m, second.as_ptr(), l, out) }
+}
+
+pub fn build(day: &[u32], plan: &mut [u32], out: &mut [u64; 6]) {
+    // SAFETY: as above; `plan` and `out` are written.
+    unsafe { kz_build(day.as_ptr(), day.len(), plan.as_mut_ptr(), plan.len(), out) }
 }
 
 #[cfg(test)]
@@ -123,5 +129,24 @@ mod tests {
         let mut out = BEFORE;
         super::same_rounds(&DAY_M, &PLAN_M, &[], &mut out);
         assert_eq!(out, [8, 7, 0, 0, 0, 0]);
+    }
+
+    #[test]
+    fn building_writes_all_of_out() {
+        let mut plan = [0; 10];
+        let mut out = BEFORE;
+        super::build(&DAY_M, &mut plan, &mut out);
+        assert_eq!(out, [0, 35, 0, 0, 0, 7]);
+        let mut words = DAY_M;
+        words[11] = 0x8000_0065; // 101 kg of 100 at stop 1, which is left out
+        let mut out = BEFORE;
+        super::build(&words, &mut plan, &mut out);
+        assert_eq!(out, [0, 21, 0, 0, 1, 6]);
+        let mut out = BEFORE;
+        super::build(&DAY_M, &mut plan[..9], &mut out);
+        assert_eq!(out, [14, 10, 0, 0, 0, 0]);
+        let mut out = BEFORE;
+        super::build(&DAY_M[..30], &mut [], &mut out);
+        assert_eq!(out, [4, 30, 0, 0, 0, 0]);
     }
 }

@@ -3,13 +3,17 @@
 //! It goes another road than the proved library. A day is read front to back into [`day::Day`],
 //! a structure of stops, tips and legs, and not by working out where in the file a field stands.
 //! A plan is not walked at its earliest minutes: [`check`] asks each rule by itself for the first
-//! word that breaks it, and [`timetable`] looks for minutes from the last word backwards. It is
-//! there to be compared with, so it is written to be read and not to be fast; [`plain`] is the
-//! ordinary Rust that the benchmark sets beside the library.
+//! word that breaks it, and [`timetable`] looks for minutes from the last word backwards. The
+//! greedy build, [`build`], carries nothing along: it replays a vehicle from the depot for each
+//! question, and sorts what could come next. It is there to be compared with, so it is written to be
+//! read and not to be fast; [`plain`] is the ordinary Rust that the benchmark sets beside the
+//! library.
 //!
 //! Beside it stand the answers that were worked out by hand, and days and plans made up at random
 //! to compare the two on.
 
+pub mod build;
+pub mod build_days;
 pub mod bytes;
 pub mod check;
 mod cursor;
@@ -29,6 +33,7 @@ pub mod timetable;
 pub mod word;
 pub mod workdays;
 pub mod worked;
+pub mod worked_builds;
 pub mod worked_plans;
 
 /// "Each refusal returns its number and a place."

@@ -1,10 +1,14 @@
-//! The judge, byte reading and the check as ordinary Rust: loops that leave at the first fault, no
-//! allocation, no step taken for the sake of a benchmark. The library's times are set beside it.
+//! The judge, byte reading, the check and the greedy build as ordinary Rust: loops that leave at the
+//! first fault, no allocation, no step taken for the sake of a benchmark. The library's times are set
+//! beside it.
 
+mod build;
 mod check;
+mod fields;
 
 use crate::Refusal;
 
+pub use build::{build, build_accepted, Planned};
 pub use check::{check, check_accepted};
 
 /// The stops and tips of an accepted day, or the first of refusals 1 to 5.

@@ -154,6 +154,15 @@ pub const CHANGES: &[(usize, u32, u64)] = &[
     (29, 0xB00A_0007, 2),
 ];
 
+/// Day M with other words at these indices.
+pub fn with_words(changes: &[(usize, u32)]) -> [u32; 31] {
+    let mut words = DAY_M;
+    for &(index, word) in changes {
+        words[index] = word;
+    }
+    words
+}
+
 /// Day M with one of these changes, and the number and place that are then refused.
 pub fn changed(change: &(usize, u32, u64)) -> ([u32; 31], Option<(u64, u64)>) {
     let &(index, word, number) = change;

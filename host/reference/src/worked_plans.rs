@@ -4,7 +4,7 @@
 
 use crate::day::Day;
 use crate::samples::day_m;
-use crate::worked::DAY_M;
+use crate::worked::with_words;
 
 /// Distance, vehicles and stops served; or number and place of the refusal.
 pub type Answer = Result<(u64, u64, u64), (u64, u64)>;
@@ -191,11 +191,7 @@ pub const RULES: &[Worked] = &[
 
 /// Day M with the changes of a worked plan.
 pub fn day_of(worked: &Worked) -> [u32; 31] {
-    let mut words = DAY_M;
-    for &(index, word) in worked.1 {
-        words[index] = word;
-    }
-    words
+    with_words(worked.1)
 }
 
 /// A day like day M, and a lawful plan of it of any length from 5 words on, as far as the limit of

@@ -69,6 +69,16 @@ static void same_rounds(const char *name, const uint32_t *second, size_t l)
     print(name, out);
 }
 
+static void build(const char *name, size_t room)
+{
+    uint32_t plan[12] = {7, 7, 7, 7, 7, 7, 7, 7, 7, 7, 7, 7};
+    uint64_t out[6] = {99, 99, 99, 99, 99, 99};
+    kz_build(day_m, 31, plan, room, out);
+    print(name, out);
+    for (int i = 0; i < 12; i++)
+        printf("%" PRIX32 "%s", plan[i], i < 11 ? " " : "\n");
+}
+
 static void read_words(const char *name, size_t n, size_t room)
 {
     uint32_t words[9] = {7, 7, 7, 7, 7, 7, 7, 7, 7};
@@ -101,9 +111,14 @@ int main(void)
     same_rounds("other", two_vehicles, 8);
     same_rounds("longer", zeros, 4097);
     same_rounds("nothing", NULL, 0);
+    build("built", 11);
+    build("narrow", 9);
+    day_m[11] = 0x80000065;
+    build("left", 10);
     day_m[5] = 0x6003C01E;
     judge("window", day_m, 31);
     check("day", plan_m, 7);
+    build("before", 0);
     day_m[4] = 0x40000064;
     judge("kind", day_m, 31);
     day_m[0] = 0x10000002;

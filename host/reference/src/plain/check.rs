@@ -1,6 +1,7 @@
 //! The check of a plan as ordinary Rust: one walk over the words at the earliest minutes, fields
 //! read from the day file where they are needed, marks in an array.
 
+use super::fields::{number, Fields, Window};
 use super::{judge, refuse};
 use crate::check::{Totals, MOST_WORDS};
 use crate::Refusal;
@@ -43,65 +44,6 @@ pub fn check_accepted(day: &[u32], plan: &[u32]) -> Result<Totals, Refusal> {
         return refuse(8, plan.len());
     }
     Ok(walk.totals)
-}
-
-#[derive(Clone, Copy)]
-struct Window {
-    opening: u32,
-    closing: u32,
-}
-
-impl Window {
-    fn of(word: u32) -> Window {
-        Window { opening: word >> 12 & 0xFFF, closing: word & 0xFFF }
-    }
-}
-
-/// The day file, with what every word of a plan may ask for at hand.
-struct Fields<'a> {
-    tips: usize,
-    stops: usize,
-    load: u32,
-    day_load: u32,
-    day_stops: u32,
-    depot: Window,
-    rest: Window,
-    rest_minutes: u32,
-    tip_words: &'a [u32],
-    stop_words: &'a [u32],
-    legs: &'a [u32],
-}
-
-impl<'a> Fields<'a> {
-    fn new(day: &'a [u32]) -> Self {
-        let tips = (day[0] >> 8 & 15) as usize;
-        let stops = (day[0] & 255) as usize;
-        let (tip_words, behind) = day[7..].split_at(2 * tips);
-        let (stop_words, legs) = behind.split_at(3 * stops);
-        Fields {
-            tips,
-            stops,
-            load: number(day[1]),
-            day_load: number(day[2]),
-            day_stops: number(day[3]),
-            depot: Window::of(day[4]),
-            rest: Window::of(day[5]),
-            rest_minutes: number(day[6]),
-            tip_words,
-            stop_words,
-            legs,
-        }
-    }
-
-    /// Minutes and distance.
-    fn leg(&self, from: usize, to: usize) -> (u32, u32) {
-        let word = self.legs[from * (1 + self.tips + self.stops) + to];
-        (word >> 16 & 0xFFF, word & 0xFFFF)
-    }
-}
-
-fn number(word: u32) -> u32 {
-    word & 0x07FF_FFFF
 }
 
 /// What the vehicle under way has done so far.
