@@ -28,6 +28,7 @@ test:
 demo: lib
 	@$(RUN) -p kazhuvendi --example judge_day -- ../examples/day-m.day
 	@$(RUN) -p kazhuvendi --example check_plan -- ../examples/day-m.day ../examples/day-m.plan
+	@$(RUN) -p kazhuvendi --example plan_day -- ../examples/day-m.day
 
 bench: lib
 	@$(RUN) -p bench

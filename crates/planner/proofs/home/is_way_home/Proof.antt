@@ -9,7 +9,10 @@ rest-if-due-requires : tie.Need-rest-if-due-requires
 rest-if-due-requires c κs = search needs
 
 is-home-direct-requires : tie.Need-is-home-direct-requires
-is-home-direct-requires c κs = let s = rest-small _ _ _ _ (c .before .before .before .pre .1) (c .before .rest-if-due .ensures) in (search needs, omega (arith, s .place), omega (arith, s .minute))
+is-home-direct-requires c κs =
+    let t = c .before .before .before .pre .1 in
+    let s = rest-small _ _ _ _ t (c .before .rest-if-due .ensures) in
+    (search needs, omega (arith, s .place, t .place), omega (arith, s .minute, t .minute))
 
 returns : tie.Need-returns
 returns c = search empty-home
