@@ -1,7 +1,7 @@
 -- The bounds of the walk: a word that passes keeps minutes and loads small, since they are at most a limit of the day's, and adds at most
 -- one to each count and one leg to each distance. Assumes nothing.
 use Prim.Native.Nat.{ℕ, _+_, _*_, _<_, _≤_}
-use mathlib.Core.Path.{_≡_, refl, sym}
+use mathlib.Core.Path.{_≡_, refl}
 use mathlib.Core.Bool.{Bool, true, false, false≢true}
 use mathlib.Core.List.{List}
 use native.Mathlib.Omega.{arith}

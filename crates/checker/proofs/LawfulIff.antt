@@ -1,6 +1,6 @@
 -- Demand 2: a plan is called lawful exactly when it has document 01's form, meets its loads and counts, and a timetable exists; its
 -- distance, vehicles and stops served are document 01's. Assumes nothing.
-use Prim.Native.Nat.{ℕ, zero, suc, _+_, _≤_, _<_}
+use Prim.Native.Nat.{ℕ, suc, _+_, _≤_, _<_}
 use mathlib.Core.Path.{_≡_, refl, sym, ap, ap₂, _∙_}
 use mathlib.Core.Bool.{Bool, true, false, false≢true}
 use mathlib.Core.List.{List, [], _∷_, _++_}
@@ -10,24 +10,24 @@ use lib.ListN.{length}
 use lib.Dec.{ltb, eqb}
 use borrow.Author.Tests.{eqb-false, ltb-false, ne-eqb}
 use Rattle.laws.specs.Answers.{given, refused, isGiven}
-use Rattle.laws.specs.Lists.{Every, unmet, total, collect}
+use Rattle.laws.specs.Lists.{Every, unmet, total}
 use Rattle.laws.specs.Tests.{if_then_else_}
 use Rattle.laws.proofs.Fresh.{fresh-once}
 use Rattle.laws.proofs.Tests.{only-second}
 use Rattle.day.specs.Accepted.{IsAccepted}
 use Rattle.day.specs.Day.{judgeDay}
-use Rattle.day.specs.Fields.{tips, stops}
+use Rattle.day.specs.Fields.{stops}
 use Rattle.day.proofs.Answered.{Judged, accepted, refusal, day-judged, given-accepted}
 use Rattle.checker.specs.Check.{Walk, start, faultAt, walkAfter, finished, checkFrom, checkWords, checkPlan}
 use Rattle.checker.specs.Lawful.{Loads, Timed, Lawful, totals, distanceFrom}
-use Rattle.checker.specs.Plan.{Round, planWords, stopsOnAll, Formed}
+use Rattle.checker.specs.Plan.{Round, planWords, stopsOnAll}
 use Rattle.checker.specs.PlanWords.{wordOf}
 use Rattle.checker.specs.Trip.{leaving}
 use Rattle.checker.specs.Vehicles.{Clear, tripHome}
 use Rattle.checker.proofs.Clear.{clear-loads, clear-timed, timed-clear}
 use Rattle.checker.proofs.Passing.{given-not-refused}
 use Rattle.checker.proofs.PlanChecks.{plan-check}
-use Rattle.checker.proofs.PlanParsing.{InPlan, plan-parse}
+use Rattle.checker.proofs.PlanParsing.{plan-parse}
 use Rattle.checker.proofs.Timetables.{home-distance}
 
 -- an answer of the check: distance, vehicles and stops served, or a refusal's number and place

@@ -1,27 +1,25 @@
 -- A plan that the check answers has document 01's form, and each of its vehicles is clear by itself: the words are taken apart from the
 -- front, vehicle by vehicle. Assumes nothing.
-use Prim.Native.Nat.{ℕ, zero, suc, _+_, _≤_, _<_}
+use Prim.Native.Nat.{ℕ, suc, _+_, _≤_, _<_}
 use mathlib.Core.Path.{_≡_, refl, sym, ap, ap₂, _∙_}
-use mathlib.Core.Bool.{Bool, true, false, not, _&&_, true≢false, false≢true}
-use mathlib.Core.List.{List, [], _∷_, _++_, map, append-assoc}
+use mathlib.Core.Bool.{Bool, true, false, not, _&&_, false≢true}
+use mathlib.Core.List.{List, [], _∷_, _++_, map}
 use native.Mathlib.Omega.{arith}
-use lib.ListN.{length, length-append}
+use lib.ListN.{length}
 use lib.Dec.{ltb, eqb}
 use borrow.Author.Tests.{ltb-true, ltb-false, eqb-true}
 use Rattle.laws.specs.Answers.{given, refused}
-use Rattle.laws.specs.Lists.{Every, mem, unmet, collect, Fresh, Rising}
+use Rattle.laws.specs.Lists.{Every, unmet, collect, Fresh, Rising}
 use Rattle.laws.specs.Tests.{if_then_else_}
-use Rattle.laws.proofs.Fresh.{collect-append, fresh-append}
 use Rattle.laws.proofs.Tests.{both-true}
 use Rattle.day.specs.Fields.{tips, stops}
 use Rattle.checker.specs.Cargo.{cargoAfter}
 use Rattle.checker.specs.Check.{within, wellFormed, metAgain, metAfter, tallyAfter, Walk, walkAfter, finished, checkFrom}
-use Rattle.checker.specs.Plan.{Task, serve, empty, lunch, Round, taskWord, roundWords, roundsWords, stopsOn, stopsOnAll, Known}
-use Rattle.checker.specs.PlanWords.{Word, vehicle, stop, tip, rest, back, left, stray, vehicleWord, backWord, leftWord, wordOf}
-use Rattle.checker.specs.Vehicles.{CargoClear, TripClear, Clear, walkTasks, walkRound}
+use Rattle.checker.specs.Plan.{serve, empty, lunch, Round, taskWord, stopsOn, Known}
+use Rattle.checker.specs.PlanWords.{Word, stop, tip, rest, back, left, backWord, leftWord}
+use Rattle.checker.specs.Vehicles.{CargoClear, TripClear, walkTasks}
 use Rattle.checker.proofs.Forming.{within-both}
 use Rattle.checker.proofs.Passing.{Passes, answer-passes, given-not-refused}
-use Rattle.checker.proofs.RoundWalks.{after-round}
 use Rattle.checker.proofs.WordForms.{Apart, isVehicle, isStop, isTip, isRest, isBack, isLeft, isStray, apart}
 
 -- what a test of a vehicle's word needs

@@ -1,17 +1,17 @@
 -- A word that passes: what it passed, what lets it pass, and what that does to the check of the words behind it.
 -- Assumes nothing.
-use Prim.Native.Nat.{ℕ, suc, _≤_, _<_}
-use mathlib.Core.Path.{_≡_, refl, sym, ap, _∙_}
-use mathlib.Core.Bool.{Bool, true, false, not, true≢false}
+use Prim.Native.Nat.{ℕ, suc}
+use mathlib.Core.Path.{_≡_, refl, ap}
+use mathlib.Core.Bool.{Bool, true, false, not}
 use mathlib.Core.List.{List, [], _∷_}
 use native.Mathlib.Omega.{arith}
 use lib.ListN.{length}
 use lib.Dec.{eqb}
-use borrow.Author.Tests.{eq-eqb, ne-eqb, eqb-true, eqb-false, not-false}
-use Rattle.laws.specs.Answers.{given, refused, isGiven}
-use Rattle.laws.specs.Tests.{if_then_else_, neb}
+use borrow.Author.Tests.{eq-eqb, eqb-true, eqb-false}
+use Rattle.laws.specs.Answers.{given, refused}
+use Rattle.laws.specs.Tests.{if_then_else_}
 use Rattle.checker.specs.Cargo.{cargoFault}
-use Rattle.checker.specs.Check.{wellFormed, metAgain, Walk, faultAt, walkAfter, finished, checkFrom}
+use Rattle.checker.specs.Check.{wellFormed, metAgain, Walk, faultAt, walkAfter, checkFrom}
 use Rattle.checker.specs.PlanWords.{Word, wordOf}
 use Rattle.checker.specs.Trip.{tripFault}
 

@@ -1,7 +1,7 @@
 -- What the calls over the check rely on: whether the check's answer is a refusal, and how large its place is.
 -- Assumes nothing.
-use Prim.Native.Nat.{ℕ, suc, _+_, _/_, _≤_, _<_}
-use mathlib.Core.Path.{_≡_, refl, sym, ap, subst, _∙_}
+use Prim.Native.Nat.{ℕ, suc, _+_, _/_, _≤_}
+use mathlib.Core.Path.{_≡_, refl, ap, _∙_}
 use mathlib.Core.Bool.{Bool, true, false}
 use mathlib.Core.List.{List, [], _∷_}
 use native.Mathlib.Omega.{arith}
@@ -15,7 +15,7 @@ use Rattle.day.specs.Fields.{stops}
 use Rattle.laws.specs.Lists.{unmet}
 use Rattle.checker.specs.Check.{Walk, start, faultAt, walkAfter, finished, checkFrom, checkWords, checkPlan}
 use Rattle.checker.specs.PlanWords.{backWord, wordOf}
-use Rattle.checker.specs.SameRounds.{counted, sameWords, behind, secondAnswer, sameRounds}
+use Rattle.checker.specs.SameRounds.{counted, sameWords, secondAnswer, sameRounds}
 use Rattle.checker.specs.VehiclePlace.{isVehicle, wordsToBack, placeFrom, vehiclePlace, vehicleWords}
 use Rattle.checker.proofs.LawfulIff.{Checked, lawful, fault, words-checked}
 

@@ -1,26 +1,25 @@
 -- A plan put together: the check of vehicles, then of F words, gives the totals. What a plan needs for that is its form and that each
 -- vehicle is clear by itself. Assumes nothing.
 use Prim.Native.Nat.{ℕ, suc, _+_, _≤_, _<_}
-use mathlib.Core.Path.{_≡_, refl, sym, ap, ap₂, _∙_}
-use mathlib.Core.Bool.{Bool, true, false, not, _&&_}
+use mathlib.Core.Path.{_≡_, refl, ap, _∙_}
+use mathlib.Core.Bool.{false}
 use mathlib.Core.List.{List, [], _∷_, _++_, map, append-assoc}
 use native.Mathlib.Omega.{arith}
 use lib.ListN.{length, length-append}
-use lib.Dec.{leb, ltb, eqb}
 use borrow.Author.Tests.{lt-ltb, le-ltb}
 use Rattle.laws.specs.Answers.{given}
-use Rattle.laws.specs.Lists.{Every, mem, times, unmet, total, collect, Fresh, Rising}
+use Rattle.laws.specs.Lists.{Every, mem, unmet, total, collect, Fresh, Rising}
 use Rattle.laws.proofs.Fresh.{collect-append, every-append, fresh-first, fresh-second, fresh-length, once-fresh, once-all, unmet-most}
 use Rattle.day.specs.Fields.{stops}
-use Rattle.checker.specs.Cargo.{cargoFault, cargoAfter}
-use Rattle.checker.specs.Check.{within, wellFormed, metAgain, metAfter, tallyAfter, Walk, start, walkAfter, finished, checkFrom, checkWords}
-use Rattle.checker.specs.Plan.{Task, serve, empty, lunch, Round, roundWords, roundsWords, planWords, stopsOn, stopsOnAll, Known, Formed}
+use Rattle.checker.specs.Cargo.{cargoFault}
+use Rattle.checker.specs.Check.{wellFormed, metAgain, metAfter, tallyAfter, Walk, start, walkAfter, finished, checkFrom, checkWords}
+use Rattle.checker.specs.Plan.{serve, empty, lunch, Round, roundWords, roundsWords, planWords, stopsOn, stopsOnAll, Known, Formed}
 use Rattle.checker.specs.PlanWords.{left, leftWord}
 use Rattle.checker.specs.Trip.{leaving}
 use Rattle.checker.specs.Vehicles.{Clear, tripHome, walkRound, walkRounds}
 use Rattle.checker.proofs.Passing.{Passes, word-passes}
 use Rattle.checker.proofs.RoundChecks.{within-true, round-check}
-use Rattle.checker.proofs.RoundWalks.{AfterRounds, after-round, after-rounds}
+use Rattle.checker.proofs.RoundWalks.{after-round, after-rounds}
 use Rattle.checker.proofs.WordForms.{left-form}
 
 -- the vehicles of a plan, one behind the other

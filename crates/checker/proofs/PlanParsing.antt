@@ -1,7 +1,7 @@
 -- The whole plan taken apart: vehicles, then F words. Assumes nothing.
 use Prim.Native.Nat.{ℕ, zero, suc, _+_, _≤_, _<_}
 use mathlib.Core.Path.{_≡_, refl, sym, ap, ap₂, _∙_}
-use mathlib.Core.Bool.{Bool, true, false, not, _&&_, false≢true}
+use mathlib.Core.Bool.{true, false, not, _&&_, false≢true}
 use mathlib.Core.List.{List, [], _∷_, _++_, map, append-assoc}
 use native.Mathlib.Omega.{arith}
 use lib.ListN.{length, length-append}
@@ -15,11 +15,11 @@ use Rattle.day.specs.Fields.{stops}
 use Rattle.checker.specs.Cargo.{cargoAfter}
 use Rattle.checker.specs.Check.{within, wellFormed, metAfter, tallyAfter, Walk, walkAfter, checkFrom}
 use Rattle.checker.specs.Plan.{Round, taskWord, roundWords, roundsWords, stopsOn, stopsOnAll, Known}
-use Rattle.checker.specs.PlanWords.{Word, vehicle, back, left, vehicleWord, backWord, leftWord}
-use Rattle.checker.specs.Vehicles.{Clear, walkTasks, walkRound}
+use Rattle.checker.specs.PlanWords.{Word, vehicle, left, vehicleWord, backWord, leftWord}
+use Rattle.checker.specs.Vehicles.{Clear, walkRound}
 use Rattle.checker.proofs.Parsing.{inside-needed, InRound, inside-parse, InLefts, none-missing, left-first, lefts-parse}
 use Rattle.checker.proofs.Passing.{Passes, answer-passes}
-use Rattle.checker.proofs.RoundWalks.{AfterRound, after-round}
+use Rattle.checker.proofs.RoundWalks.{after-round}
 use Rattle.checker.proofs.WordForms.{Apart, isVehicle, isStop, isTip, isRest, isBack, isLeft, isStray, apart}
 
 -- the rest of a plan, where no vehicle is out and no stop was left out yet

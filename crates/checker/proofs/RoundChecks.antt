@@ -1,26 +1,23 @@
 -- Vehicles put together: what the check says of a plan from what it says of its vehicles and its F words. Every vehicle that is clear by
 -- itself, whose numbers are known and whose stops are new, takes the check from one side of its words to the other.
 -- Assumes nothing.
-use Prim.Native.Nat.{ℕ, zero, suc, _+_, _≤_, _<_}
-use mathlib.Core.Path.{_≡_, refl, sym, ap, ap₂, _∙_}
-use mathlib.Core.Bool.{Bool, true, false, not, _&&_}
+use Prim.Native.Nat.{ℕ, suc, _+_, _≤_, _<_}
+use mathlib.Core.Path.{_≡_, refl, ap, ap₂, _∙_}
+use mathlib.Core.Bool.{true, false}
 use mathlib.Core.List.{List, [], _∷_, _++_, map, append-assoc}
 use native.Mathlib.Omega.{arith}
 use lib.ListN.{length, length-append}
-use lib.Dec.{leb, ltb, eqb}
 use borrow.Author.Tests.{le-leb, lt-ltb, eq-eqb}
-use Rattle.laws.specs.Lists.{Every, mem, collect, Fresh, Rising}
-use Rattle.laws.proofs.Fresh.{fresh-first, fresh-second}
+use Rattle.laws.specs.Lists.{Every, Fresh}
 use Rattle.day.specs.Fields.{tips, stops}
 use Rattle.checker.specs.Cargo.{cargoFault, cargoAfter}
 use Rattle.checker.specs.Check.{within, wellFormed, metAgain, metAfter, tallyAfter, Walk, walkAfter, checkFrom}
-use Rattle.checker.specs.Plan.{Task, serve, empty, lunch, Round, taskWord, roundWords, roundsWords, stopsOn, stopsOnAll, Known}
-use Rattle.checker.specs.PlanWords.{Word, vehicle, back, left, vehicleWord, backWord, leftWord, wordOf}
-use Rattle.checker.specs.Trip.{tripFault, tripAfter}
-use Rattle.checker.specs.Vehicles.{wordFor, CargoClear, TripClear, Clear, walkTasks, walkRound, walkRounds}
+use Rattle.checker.specs.Plan.{Task, serve, empty, lunch, Round, taskWord, roundWords, stopsOn, Known}
+use Rattle.checker.specs.PlanWords.{vehicle, back, vehicleWord, backWord, wordOf}
+use Rattle.checker.specs.Trip.{tripFault}
+use Rattle.checker.specs.Vehicles.{wordFor, CargoClear, TripClear, Clear, walkTasks, walkRound}
 use Rattle.checker.proofs.Passing.{Passes, word-passes}
-use Rattle.checker.proofs.RoundWalks.{AfterTasks, after-tasks, AfterRound, after-round}
-use Rattle.checker.proofs.WordForms.{stop-form, tip-form, vehicle-form, left-form, rest-form, back-form}
+use Rattle.checker.proofs.WordForms.{stop-form, tip-form, vehicle-form, rest-form, back-form}
 
 -- a number of 1 to the most
 pub within-true : (most k : ℕ) → 1 ≤ k → k ≤ most → within most k ≡ true

@@ -1,16 +1,16 @@
 -- What a walk is after a vehicle, and after several: counts, distance and the stops met.
 -- Assumes nothing.
-use Prim.Native.Nat.{ℕ, suc, _+_}
+use Prim.Native.Nat.{ℕ, _+_}
 use mathlib.Core.Path.{_≡_, refl, sym, ap, _∙_}
-use mathlib.Core.Bool.{Bool, true, false}
-use mathlib.Core.List.{List, [], _∷_, _++_}
+use mathlib.Core.Bool.{false}
+use mathlib.Core.List.{List, [], _∷_}
 use native.Mathlib.Omega.{arith}
 use lib.ListN.{length, length-append}
 use Rattle.laws.specs.Lists.{total, collect}
 use Rattle.laws.proofs.Fresh.{collect-append}
 use Rattle.checker.specs.Cargo.{cargoAfter}
 use Rattle.checker.specs.Check.{Walk, metAfter, tallyAfter, walkAfter}
-use Rattle.checker.specs.Plan.{Task, serve, empty, lunch, Round, stopsOn, stopsOnAll}
+use Rattle.checker.specs.Plan.{serve, empty, lunch, Round, stopsOn, stopsOnAll}
 use Rattle.checker.specs.PlanWords.{vehicle, back}
 use Rattle.checker.specs.Trip.{leaving, tripAfter}
 use Rattle.checker.specs.declared.walk.Trip.{Trip}

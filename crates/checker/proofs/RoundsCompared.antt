@@ -1,7 +1,7 @@
 -- The words that count, gone through side by side: one law for each way through the functions that compare two plans.
 -- Assumes nothing.
 use Prim.Native.Nat.{ℕ, _+_, _/_, _≤_, _<_}
-use mathlib.Core.Path.{_≡_, refl, sym, ap, ap₂, _∙_}
+use mathlib.Core.Path.{_≡_, refl, sym, ap₂, _∙_}
 use mathlib.Core.Bool.{Bool, true, false}
 use mathlib.Core.List.{List, [], _∷_}
 use native.Mathlib.Numerals.{add-one}

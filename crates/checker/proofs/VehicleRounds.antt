@@ -1,25 +1,21 @@
 -- One vehicle's words in a lawful plan are that vehicle's: A, its tasks, E. Where there is no such vehicle the companion refuses.
 -- Assumes nothing.
 use Prim.Native.Nat.{ℕ, suc, _+_, _≤_, _<_}
-use mathlib.Core.Path.{_≡_, refl, sym, ap, ap₂, _∙_}
-use mathlib.Core.Bool.{true, false}
+use mathlib.Core.Path.{_≡_, refl, sym, ap, _∙_}
+use mathlib.Core.Bool.{false}
 use mathlib.Core.List.{List, [], _∷_, _++_, map, append-assoc}
 use native.Mathlib.Omega.{arith}
-use lib.ListN.{length, length-append, take, drop}
+use lib.ListN.{length, length-append, take}
 use lib.Seq.{take-at, drop-at}
-use lib.Dec.{eqb}
 use borrow.Author.Tests.{eq-eqb, ne-eqb}
-use Rattle.laws.specs.Answers.{given, refused, isGiven}
+use Rattle.laws.specs.Answers.{given, refused}
 use Rattle.laws.specs.Lists.{Every}
-use Rattle.laws.specs.Tests.{if_then_else_}
 use Rattle.day.specs.Accepted.{IsAccepted}
 use Rattle.day.specs.Fields.{stops}
-use Rattle.checker.specs.Check.{checkPlan}
-use Rattle.checker.specs.Lawful.{Lawful, totals}
+use Rattle.checker.specs.Lawful.{Lawful}
 use Rattle.checker.specs.Plan.{Task, serve, empty, lunch, Round, taskWord, roundWords, roundsWords, planWords, Known}
-use Rattle.checker.specs.PlanWords.{Word, stop, tip, rest, back, left, vehicle, vehicleWord, backWord, leftWord, wordOf}
+use Rattle.checker.specs.PlanWords.{vehicleWord, backWord, leftWord, wordOf}
 use Rattle.checker.specs.VehiclePlace.{isVehicle, wordsToBack, placeFrom, vehiclePlace, vehicleWords}
-use Rattle.checker.specs.Vehicles.{wordFor}
 use Rattle.checker.proofs.LawfulIff.{lawful-totals}
 use Rattle.checker.proofs.PlanChecks.{few-rounds}
 use Rattle.checker.proofs.RoundChecks.{task-form}

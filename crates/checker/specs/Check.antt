@@ -1,7 +1,7 @@
 -- The check of a plan, word by word at its earliest minutes: document 01, "Plan and timetable"; refusals 6 to 12 with their places.
 -- The declarative side, which says what lawful means without a walk, is Lawful.antt; `lawful-iff` joins the two. Assumes nothing.
 use Prim.Native.Nat.{ℕ, suc, _+_}
-use mathlib.Core.Bool.{Bool, true, false, not, _&&_, _||_}
+use mathlib.Core.Bool.{Bool, true, false, not, _&&_}
 use mathlib.Core.List.{List, [], _∷_}
 use lib.ListN.{length}
 use lib.Dec.{ltb, leb, eqb}

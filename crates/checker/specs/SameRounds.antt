@@ -1,7 +1,7 @@
 -- Same rounds: document 01, "two lawful plans whose vehicles, in order, visit the same stops in order; tips and rests don't count".
 -- Assumes nothing.
 use Prim.Native.Nat.{ℕ, _+_}
-use mathlib.Core.Bool.{Bool, true, false, _&&_}
+use mathlib.Core.Bool.{Bool, true, false}
 use mathlib.Core.List.{List, [], _∷_}
 use lib.ListN.{length, getD}
 use lib.Dec.{eqb}

@@ -1,6 +1,6 @@
 -- Where and when a vehicle is, at its earliest minutes: document 01, "Plan and timetable"; refusals 11 and 12. Assumes nothing.
 use Prim.Native.Nat.{ℕ, _+_, max}
-use mathlib.Core.Bool.{Bool, true, false}
+use mathlib.Core.Bool.{true, false}
 use mathlib.Core.List.{List}
 use lib.Dec.{ltb}
 use Rattle.laws.specs.Tests.{if_then_else_}

@@ -1,13 +1,13 @@
 -- What the word at an index holds, part by part: head, tips, stops, legs.
 -- Assumes nothing.
 use Prim.Native.Nat.{ℕ, _+_, _-_, _*_, _/_, _%_, _<_, _≤_}
-use mathlib.Core.Path.{_≡_, refl, ap, _∙_}
+use mathlib.Core.Path.{_≡_, ap, _∙_}
 use native.Mathlib.Nat.{mul-le-mul, mul-le-mul-right, suc-mul, mul-add-div-right, mul-add-mod-self-right, div-eq-of-lt, mod-eq-of-lt}
 use native.Mathlib.Omega.{arith}
 use lib.Dec.{eqb}
 use borrow.Author.Tests.{lt-ltb, le-ltb, eq-eqb, ne-eqb}
 use Rattle.laws.specs.Tests.{if_then_else_}
-use Rattle.day.specs.Day.{Form, lone, window, leg, stay, placesOf, tipsEnd, legsAt, wordsOf, headForm, tipForm, stopForm, legForm, formAt}
+use Rattle.day.specs.Day.{lone, window, leg, stay, placesOf, tipsEnd, legsAt, wordsOf, headForm, tipForm, stopForm, legForm, formAt}
 use Rattle.day.specs.Fields.{legIndex}
 
 pub head-form : (d n i : ℕ) → i < 7 → formAt d n i ≡ headForm i

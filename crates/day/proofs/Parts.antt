@@ -1,18 +1,15 @@
 -- The judge by parts: what one word adds to the answer, and one law for each way through the functions that look at a part.
 -- Assumes nothing.
-use Prim.Native.Nat.{ℕ, zero, suc, _+_, _-_, _*_, _<_, _≤_}
-use mathlib.Core.Path.{_≡_, refl, sym, ap, _∙_}
+use Prim.Native.Nat.{ℕ, _+_, _-_, _*_, _<_, _≤_}
+use mathlib.Core.Path.{_≡_, refl, sym, _∙_}
 use mathlib.Core.List.{List, [], _∷_}
-use mathlib.Core.Bool.{Bool, true, false}
 use native.Mathlib.Numerals.{add-one}
 use native.Mathlib.Omega.{arith}
-use lib.ListN.{length, getD, drop, drop-of-length-le}
+use lib.ListN.{length, getD, drop-of-length-le}
 use lib.Seq.{drop-cons}
-use lib.Dec.{eqb}
-use borrow.Author.Tests.{eq-eqb, ne-eqb, eqb-true, eqb-false}
+use borrow.Author.Tests.{eq-eqb, ne-eqb}
 use Rattle.laws.specs.Answers.{given, refused}
-use Rattle.laws.specs.Tests.{if_then_else_}
-use Rattle.day.specs.Day.{Form, lone, window, placesOf, tipsEnd, legsAt, wordsOf, headForm, formAt, faultOf, judgeFrom}
+use Rattle.day.specs.Day.{Form, lone, window, tipsEnd, legsAt, wordsOf, headForm, formAt, faultOf, judgeFrom}
 use Rattle.day.specs.Judging.{judgedFrom, judgedAfter, Whole}
 use Rattle.day.specs.declared.faults.Fault.{Fault}
 use Rattle.day.proofs.Forms.{legs-few, head-form, tip-window-form, tip-service-form, stop-window-form, stop-service-form, stop-quantity-form}

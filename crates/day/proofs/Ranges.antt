@@ -1,6 +1,6 @@
 -- The ranges of an accepted day: what `Accepted` says, from no word being at fault.
 -- Assumes nothing.
-use Prim.Native.Nat.{ℕ, _+_, _-_, _*_, _/_, _%_, _<_, _≤_}
+use Prim.Native.Nat.{ℕ, _+_, _-_, _*_, _%_, _<_, _≤_}
 use mathlib.Core.Path.{_≡_, refl, sym, subst, _∙_}
 use mathlib.Core.List.{List}
 use mathlib.Core.Bool.{Bool, true, false}
@@ -8,11 +8,11 @@ use native.Mathlib.Decide.{decLe, ℕ-discrete}
 use native.Mathlib.Omega.{arith}
 use lib.ListN.{length}
 use lib.Dec.{eqb}
-use borrow.Author.Tests.{eq-eqb, eqb-true}
+use borrow.Author.Tests.{eq-eqb}
 use Rattle.laws.specs.Tests.{if_then_else_}
 use Rattle.day.specs.Accepted.{IsAccepted, Accepted}
-use Rattle.day.specs.Day.{Form, lone, window, leg, stay, loneNumber, windowOpening, windowClosing, minutesOf, wordsOf, headForm, formAt, faultOf}
-use Rattle.day.specs.Fields.{wordAt, tips, stops, places, stopPlace, windowIndex, opening, closing, service, quantity, legIndex, legWord, legMinutes, legDistance}
+use Rattle.day.specs.Day.{Form, lone, window, leg, stay, headForm, formAt, faultOf}
+use Rattle.day.specs.Fields.{wordAt, tips, stops, places, stopPlace, windowIndex, opening, closing, service, legIndex, legWord, legMinutes}
 use Rattle.day.proofs.Answered.{Faultless, given-faultless}
 use Rattle.day.proofs.Forms.{head-form, tip-window-form, tip-service-form, stop-window-form, stop-service-form, stop-quantity-form, leg-form, leg-inside}
 use Rattle.day.proofs.Readers.{tip-index, stop-index}

@@ -1,15 +1,13 @@
 -- The readers over a day's layout, and byte reading: one law for each of them.
 -- Assumes nothing.
 use Prim.Native.Nat.{ℕ, _+_, _-_, _*_, _/_, _%_, _<_, _≤_}
-use mathlib.Core.Path.{_≡_, refl, sym, ap, _∙_}
-use mathlib.Core.List.{List, [], _∷_, _++_}
-use mathlib.Core.Bool.{Bool}
+use mathlib.Core.Path.{_≡_, refl, ap}
+use mathlib.Core.List.{List, [], _∷_}
 use native.Mathlib.Numerals.{add-one}
 use native.Mathlib.Omega.{arith}
 use lib.ListN.{length, getD, set}
-use lib.Dec.{eqb}
 use borrow.Author.Tests.{le-leb, lt-leb, ne-eqb}
-use Rattle.laws.specs.Answers.{given, refused, isGiven}
+use Rattle.laws.specs.Answers.{given, refused}
 use Rattle.laws.specs.Buffer.{over, Wrote}
 use Rattle.laws.proofs.Buffer.{wrote-none, wrote-put, wrote-same}
 use Rattle.laws.proofs.Tests.{branches}
@@ -18,7 +16,6 @@ use Rattle.day.specs.Day.{loneNumber, windowOpening, windowClosing, minu
 use Rattle.day.specs.Fields.{wordAt, tips, stopPlace, windowIndex, service, quantity}
 use Rattle.day.specs.Layout.{LayoutOf, WindowOf, LegOf}
 use Rattle.day.specs.declared.fields.Layout.{Layout}
-use Rattle.day.specs.declared.fields.Leg.{Leg}
 use Rattle.day.specs.declared.fields.Window.{Window}
 use Rattle.day.proofs.Forms.{square-below}
 

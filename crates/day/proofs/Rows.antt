@@ -5,14 +5,14 @@ use mathlib.Core.Path.{_≡_, refl, sym, ap, subst, _∙_}
 use mathlib.Core.List.{List}
 use mathlib.Core.Bool.{Bool, true, false}
 use mathlib.Core.Logic.{⊎-elim}
-use native.Mathlib.Nat.{eq-or-lt-of-le, suc-mul, mul-le-mul-right}
+use native.Mathlib.Nat.{eq-or-lt-of-le, suc-mul}
 use native.Mathlib.Numerals.{add-one}
 use native.Mathlib.Omega.{arith}
 use lib.ListN.{length, getD}
 use lib.Dec.{eqb}
 use borrow.Author.Tests.{eq-eqb, ne-eqb, eqb-true, eqb-false}
 use Rattle.laws.specs.Tests.{if_then_else_}
-use Rattle.day.specs.Day.{Form, leg, stay, placesOf, legsAt, wordsOf, formAt, faultOf}
+use Rattle.day.specs.Day.{leg, stay, placesOf, legsAt, formAt, faultOf}
 use Rattle.day.specs.Fields.{legIndex}
 use Rattle.day.specs.Judging.{judgedFrom, judgedAfter, Whole, InRange, RowRight, Row}
 use Rattle.day.specs.declared.faults.Fault.{Fault}

@@ -10,7 +10,7 @@ use native.Mathlib.Decide.{decLe}
 use native.Mathlib.Omega.{arith}
 use lib.ListN.{length}
 use lib.Dec.{eqb}
-use borrow.Author.Tests.{eq-eqb, ne-eqb, eqb-true, eqb-false}
+use borrow.Author.Tests.{eq-eqb, ne-eqb, eqb-true}
 use Rattle.laws.specs.Lists.{Every, mem, times, unmet, collect, Fresh}
 use Rattle.laws.specs.Tests.{if_then_else_}
 use Rattle.laws.proofs.Lists.{unmet-less}

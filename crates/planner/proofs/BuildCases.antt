@@ -1,7 +1,6 @@
 -- The greedy plan of day M, by computation. Assumes nothing.
-use Prim.Native.Nat.{ℕ}
 use mathlib.Core.Path.{_≡_, refl}
-use mathlib.Core.List.{List, [], _∷_}
+use mathlib.Core.List.{[], _∷_}
 use Rattle.laws.specs.Least.{wins, better, least}
 use Rattle.checker.specs.DayM.{dayM}
 use Rattle.checker.specs.Plan.{taskWord, roundWords, roundsWords, planWords}

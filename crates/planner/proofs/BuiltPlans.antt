@@ -1,17 +1,15 @@
 -- The greedy plan in the plan's buffer, and what the call says of it.
 -- Assumes nothing.
 use Prim.Native.Nat.{ℕ, _+_, _-_, _*_, _≤_, _<_}
-use mathlib.Core.Path.{_≡_, refl, sym, ap, ap₂, _∙_, subst}
+use mathlib.Core.Path.{_≡_, sym, ap, ap₂, _∙_}
 use mathlib.Core.List.{List, [], _∷_, _++_, append-assoc}
 use native.Mathlib.Omega.{arith}
-use lib.Dec.{ltb}
 use lib.ListN.{length, take, drop, replicate, getD, length-append, length-replicate}
 use lib.Seq.{drop-drop, take-at}
 use borrow.Author.Tests.{lt-ltb, le-ltb}
 use Rattle.laws.specs.Answers.{given, refused}
 use Rattle.laws.specs.Buffer.{over, Wrote}
-use Rattle.laws.specs.Lists.{unmet, total}
-use Rattle.laws.specs.Marks.{onesOf}
+use Rattle.laws.specs.Lists.{total}
 use Rattle.laws.proofs.Buffer.{over-drop, over-front, over-rest, length-over}
 use Rattle.day.specs.Accepted.{IsAccepted}
 use Rattle.day.specs.Answers.{dayValues}

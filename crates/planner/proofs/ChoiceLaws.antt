@@ -1,8 +1,8 @@
 -- Which stop is taken next: one law for each way through the functions that choose.
 -- Assumes nothing.
-use Prim.Native.Nat.{ℕ, _+_, _≤_, _<_, max}
+use Prim.Native.Nat.{ℕ, _+_, _≤_, _<_}
 use mathlib.Core.Path.{_≡_, refl, sym, ap, _∙_}
-use mathlib.Core.Bool.{Bool, true, false, not, _&&_, _||_}
+use mathlib.Core.Bool.{Bool, true, false, not, _||_}
 use mathlib.Core.List.{List}
 use native.Mathlib.Omega.{arith}
 use lib.Dec.{ltb, leb, eqb}
@@ -11,7 +11,7 @@ use Rattle.laws.specs.Gather.{both}
 use Rattle.laws.specs.Least.{better, least}
 use Rattle.laws.proofs.Gather.{both-in, both-out}
 use Rattle.laws.proofs.Least.{better-fails, better-wins, better-loses, least-none, least-suc, least-le}
-use Rattle.day.specs.Fields.{tips, stops, places, stopPlace, loadLimit, dayLimit, stopLimit, opening, service, quantity, legMinutes}
+use Rattle.day.specs.Fields.{tips, stops, stopPlace, loadLimit, dayLimit, stopLimit, opening, quantity, legMinutes}
 use Rattle.day.specs.Layout.{LayoutOf, WindowOf, LegOf}
 use Rattle.day.specs.declared.fields.Layout.{Layout}
 use Rattle.day.specs.declared.fields.Leg.{Leg}
@@ -22,7 +22,7 @@ use Rattle.checker.specs.declared.walk.Cargo.{Cargo}
 use Rattle.checker.specs.declared.walk.Trip.{Trip}
 use Rattle.planner.specs.Choice.{suits, takeable, waitable, nearKey, openKey}
 use Rattle.planner.specs.Home.{wayHome}
-use Rattle.planner.specs.States.{SmallTrip, SmallCargo}
+use Rattle.planner.specs.States.{SmallTrip}
 
 -- one stop more: over Q, over Q*, and else by S*
 module _ (day : List ℕ) (c : Cargo) (q : ℕ) where

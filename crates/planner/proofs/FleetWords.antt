@@ -1,8 +1,8 @@
 -- The words of the vehicles while they are written one behind the other.
 -- Assumes nothing.
-use Prim.Native.Nat.{ℕ, suc, _+_, _-_, _*_, _≤_, _<_}
+use Prim.Native.Nat.{ℕ, _+_, _-_, _*_, _≤_, _<_}
 use mathlib.Core.Path.{_≡_, refl, sym, ap, _∙_, subst, fun-ext}
-use mathlib.Core.Bool.{not, and-true}
+use mathlib.Core.Bool.{and-true}
 use mathlib.Core.List.{List, [], _∷_, _++_, append-assoc, append-nil}
 use mathlib.Core.Logic.{inl, inr}
 use native.Mathlib.Nat.{eq-zero-or-pos}
@@ -10,16 +10,16 @@ use native.Mathlib.Omega.{arith}
 use native.Mathlib.Numerals.{add-one}
 use lib.ListN.{length, take, drop, length-drop}
 use borrow.Rule.Slice.PartMut.{putMid}
-use Rattle.laws.specs.Buffer.{over, Wrote}
+use Rattle.laws.specs.Buffer.{Wrote}
 use Rattle.laws.specs.Lists.{mem, unmet}
 use Rattle.laws.specs.Marks.{marked, onesOf, upTo}
 use Rattle.laws.proofs.Buffer.{wrote-none, wrote-lend, wrote-same, over-none, rest-whole}
 use Rattle.laws.proofs.Lists.{unmet-nil}
 use Rattle.day.specs.Fields.{stops}
-use Rattle.checker.specs.Plan.{Round, roundWords, roundsWords, stopsOn}
+use Rattle.checker.specs.Plan.{Round, roundWords, roundsWords}
 use Rattle.marks.specs.declared.Marks.{Marks}
 use Rattle.planner.specs.Build.{oneVehicle, greedyRounds, routed}
-use Rattle.planner.specs.Going.{LeftOf, SomeLeft, VehicleDone, VehicleWritten, WritesOne}
+use Rattle.planner.specs.Going.{LeftOf, SomeLeft, VehicleWritten}
 use Rattle.planner.specs.States.{unrouted}
 use Rattle.planner.proofs.Fleets.{fleetFrom, routedFrom, from-start, from-none, from-some, vehicle-unmet}
 use Rattle.planner.proofs.GreedyRoom.{vehicle-room, round-words}

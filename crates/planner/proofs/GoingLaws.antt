@@ -1,15 +1,14 @@
 -- One vehicle's words while they are written: room for the next task's, and what stays true behind it.
 -- Assumes nothing.
-use Prim.Native.Nat.{ℕ, zero, suc, _+_, _*_, _≤_, _<_}
+use Prim.Native.Nat.{ℕ, _+_, _*_, _≤_, _<_}
 use mathlib.Core.Path.{_≡_, refl, sym, ap, _∙_, subst, fun-ext}
 use mathlib.Core.Bool.{Bool, true, false, not, and-false, true≢false}
 use mathlib.Core.List.{List, [], _∷_, _++_, map, map-append}
 use mathlib.Core.Logic.{inl, inr}
-use mathlib.Core.Option.{Option, none, some}
+use mathlib.Core.Option.{none, some}
 use native.Mathlib.Omega.{arith}
-use lib.Dec.{ltb, eqb}
 use native.Mathlib.Decide.{ℕ-discrete}
-use lib.ListN.{length, length-append, length-map, set, length-set}
+use lib.ListN.{length, length-map, set, length-set}
 use borrow.Author.Tests.{lt-ltb}
 use Rattle.laws.specs.Buffer.{Wrote}
 use Rattle.laws.specs.Lists.{mem, unmet, Fresh}
@@ -36,7 +35,7 @@ use Rattle.planner.specs.Done.{Done, Doable}
 use Rattle.planner.specs.Going.{LeftOf, Going, SomeGoing, GoesOn, VehicleDone}
 use Rattle.planner.specs.Home.{due, restIfDue}
 use Rattle.planner.specs.NextBy.{nextOf, nextBy, NextWithin, nextWord, isTask}
-use Rattle.planner.specs.Reached.{Reached, goesOn}
+use Rattle.planner.specs.Reached.{goesOn}
 use Rattle.planner.specs.States.{SmallTrip, SmallCargo, unrouted}
 use Rattle.planner.specs.declared.state.State.{State}
 use Rattle.planner.specs.declared.tasks.Next.{Next}

@@ -1,20 +1,20 @@
 -- Rest if due and the way home: one law for each way through their functions.
 -- Assumes nothing.
 use Prim.Native.Nat.{ℕ, _+_, _≤_, _<_, max}
-use mathlib.Core.Path.{_≡_, refl, sym, ap, ap₂, _∙_}
-use mathlib.Core.Bool.{Bool, true, false, not, _&&_, _||_}
+use mathlib.Core.Path.{_≡_, refl, sym, _∙_}
+use mathlib.Core.Bool.{Bool, true, false, not, _&&_}
 use mathlib.Core.List.{List}
 use native.Mathlib.Omega.{arith}
-use lib.Dec.{leb, eqb}
+use lib.Dec.{leb}
 use borrow.Author.Tests.{le-leb, lt-leb, leb-true, eq-eqb, ne-eqb}
 use Rattle.laws.specs.Tests.{if_then_else_}
 use Rattle.laws.proofs.Tests.{both-true}
-use Rattle.day.specs.Fields.{places, stopPlace, opening, closing, restOpening, restClosing, restMinutes, service, legMinutes, legDistance}
+use Rattle.day.specs.Fields.{places, stopPlace, opening, closing, restOpening, restClosing, restMinutes, service}
 use Rattle.day.specs.Layout.{LayoutOf, WindowOf, LegOf}
 use Rattle.day.specs.declared.fields.Layout.{Layout}
 use Rattle.day.specs.declared.fields.Leg.{Leg}
 use Rattle.day.specs.declared.fields.Window.{Window}
-use Rattle.checker.specs.Trip.{arrival, visited, restedAt}
+use Rattle.checker.specs.Trip.{visited, restedAt}
 use Rattle.checker.specs.declared.walk.Trip.{Trip}
 use Rattle.planner.specs.Home.{due, restIfDue, homeDirect, homeByTip, homeLoaded, wayHome}
 use Rattle.planner.specs.States.{SmallTrip}

@@ -1,9 +1,9 @@
 -- A fresh vehicle's first task: where there is one the vehicle is written, where there is none it takes no stop.
 -- Assumes nothing.
-use Prim.Native.Nat.{ℕ, _+_, _*_, _≤_, _<_}
+use Prim.Native.Nat.{ℕ, _+_, _*_, _<_}
 use mathlib.Core.Path.{_≡_, refl, sym, ap, _∙_, subst}
-use mathlib.Core.Bool.{Bool, true, false}
-use mathlib.Core.List.{List, [], _∷_, map}
+use mathlib.Core.Bool.{true, false}
+use mathlib.Core.List.{List, [], _∷_}
 use mathlib.Core.Logic.{inl, inr}
 use mathlib.Core.Option.{none, some, Option·some-ne-none}
 use native.Mathlib.Nat.{eq-zero-or-pos}
@@ -17,13 +17,12 @@ use Rattle.laws.proofs.Buffer.{wrote-none, wrote-put}
 use Rattle.day.specs.Fields.{stops}
 use Rattle.day.specs.declared.fields.Layout.{Layout}
 use Rattle.checker.specs.Cargo as Carried
-use Rattle.checker.specs.Plan.{Task, taskWord}
 use Rattle.checker.specs.PlanWords.{vehicleWord, restWord}
 use Rattle.checker.specs.Trip.{leaving}
 use Rattle.checker.specs.declared.walk.Cargo.{Cargo}
 use Rattle.checker.specs.declared.walk.Trip.{Trip}
 use Rattle.marks.specs.declared.Marks.{Marks}
-use Rattle.planner.specs.Build.{Truck, fresh, resting, nextTask, oneVehicle}
+use Rattle.planner.specs.Build.{Truck, fresh, resting, oneVehicle}
 use Rattle.planner.specs.Going.{LeftOf, First, SetsOut, Going, SomeGoing, SomeLeft, VehicleDone, VehicleWritten}
 use Rattle.planner.specs.Home.{due, restIfDue}
 use Rattle.planner.specs.NextBy.{nextOf, nextBy, NextWithin, isTask}
@@ -31,7 +30,6 @@ use Rattle.planner.specs.Reached.{setOut}
 use Rattle.planner.specs.States.{SmallTrip, SmallCargo}
 use Rattle.planner.specs.declared.state.State.{State}
 use Rattle.planner.specs.declared.tasks.Next.{Next}
-use Rattle.planner.proofs.Decided.{known}
 use Rattle.planner.proofs.Driving.{resting-trip, resting-cargo, resting-taken, end-none, reached-end}
 use Rattle.planner.proofs.GoingLaws.{named, home-none, next-room, rest-words}
 use Rattle.planner.proofs.GreedyRoom.{rested-paid, round-length}

@@ -1,26 +1,25 @@
 -- The numbers of every vehicle that the build reaches are small, so that no sum of the code wraps: a stop or a tip is started by its
 -- closing and a rest by R2, so minutes are bounded afresh by each task, and loads by the day's limits.
 -- Assumes nothing.
-use Prim.Native.Nat.{ℕ, _+_, _*_, _≤_, _<_}
-use mathlib.Core.Path.{_≡_, refl, sym, ap, _∙_}
-use mathlib.Core.Bool.{Bool, true, false, not, _&&_, _||_}
-use mathlib.Core.List.{List, [], _∷_, _++_}
+use Prim.Native.Nat.{ℕ, _*_, _≤_, _<_}
+use mathlib.Core.Path.{_≡_}
+use mathlib.Core.Bool.{true, false, not, _&&_}
+use mathlib.Core.List.{List, [], _∷_}
 use native.Mathlib.Omega.{arith}
 use lib.ListN.{length, length-append}
 use lib.Dec.{ltb, leb}
-use borrow.Author.Tests.{leb-true, ltb-true, ltb-false, not-true}
+use borrow.Author.Tests.{leb-true, ltb-true, not-true}
 use Rattle.laws.proofs.Tests.{both-true}
-use Rattle.day.specs.Fields.{tips, stops, places, stopPlace, opening, closing, loadLimit, dayLimit, stopLimit}
-use Rattle.checker.specs.Cargo.{loaded, overLimits, cargoAfter}
+use Rattle.day.specs.Fields.{stops, places, stopPlace, opening, closing}
+use Rattle.checker.specs.Cargo.{overLimits, cargoAfter}
 use Rattle.checker.specs.Plan.{Task, serve, empty, lunch}
 use Rattle.checker.specs.Trip.{arrival, visited}
 use Rattle.checker.specs.declared.walk.Cargo.{Cargo}
-use Rattle.checker.specs.declared.walk.Trip.{Trip}
 use Rattle.checker.proofs.Loads.{not-over}
 use Rattle.planner.specs.Build.{Truck, fresh, doing, resting}
 use Rattle.planner.specs.Choice.{taking, suits, takeable, waitable}
 use Rattle.planner.specs.Home.{due, wayHome}
-use Rattle.planner.specs.States.{SmallTrip, SmallCargo}
+use Rattle.planner.specs.States.{SmallCargo}
 use Rattle.planner.specs.Reached.{Reached}
 use Rattle.planner.proofs.Driving.{reached-keeps, resting-keeps}
 use Rattle.planner.proofs.NextTasks.{IsNext, takes, empties, waits}

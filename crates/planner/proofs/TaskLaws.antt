@@ -1,21 +1,19 @@
 -- What a vehicle does next: one law for each way through the functions that decide it.
 -- Assumes nothing.
 use Prim.Native.Nat.{ℕ, _+_, _*_, _≤_, _<_}
-use mathlib.Core.Path.{_≡_, refl, sym, ap, ap₂, _∙_}
-use mathlib.Core.Bool.{Bool, true, false, not, _&&_, _||_}
+use mathlib.Core.Path.{_≡_, refl, ap, _∙_}
+use mathlib.Core.Bool.{Bool, true, false, not, _&&_}
 use mathlib.Core.List.{List}
 use mathlib.Core.Option.{Option, none, some}
 use native.Mathlib.Omega.{arith}
-use lib.Dec.{ltb, eqb}
+use lib.Dec.{ltb}
 use borrow.Author.Tests.{lt-ltb, le-ltb, eq-eqb, ne-eqb}
 use Rattle.laws.specs.Gather.{both}
 use Rattle.laws.specs.Least.{least}
 use Rattle.laws.specs.Lists.{mem}
-use Rattle.laws.specs.Marks.{upTo}
-use Rattle.laws.specs.Tests.{if_then_else_}
 use Rattle.laws.proofs.Least.{least-same}
 use Rattle.laws.proofs.Marks.{upTo-in}
-use Rattle.day.specs.Fields.{stops, stopPlace, loadLimit, dayLimit, stopLimit, legMinutes}
+use Rattle.day.specs.Fields.{stops, loadLimit, dayLimit, stopLimit}
 use Rattle.day.specs.Layout.{LayoutOf, LegOf}
 use Rattle.day.specs.declared.fields.Layout.{Layout}
 use Rattle.day.specs.declared.fields.Leg.{Leg}

@@ -2,10 +2,9 @@
 -- Assumes nothing.
 use Prim.Native.Nat.{ℕ, _+_, _≤_, _<_}
 use mathlib.Core.Path.{_≡_, refl, sym, ap, _∙_}
-use mathlib.Core.Bool.{true, false, _&&_}
+use mathlib.Core.Bool.{true, false}
 use mathlib.Core.List.{List}
 use native.Mathlib.Omega.{arith}
-use lib.Dec.{leb}
 use borrow.Author.Tests.{le-leb, lt-leb}
 use Rattle.laws.specs.Least.{better, least}
 use Rattle.laws.proofs.Least.{better-fails, better-none, better-less, better-more, least-none, least-suc, least-le}

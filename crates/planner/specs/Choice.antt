@@ -1,6 +1,6 @@
 -- Which stop a vehicle takes next: document 01, "Greedy build", steps 3 and 5. Assumes nothing.
 use Prim.Native.Nat.{ℕ, _*_}
-use mathlib.Core.Bool.{Bool, true, false, not, _&&_, _||_}
+use mathlib.Core.Bool.{Bool, false, not, _&&_, _||_}
 use mathlib.Core.List.{List}
 use lib.Dec.{ltb, leb, eqb}
 use Rattle.laws.specs.Least.{least}

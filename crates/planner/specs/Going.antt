@@ -1,7 +1,7 @@
 -- One vehicle's words while they are written. It serves the contracts of this crate's own functions. Assumes nothing.
 use Prim.Native.Nat.{ℕ, _*_, _≤_, _<_}
 use mathlib.Core.Path.{_≡_}
-use mathlib.Core.List.{List, [], _∷_, map}
+use mathlib.Core.List.{List, _∷_, map}
 use lib.ListN.{length}
 use Rattle.laws.specs.Buffer.{Wrote}
 use Rattle.laws.specs.Lists.{unmet}

@@ -1,5 +1,5 @@
 -- Rest if due, and the way home: document 01, "Greedy build". A trip is where and when a vehicle is. Assumes nothing.
-use Prim.Native.Nat.{ℕ, _+_}
+use Prim.Native.Nat.{ℕ}
 use mathlib.Core.Bool.{Bool, false, not, _&&_, _||_}
 use mathlib.Core.List.{List}
 use lib.Dec.{leb, eqb}

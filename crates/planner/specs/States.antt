@@ -1,12 +1,11 @@
 -- What the build carries from task to task. It serves the contracts of this crate's own functions; no definition of the build rests on it.
 -- Assumes nothing.
-use Prim.Native.Nat.{ℕ, _*_, _<_, _≤_}
-use mathlib.Core.Path.{_≡_}
+use Prim.Native.Nat.{ℕ, _<_}
 use mathlib.Core.Bool.{Bool, not, _&&_}
 use mathlib.Core.List.{List}
 use Rattle.laws.specs.Lists.{mem}
-use Rattle.laws.specs.Marks.{marked, upTo}
-use Rattle.day.specs.Fields.{stops, places}
+use Rattle.laws.specs.Marks.{upTo}
+use Rattle.day.specs.Fields.{places}
 use Rattle.checker.specs.declared.walk.Cargo.{Cargo}
 use Rattle.checker.specs.declared.walk.Trip.{Trip}
 

@@ -2,7 +2,6 @@
 ghost use mathlib.Core.Path.{_≡_};
 ghost use Prim.Native.Nat.{_<_, _≤_};
 ghost use Rattle.laws.specs.Marks.{marked};
-ghost use Rattle.day.specs.Fields.{stopPlace};
 ghost use Rattle.day.specs.Layout.{LayoutOf};
 ghost use Rattle.planner.specs.Choice.{nearCapacity, farther, chosenStop};
 ghost use Rattle.planner.specs.Build.{emptying};

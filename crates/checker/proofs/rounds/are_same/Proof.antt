@@ -2,7 +2,6 @@
 use Prim.Native.Nat.{_≤_, _-_}
 use borrow.Author.Needs.{needs}
 use lib.ListN.{length}
-use native.Mathlib.Omega.{arith}
 use Rattle.checker.proofs.RoundsCompared.{Alike, alike-start, second-shorter, words-differ, words-agree, first-ends}
 use Rattle.checker.proofs.rounds.are_same.Statement.{statement}
 use Rattle.checker.proofs.rounds.are_same.Tie as tie

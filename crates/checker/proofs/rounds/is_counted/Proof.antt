@@ -1,5 +1,4 @@
 -- `checker::rounds::is_counted` meets its contract.
-use borrow.Author.Needs.{needs}
 use Rattle.checker.proofs.RoundsCompared.{stop-counts, vehicle-counts}
 use Rattle.checker.proofs.rounds.is_counted.Statement.{statement}
 use Rattle.checker.proofs.rounds.is_counted.Tie as tie

@@ -3,7 +3,6 @@ use Prim.Native.Nat.{_≤_, _-_, _+_, _*_}
 use borrow.Author.Needs.{needs}
 use mathlib.Core.Path.{_≡_, refl}
 use Rattle.day.proofs.Parts.{part-stops, part-passes, tips-end}
-use Rattle.day.specs.Day.{tipsEnd}
 use Rattle.day.specs.Judging.{judgedFrom}
 use Rattle.day.proofs.faults.tips_fault.Statement.{statement}
 use Rattle.day.proofs.faults.tips_fault.Tie as tie

@@ -1,6 +1,5 @@
 -- `day::fields::leg_between` meets its contract: the leg's index is below the day's length.
 use Prim.Native.Nat.{_<_, _+_, _*_}
-use borrow.Author.Needs.{needs}
 use lib.ListN.{length}
 use native.Mathlib.Omega.{arith}
 use Rattle.day.proofs.Readers.{leg-at, leg-read}

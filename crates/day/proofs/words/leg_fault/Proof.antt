@@ -1,5 +1,4 @@
 -- `day::words::leg_fault` meets its contract.
-use borrow.Author.Needs.{needs}
 use Rattle.day.proofs.WordFaults.{leg-kind, leg-long, leg-right}
 use Rattle.day.proofs.words.leg_fault.Statement.{statement}
 use Rattle.day.proofs.words.leg_fault.Tie as tie

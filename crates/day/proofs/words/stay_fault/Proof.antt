@@ -1,5 +1,4 @@
 -- `day::words::stay_fault` meets its contract.
-use borrow.Author.Needs.{needs}
 use Rattle.day.proofs.WordFaults.{stay-kind, stay-moves, stay-right}
 use Rattle.day.proofs.words.stay_fault.Statement.{statement}
 use Rattle.day.proofs.words.stay_fault.Tie as tie

@@ -1,7 +1,7 @@
 -- `planner::choice::is_suited` meets its contract.
 use borrow.Author.Needs.{needs}
 use native.Mathlib.Omega.{arith}
-use Rattle.planner.proofs.ChoiceLaws.{unfit, fit-home, weaker-trip, served-trip}
+use Rattle.planner.proofs.ChoiceLaws.{unfit, fit-home, served-trip}
 use Rattle.planner.proofs.choice.is_suited.Statement.{statement}
 use Rattle.planner.proofs.choice.is_suited.Tie as tie
 

@@ -2,7 +2,6 @@
 use Prim.Native.Nat.{_≤_, _-_}
 use borrow.Author.Needs.{needs}
 use mathlib.Core.Path.{_≡_}
-use native.Mathlib.Omega.{arith}
 use Rattle.day.specs.Fields.{legMinutes}
 use Rattle.laws.specs.Least.{least}
 use Rattle.planner.proofs.TipLaws.{tips-none, tips-next, tips-few, tips-all}
