@@ -7,7 +7,7 @@ use native.Mathlib.Numerals.{add-one}
 use native.Mathlib.Omega.{arith}
 use lib.ListN.{length, take, drop, set, getD, replicate, length-set, length-append, length-drop}
 use lib.ListN.{drop-of-length-le, take-append-drop, replicate-append-replicate}
-use lib.Seq.{set-at, drop-cons, take-at, drop-at, drop-drop, take-all, drop-set-lt, length-take-le}
+use lib.Seq.{set-at, drop-cons, take-at, drop-at, drop-drop, take-all, length-take-le}
 use borrow.Rule.Slice.PartMut.{putMid, same-len-mid}
 use Rattle.laws.specs.Buffer.{over, Wrote, zeros}
 
@@ -43,11 +43,6 @@ module _ {A : Type 0} where
   unfolding over
   over-rest ws p n e = drop-at ws (drop (length ws) p) n e ∙ ap (λ (k : ℕ). drop k p) e
 
-  -- words as long as the buffer are all of it
-  pub over-all : (ws p : List A) → length ws ≡ length p → over ws p ≡ ws
-  unfolding over
-  over-all ws p e = ap (λ (q : List A). ws ++ q) (drop-of-length-le p {i = length ws} (omega arith)) ∙ append-nil ws
-
   -- words written, and then more over what is left
   pub over-over : (ws vs p : List A) → ws ++ over vs (drop (length ws) p) ≡ over (ws ++ vs) p
   unfolding over
@@ -81,11 +76,6 @@ module _ {A : Type 0} where
       rest : drop at part ≡ drop (length ws) p
       rest = ap (drop at) q ∙ over-rest ws p at l ∙ ap (λ (k : ℕ). drop k p) (sym l)
 
-  -- a store under the words makes no difference
-  pub over-set : (ws p : List A) (i : ℕ) (x : A) → i < length ws → over ws (set p i x) ≡ over ws p
-  unfolding over
-  over-set ws p i x l = ap (λ (q : List A). ws ++ q) (drop-set-lt (length ws) p i x l)
-
   -- nothing is written yet
   pub wrote-none : (p : List A) → Wrote [] p p 0
   wrote-none p = record { count = refl; text = sym (over-none p); size = refl }
@@ -109,26 +99,6 @@ module _ {A : Type 0} where
     count = omega (arith, w .count, length-append ws vs);
     text = over-lend ws vs p part e at (w .text) (sym (w .count)) h;
     size = same-len-mid at (length part - at) part e k ∙ w .size;
-  }
-
-  -- the first word was stored before the loop, so that the loop's first list has it
-  pub wrote-first : (p : List A) (x : A) → 0 < length p → Wrote (x ∷ []) (set p 0 x) (set p 0 x) 1
-  wrote-first p x l = record {
-    count = refl;
-    text =
-        ap (λ (q : List A). set q 0 x) (sym (over-none p))
-        ∙ over-put [] p 0 x refl l
-        ∙ sym (over-set (x ∷ []) p 0 x (omega arith));
-    size = refl;
-  }
-
-  -- stores under the words do not count
-  pub wrote-base : {ws p part : List A} {n : ℕ} (i : ℕ) (x : A)
-      → Wrote ws (set p i x) part n → i < n → Wrote ws p part n
-  wrote-base {ws} {p} {part} {n} i x w l = record {
-    count = w .count;
-    text = w .text ∙ over-set ws p i x (omega (arith, w .count));
-    size = w .size ∙ length-set p i x;
   }
 
   -- the words and their count under other names

@@ -1,12 +1,11 @@
 -- Laws of the least key: how a choice goes, what the least is, and how a loop over 1..m finds it.
 -- Assumes nothing.
 use Prim.Native.Nat.{ℕ, zero, suc, _+_, _≤_, _<_}
-use mathlib.Core.Path.{_≡_, refl, sym, ap, _∙_, subst}
+use mathlib.Core.Path.{_≡_, refl, sym, _∙_, subst}
 use mathlib.Core.Bool.{Bool, true, false, _&&_, _||_, true≢false, or-true}
 use mathlib.Core.Logic.{_⊎_, inl, inr, ⊎-elim}
 use native.Mathlib.Nat.{le-antisymm, le-of-suc-le-suc, lt-of-not-le, eq-or-lt-of-le, eq-zero-or-pos}
 use native.Mathlib.Numerals.{add-one}
-use native.Mathlib.Decide.{le-ind}
 use native.Mathlib.Omega.{arith}
 use lib.Dec.{ltb, eqb}
 use borrow.Author.Tests.{ltb-true, ltb-false, eqb-true, eqb-false, lt-ltb, le-ltb, ne-eqb}
@@ -147,28 +146,6 @@ module _ (ok : ℕ → Bool) (key : ℕ → ℕ) where
   pub least-suc : (m : ℕ) → least ok key (m + 1) ≡ better ok key (m + 1) (least ok key m)
   unfolding least
   least-suc m = rw add-one refl
-
-  -- numbers that do not pass may be passed over
-  pub least-skip : (a b : ℕ) → a ≤ b → ((k : ℕ) → a < k → k ≤ b → ok k ≡ false) → least ok key b ≡ least ok key a
-  unfolding least
-  least-skip a b l = le-ind (λ (m : ℕ). None m → least ok key m ≡ least ok key a) (λ _. refl) step b l
-    where
-      None : ℕ → Type 0
-      None m = (k : ℕ) → a < k → k ≤ m → ok k ≡ false
-
-      step : (m : ℕ) → a ≤ m → (None m → least ok key m ≡ least ok key a)
-          → None (suc m) → least ok key (suc m) ≡ least ok key a
-      step m g ih none =
-          better-fails (suc m) (least ok key m) (none (suc m) (omega arith) (omega arith))
-          ∙ ih (λ k x y. none k x (omega arith))
-
-  -- from a straight to the next number that may pass, j
-  pub least-jump : (a j : ℕ) → a < j → ((k : ℕ) → a < k → k < j → ok k ≡ false)
-      → least ok key j ≡ better ok key j (least ok key a)
-  unfolding least
-  least-jump a zero l none = absurd (omega arith)
-  least-jump a (suc j) l none =
-      ap (better ok key (suc j)) (least-skip a j (omega arith) (λ k x y. none k x (omega arith)))
 
 -- a choice looks at the test of k alone
 pub better-same : (ok ok′ : ℕ → Bool) (key : ℕ → ℕ) (k b : ℕ) → ok k ≡ ok′ k → better ok key k b ≡ better ok′ key k b

@@ -2,7 +2,6 @@ pub mod Arrays
 pub mod Bits
 pub mod Buffer
 pub mod Fresh
-pub mod Gather
 pub mod Least
 pub mod Lists
 pub mod Marks

@@ -14,9 +14,18 @@ use lib.Dec.{eqb, ltb}
 use lib.Count.{ones}
 use borrow.Author.Tests.{eqb-true, eqb-false, eq-eqb, ne-eqb, lt-ltb, le-ltb, lt-leb, le-leb}
 use Rattle.laws.specs.Bits.{bit, LowestBit}
-use Rattle.laws.specs.Marks.{without, including, upTo, Lowest, marked, onesOf, Unmarked, Marked}
+use Rattle.laws.specs.Marks.{both, without, including, upTo, Lowest, marked, onesOf, Unmarked, Marked}
 use Rattle.laws.proofs.Bits.{bit-lt, bit-of-zero, bit-add-same, bit-add-other, ones-add-bit}
 use Rattle.laws.proofs.Bits.{bit-sub-same, bit-sub-other, ones-sub-bit}
+
+-- the numbers of both sets, by whether the first has k
+pub both-in : (p q : ℕ → Bool) (k : ℕ) → p k ≡ true → both p q k ≡ q k
+unfolding both
+both-in p q k e = rw e refl
+
+pub both-out : (p q : ℕ → Bool) (k : ℕ) → p k ≡ false → both p q k ≡ false
+unfolding both
+both-out p q k e = rw e refl
 
 -- a set without k: at k, and elsewhere
 pub without-same : (p : ℕ → Bool) (k j : ℕ) → j ≡ k → without p k j ≡ false

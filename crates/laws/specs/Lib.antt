@@ -1,7 +1,6 @@
 pub mod Answers
 pub mod Bits
 pub mod Buffer
-pub mod Gather
 pub mod Least
 pub mod Lists
 pub mod Marks

@@ -17,6 +17,10 @@ without p k j = p j && not (eqb j k)
 unfoldable pub including : (ℕ → Bool) → ℕ → ℕ → Bool
 including p k j = p j || eqb j k
 
+-- the numbers of both sets
+unfoldable pub both : (ℕ → Bool) → (ℕ → Bool) → ℕ → Bool
+both p q k = p k && q k
+
 -- the numbers 1..n
 unfoldable pub upTo : ℕ → ℕ → Bool
 upTo n j = ltb 0 j && leb j n

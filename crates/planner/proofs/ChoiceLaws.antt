@@ -7,9 +7,9 @@ use mathlib.Core.List.{List}
 use native.Mathlib.Omega.{arith}
 use lib.Dec.{ltb, leb, eqb}
 use borrow.Author.Tests.{le-leb, lt-leb, le-ltb, lt-ltb, eq-eqb, ne-eqb, leb-true, leb-false}
-use Rattle.laws.specs.Gather.{both}
+use Rattle.laws.specs.Marks.{both}
 use Rattle.laws.specs.Least.{better, least}
-use Rattle.laws.proofs.Gather.{both-in, both-out}
+use Rattle.laws.proofs.Marks.{both-in, both-out}
 use Rattle.laws.proofs.Least.{better-fails, better-wins, better-loses, least-none, least-suc, least-le}
 use Rattle.day.specs.Fields.{tips, stops, stopPlace, loadLimit, dayLimit, stopLimit, opening, quantity, legMinutes}
 use Rattle.day.specs.Layout.{LayoutOf, WindowOf, LegOf}

@@ -39,13 +39,6 @@ module _ (day : List ℕ) (most : ℕ) (taken : List ℕ) where
   unfolding routed
   routed-some l = rw (ne-eqb (oneVehicle day taken .cargo .visits) 0 (λ e. omega arith), routed)
 
-  -- where no stop is missing, none goes out
-  pub fleet-done : unmet (stops day) taken ≡ 0 → fleet day (suc most) taken ≡ []
-  fleet-done z = fleet-none (omega (arith, vehicle-unmet day taken))
-
-  pub routed-done : unmet (stops day) taken ≡ 0 → routed day (suc most) taken ≡ taken
-  routed-done z = routed-none (omega (arith, vehicle-unmet day taken))
-
 -- more vehicles allowed than there can be change nothing
 pub fleet-more : (day : List ℕ) (most more : ℕ) (taken : List ℕ) → unmet (stops day) taken < most → most ≤ more
     → fleet day more taken ≡ fleet day most taken

@@ -8,7 +8,7 @@ use mathlib.Core.Option.{Option, none, some}
 use native.Mathlib.Omega.{arith}
 use lib.Dec.{ltb}
 use borrow.Author.Tests.{lt-ltb, le-ltb, eq-eqb, ne-eqb}
-use Rattle.laws.specs.Gather.{both}
+use Rattle.laws.specs.Marks.{both}
 use Rattle.laws.specs.Least.{least}
 use Rattle.laws.specs.Lists.{mem}
 use Rattle.laws.proofs.Least.{least-same}

@@ -4,7 +4,7 @@ use mathlib.Core.Bool.{Bool, true, false}
 use mathlib.Core.List.{List}
 use mathlib.Core.Option.{Option, none, some}
 use lib.Dec.{ltb}
-use Rattle.laws.specs.Gather.{both}
+use Rattle.laws.specs.Marks.{both}
 use Rattle.laws.specs.Least.{least}
 use Rattle.laws.specs.Tests.{if_then_else_}
 use Rattle.day.specs.Fields.{stops}
