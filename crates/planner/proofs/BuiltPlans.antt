@@ -10,6 +10,7 @@ use borrow.Author.Tests.{lt-ltb, le-ltb}
 use Rattle.laws.specs.Answers.{given, refused}
 use Rattle.laws.specs.Buffer.{over, Wrote}
 use Rattle.laws.specs.Lists.{total}
+use Rattle.laws.specs.Marks.{onesOf}
 use Rattle.laws.proofs.Buffer.{over-drop, over-front, over-rest, length-over}
 use Rattle.day.specs.Accepted.{IsAccepted}
 use Rattle.day.specs.Answers.{dayValues}
@@ -33,7 +34,8 @@ use Rattle.planner.specs.Built.{planned, builtAnswer, builtBuffer, build
 use Rattle.planner.specs.Going.{LeftOf}
 use Rattle.planner.specs.Lefts.{LeavesAll}
 use Rattle.planner.proofs.GreedyLawful.{greedy-answer}
-use Rattle.planner.proofs.GreedyRoom.{plan-length, greedy-room}
+use Rattle.planner.proofs.GreedyRoom.{greedy-room}
+use Rattle.planner.proofs.LeftOut.{remaining-count}
 
 -- the words of the vehicles and behind them those of the stops left out are the plan
 module _ {day p part now : List ℕ} {m : Marks} {words end : ℕ} (w : Wrote (roundsWords 0 (greedyRounds day)) p part words)
@@ -42,9 +44,9 @@ module _ {day p part now : List ℕ} {m : Marks} {words end : ℕ} (w : Wrote (r
   unfolding greedyPlan planWords
   plan-words = l (stops day) (routed day (stops day + 1) []) (roundsWords 0 (greedyRounds day)) p (omega arith) (h .are) w
 
-  pub lefts-behind : end ≡ words + length (greedyLefts day)
-  unfolding greedyPlan
-  lefts-behind = omega (arith, plan-words .count, w .count, plan-length (greedyRounds day) (greedyLefts day))
+-- as many stops are left out as marks are left
+pub lefts-are : {day : List ℕ} {m : Marks} → LeftOf day (routed day (stops day + 1) []) m → onesOf (m .words) ≡ length (greedyLefts day)
+lefts-are {day} h = h .count ∙ sym (remaining-count (routed day (stops day + 1) []) (stops day))
 
 -- zeros behind the words
 over-later : (ws p : List ℕ) (n to : ℕ) → length ws ≡ n → n ≤ to → drop to (over ws p) ≡ drop to p

@@ -30,7 +30,7 @@ fn write_plan(day: &[u32], z: Layout, plan: &mut [u32]) -> Size
     fill_zeros(plan, end, 5 * z.stops);
     Size {
         words: end,
-        lefts: end - w.words,
+        lefts: marks::remaining(left) as usize,
     }
 }
 

@@ -3,8 +3,8 @@ use Prim.Native.Nat.{_≤_, _-_}
 use borrow.Author.Needs.{needs}
 use mathlib.Core.Path.{_≡_}
 use native.Mathlib.Omega.{arith}
-use Rattle.laws.specs.Marks.{marked, both}
 use Rattle.laws.specs.Least.{least}
+use Rattle.laws.specs.Marks.{marked, both}
 use Rattle.planner.proofs.ChoiceLaws.{pass-none, pass-next, pass-most, pass-all}
 use Rattle.planner.specs.Choice.{takeable, nearKey}
 use Rattle.planner.proofs.choice.nearest_stop.Statement.{statement}

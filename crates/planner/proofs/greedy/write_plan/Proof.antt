@@ -1,7 +1,8 @@
 -- `planner::greedy::write_plan` meets its contract.
 use borrow.Author.Needs.{needs}
+use mathlib.Core.Path.{_∙_}
 use native.Mathlib.Omega.{arith}
-use Rattle.planner.proofs.BuiltPlans.{plan-words, lefts-behind, filled}
+use Rattle.planner.proofs.BuiltPlans.{plan-words, lefts-are, need-is, filled}
 use Rattle.planner.proofs.greedy.write_plan.Statement.{statement}
 use Rattle.planner.proofs.greedy.write_plan.Tie as tie
 
@@ -17,8 +18,11 @@ mul-fill-zeros c = search needs
 fill-zeros-requires : tie.Need-fill-zeros-requires
 fill-zeros-requires c κs = search needs
 
-sub-t14 : tie.Need-sub-t14
-sub-t14 c = omega (arith, lefts-behind (c .before .before .before .before .before .before .before .before .before .before .before .before .before .write-vehicles .ensures .0) (c .before .before .before .before .before .before .before .before .before .before .before .before .before .write-vehicles .ensures .1 .0) (c .before .before .before .before .before .before .before .before .write-lefts .ensures .1))
+remaining-requires : tie.Need-remaining-requires
+remaining-requires c κs = search needs
+
+cast-t14 : tie.Need-cast-t14
+cast-t14 c = search needs
 
 same-length : tie.Need-same-length
 same-length c = search needs
@@ -27,9 +31,10 @@ returns : tie.Need-returns
 returns c =
     let v = c .before .before .before .before .before .before .before .before .before .before .before .before .before .write-vehicles .ensures in
     let l = c .before .before .before .before .before .before .before .before .write-lefts .ensures in
-    let p = c .before .before .before .before .before .before .before .before .before .before .before .before .before .before .before .before .before .pre in
-    let w = plan-words (v .0) (v .1 .0) (l .1) in
-    ((w .count, omega (arith, lefts-behind (c .before .before .before .before .before .before .before .before .before .before .before .before .before .write-vehicles .ensures .0) (c .before .before .before .before .before .before .before .before .before .before .before .before .before .write-vehicles .ensures .1 .0) (c .before .before .before .before .before .before .before .before .write-lefts .ensures .1))), filled _ _ w (omega (arith, p .0 .stopsAre)) (omega (arith, l .0, v .1 .0 .count, v .1 .1)) (c .before .before .before .fill-zeros .ensures))
+    let w = plan-words (v .0) (v .1 .0) (l .1) in (
+      (w .count, c .remaining .ensures ∙ lefts-are (v .1 .0)),
+      filled _ _ w (need-is (c .before .before .before .before .before .before .before .before .before .before .before .before .before .before .before .before .before .pre .0)) (omega (arith, l .0, v .1 .0 .count, v .1 .1)) (c .before .before .before .fill-zeros .ensures),
+    )
 
 pub write-plan-spec : {M : Type 1} → statement M
 write-plan-spec =
@@ -39,6 +44,7 @@ write-plan-spec =
     write-lefts-requires
     mul-fill-zeros
     fill-zeros-requires
-    sub-t14
+    remaining-requires
+    cast-t14
     same-length
     returns)
