@@ -1,0 +1,52 @@
+-- The budgeted search: document 01, "Trials", over any kind of plan and of trial. `list p` is the trial list of the plan p; `attempt p m`
+-- is the lawful, shorter plan that the trial m of p gives, or none. Assumes nothing.
+use Prim.Native.Nat.{ℕ, zero, suc, _+_, _≤_, _<_}
+use mathlib.Core.Path.{_≡_}
+use mathlib.Core.Bool.{Bool, true, false}
+use mathlib.Core.Option.{Option, none, some}
+use mathlib.Core.List.{List, [], _∷_, _++_, List·Memᴰ}
+use lib.ListN.{length}
+
+-- what the search hands over: the plan, the number of trials made, and whether the plan is settled
+pub record Result (P : Type 0) : Type 0 where
+  pub plan : P
+  pub trials : ℕ
+  pub settled : Bool
+
+module _ {P M : Type 0} (list : P → List M) (attempt : P → M → Option P) where
+  -- the plan p is held, the trials ms of its list are still to be made, made were made, and left remain of the budget. "Before each trial:
+  -- whole list made and none kept, settled; else trials = budget, not settled." "Each trial made counts one." "The list starts anew from
+  -- a kept plan."
+  unfoldable pub run : (left : ℕ) → P → List M → (made : ℕ) → Result P
+  run zero p [] made = record { plan = p; trials = made; settled = true }
+  run zero p (m ∷ ms) made = record { plan = p; trials = made; settled = false }
+  run (suc left) p [] made = record { plan = p; trials = made; settled = true }
+  run (suc left) p (m ∷ ms) made = elim (attempt p m) [ none ↦ run left p ms (suc made) | some q ↦ run left q (list q) (suc made) ]
+
+  -- the search from a plan
+  unfoldable pub improve : (budget : ℕ) → P → Result P
+  improve budget p = run budget p (list p) zero
+
+  -- a plan is held after some trials, at the start of its list: the first plan is, and so is the plan of each kept trial, which is the
+  -- first of its list to be kept. This mentions no budget and no run.
+  pub data Held (first : P) : P → ℕ → Type 0 where
+    start : Held first first zero
+    kept : {p q : P} {made : ℕ} (done : List M) (m : M) (rest : List M) → Held first p made → list p ≡ done ++ (m ∷ rest)
+        → ((x : M) → List·Memᴰ x done → attempt p x ≡ none) → attempt p m ≡ some q → Held first q (made + length done + 1)
+
+  -- what is known of the result of a search with a budget: its plan was held, after `at` trials; settled, its whole list was made and no
+  -- trial of it kept; not settled, the budget is gone and a trial of its list was not made
+  pub record Outcome (first : P) (budget : ℕ) (r : Result P) : Type 0 where
+    pub at : ℕ
+    pub held : Held first (r .plan) at
+    pub within : r .trials ≤ budget
+    pub whole : r .settled ≡ true → r .trials ≡ at + length (list (r .plan))
+    pub noneKept : r .settled ≡ true → (m : M) → List·Memᴰ m (list (r .plan)) → attempt (r .plan) m ≡ none
+    pub spent : r .settled ≡ false → r .trials ≡ budget
+    pub missed : r .settled ≡ false → r .trials < at + length (list (r .plan))
+
+-- several neighbourhoods, one behind the other: a kept trial returns to the first, a list with none kept goes on to the next. With one
+-- neighbourhood it is the search over its list.
+unfoldable pub lists : {P M N : Type 0} → (N → P → List M) → List N → P → List M
+lists list [] p = []
+lists list (k ∷ ks) p = list k p ++ lists list ks p

@@ -1,0 +1,1 @@
+// The trials: a plan is worked over by moving and interchanging stops and by changing tips.
