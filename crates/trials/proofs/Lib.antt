@@ -1,2 +1,5 @@
+pub mod CabLaws
+pub mod ChangeLaws
 pub mod Searching
 pub mod TrialCases
+pub mod WalkLaws

@@ -1,1 +1,4 @@
 // The trials: a plan is worked over by moving and interchanging stops and by changing tips.
+pub mod cabs;
+pub mod edits;
+pub mod vehicle;

@@ -1,0 +1,89 @@
+use borrow.Author.Needs.{needs}
+use Rattle.trials.proofs.vehicle.walk_vehicle.Statement.{statement}
+use Rattle.trials.proofs.vehicle.walk_vehicle.Tie as tie
+use Rattle.trials.proofs.vehicle.walk_vehicle.Reads as reads
+use Rattle.trials.proofs.vehicle.walk_vehicle.Lts as lts
+use Rattle.day.proofs.fields.leg_between.Reads as leg-between-reads
+use Rattle.trials.proofs.cabs.walk_home.Reads as walk-home-reads
+use Rattle.trials.proofs.vehicle.failed.Reads as failed-reads
+use Rattle.trials.proofs.vehicle.walk_tasks.Reads as walk-tasks-reads
+
+-- src/vehicle.rt:107:9
+walk-tasks-requires : tie.Need-walk-tasks-requires
+walk-tasks-requires c κs = search needs
+
+-- src/vehicle.rt:109:9
+failed-requires : tie.Need-failed-requires
+failed-requires c κs = search needs
+
+-- src/vehicle.rt:109:9
+same-length : tie.Need-same-length
+same-length c = search needs
+
+-- src/vehicle.rt:109:9
+returns : tie.Need-returns
+returns c = ?
+
+-- src/vehicle.rt:111:9
+walk-home-requires : tie.Need-walk-home-requires
+walk-home-requires c κs = ?
+
+-- src/vehicle.rt:113:9
+failed-requires-2 : tie.Need-failed-requires-2
+failed-requires-2 c κs = search needs
+
+-- src/vehicle.rt:113:9
+same-length-2 : tie.Need-same-length-2
+same-length-2 c = search needs
+
+-- src/vehicle.rt:113:9
+returns-2 : tie.Need-returns-2
+returns-2 c = ?
+
+-- src/vehicle.rt:117:5
+mul-part : tie.Need-mul-part
+mul-part c = ?
+
+-- src/vehicle.rt:117:5
+slice-write-part : tie.Need-slice-write-part
+slice-write-part c = ?
+
+-- src/vehicle.rt:118:9
+leg-between-requires : tie.Need-leg-between-requires
+leg-between-requires c κs = ?
+
+-- src/vehicle.rt:120:16
+add-t17 : tie.Need-add-t17
+add-t17 c = ?
+
+-- src/vehicle.rt:121:19
+add-t19 : tie.Need-add-t19
+add-t19 c = ?
+
+-- src/vehicle.rt:103:1
+same-length-3 : tie.Need-same-length-3
+same-length-3 c = ?
+
+-- src/vehicle.rt:103:1
+returns-3 : tie.Need-returns-3
+returns-3 c = ?
+
+pub walk-vehicle-spec : {M : Type 1} → statement M
+walk-vehicle-spec =
+    tie.close
+    (tie.spec
+    walk-tasks-requires
+    failed-requires
+    same-length
+    returns
+    walk-home-requires
+    failed-requires-2
+    same-length-2
+    returns-2
+    mul-part
+    slice-write-part
+    leg-between-requires
+    add-t17
+    add-t19
+    same-length-3
+    returns-3)

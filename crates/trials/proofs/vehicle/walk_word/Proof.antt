@@ -1,0 +1,73 @@
+use borrow.Author.Needs.{needs}
+use Rattle.trials.proofs.vehicle.walk_word.Statement.{statement}
+use Rattle.trials.proofs.vehicle.walk_word.Tie as tie
+use Rattle.trials.proofs.vehicle.walk_word.Reads as reads
+use Rattle.trials.proofs.vehicle.walk_word.Lts as lts
+use Rattle.trials.proofs.cabs.rest_cab.Reads as rest-cab-reads
+use Rattle.trials.proofs.cabs.walk_stop.Reads as walk-stop-reads
+use Rattle.trials.proofs.cabs.walk_tip.Reads as walk-tip-reads
+
+-- src/vehicle.rt:28:9
+returns : tie.Need-returns
+returns c = ?
+
+-- src/vehicle.rt:31:9
+returns-2 : tie.Need-returns-2
+returns-2 c = ?
+
+-- src/vehicle.rt:33:9
+rest-cab-requires : tie.Need-rest-cab-requires
+rest-cab-requires c κs = ?
+
+-- src/vehicle.rt:35:43
+sub-walk-stop : tie.Need-sub-walk-stop
+sub-walk-stop c = ?
+
+-- src/vehicle.rt:35:42
+cast-walk-stop : tie.Need-cast-walk-stop
+cast-walk-stop c = search needs
+
+-- src/vehicle.rt:35:9
+walk-stop-requires : tie.Need-walk-stop-requires
+walk-stop-requires c κs = ?
+
+-- src/vehicle.rt:35:9
+same-length : tie.Need-same-length
+same-length c = search needs
+
+-- src/vehicle.rt:35:9
+returns-3 : tie.Need-returns-3
+returns-3 c = ?
+
+-- src/vehicle.rt:37:30
+cast-walk-tip : tie.Need-cast-walk-tip
+cast-walk-tip c = search needs
+
+-- src/vehicle.rt:37:5
+walk-tip-requires : tie.Need-walk-tip-requires
+walk-tip-requires c κs = ?
+
+-- src/vehicle.rt:23:1
+same-length-2 : tie.Need-same-length-2
+same-length-2 c = search needs
+
+-- src/vehicle.rt:23:1
+returns-4 : tie.Need-returns-4
+returns-4 c = ?
+
+pub walk-word-spec : {M : Type 1} → statement M
+walk-word-spec =
+    tie.close
+    (tie.spec
+    returns
+    returns-2
+    rest-cab-requires
+    sub-walk-stop
+    cast-walk-stop
+    walk-stop-requires
+    same-length
+    returns-3
+    cast-walk-tip
+    walk-tip-requires
+    same-length-2
+    returns-4)
