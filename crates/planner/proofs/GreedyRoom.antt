@@ -25,7 +25,7 @@ use Rattle.planner.proofs.Driving.{reached-keeps, vehicle-keeps, restin
 use Rattle.planner.proofs.Fleets.{fleet-every}
 use Rattle.planner.proofs.GreedyForm.{greedy-busy, greedy-named}
 use Rattle.planner.proofs.NextTasks.{IsNext, takes, empties, waits}
-use Rattle.planner.proofs.VehicleStops.{Routes, reached-routes, vehicle-routes, rested-routes}
+use Rattle.planner.proofs.VehicleStops.{reached-routes, vehicle-routes, rested-routes}
 use Rattle.planner.proofs.WaysHome.{due-true}
 
 -- how many tips a vehicle visits
@@ -43,7 +43,7 @@ tasks-counted (serve k ∷ tasks) = omega (arith, tasks-counted tasks)
 tasks-counted (empty k ∷ tasks) = omega (arith, tasks-counted tasks)
 tasks-counted (lunch ∷ tasks) = omega (arith, tasks-counted tasks)
 
-empties-append : (xs ys : Round) → emptiesIn (xs ++ ys) ≡ emptiesIn xs + emptiesIn ys
+pub empties-append : (xs ys : Round) → emptiesIn (xs ++ ys) ≡ emptiesIn xs + emptiesIn ys
 unfolding emptiesIn
 empties-append [] ys = omega arith
 empties-append (serve k ∷ xs) ys = empties-append xs ys
@@ -63,7 +63,7 @@ pub record Paid (v : Truck) : Type 0 where
   pub rests : restsIn (v .tasks) ≡ restsTaken (v .trip .rested)
 
 module _ (day : List ℕ) where
-  paid-rest : (v : Truck) → due day (v .trip) ≡ true → Paid v → Paid (doing day v lunch)
+  pub paid-rest : (v : Truck) → due day (v .trip) ≡ true → Paid v → Paid (doing day v lunch)
   unfolding emptiesIn restsIn cargoAfter
   paid-rest v e p =
       let unfed : restsTaken (v .trip .rested) ≡ 0 = rw (due-true day (v .trip) e .unfed) refl in
@@ -72,7 +72,7 @@ module _ (day : List ℕ) where
         rests = omega (arith, p .rests, rests-append (v .tasks) (lunch ∷ []));
       }
 
-  paid-serve : (v : Truck) (k : ℕ) → Paid v → Paid (doing day v (serve k))
+  pub paid-serve : (v : Truck) (k : ℕ) → Paid v → Paid (doing day v (serve k))
   unfolding emptiesIn restsIn cargoAfter
   paid-serve v k p =
       record {
@@ -80,17 +80,20 @@ module _ (day : List ℕ) where
         rests = omega (arith, p .rests, rests-append (v .tasks) (serve k ∷ []));
       }
 
-  paid-next : (v : Truck) (task : Task) → due day (v .trip) ≡ false → IsNext day v task → Paid v → Paid (doing day v task)
+  pub paid-empty : (v : Truck) (x : ℕ) → 0 < v .cargo .load → Paid v → Paid (doing day v (empty x))
   unfolding emptiesIn restsIn cargoAfter
-  paid-next v task e (takes k c) p = paid-serve v k p
-  paid-next v task e (waits k z c) p = paid-serve v k p
-  paid-next v task e (empties x l q o) p =
+  paid-empty v x l p =
       record {
         tips = omega (arith, rw (lt-ltb 0 (v .cargo .load) l) at (p .tips), empties-append (v .tasks) (empty x ∷ []));
         rests = omega (arith, p .rests, rests-append (v .tasks) (empty x ∷ []));
       }
 
-  paid-fresh : (before : List ℕ) → Paid (fresh day before)
+  paid-next : (v : Truck) (task : Task) → due day (v .trip) ≡ false → IsNext day v task → Paid v → Paid (doing day v task)
+  paid-next v task e (takes k c) p = paid-serve v k p
+  paid-next v task e (waits k z c) p = paid-serve v k p
+  paid-next v task e (empties x l q o) p = paid-empty v x l p
+
+  pub paid-fresh : (before : List ℕ) → Paid (fresh day before)
   unfolding emptiesIn restsIn
   paid-fresh before = record { tips = omega arith; rests = refl }
 
@@ -110,24 +113,24 @@ pub record Room (tasks : Round) : Type 0 where
   pub rests : restsIn tasks ≤ 1
   pub size : length tasks ≤ 2 * length (stopsOn tasks) + 1
 
-paid-room : (day before : List ℕ) (v : Truck) → Routes day before v → Paid v → Room (v .tasks)
-paid-room day before v r p =
+pub paid-room : (v : Truck) → v .cargo .visits ≡ length (stopsOn (v .tasks)) → Paid v → Room (v .tasks)
+paid-room v e p =
     let once = bit-most (v .trip .rested) in
     record {
-      tips = omega (arith, r .visits, p .tips);
+      tips = omega (arith, p .tips);
       rests = omega (arith, p .rests);
-      size = omega (arith, r .visits, p .tips, p .rests, tasks-counted (v .tasks));
+      size = omega (arith, p .tips, p .rests, tasks-counted (v .tasks));
     }
 
 module _ (day before : List ℕ) where
   pub reached-room : (v : Truck) → Reached day before v → Room (v .tasks)
-  reached-room v h = paid-room day before v (reached-routes day before v h) (reached-paid day before v h)
+  reached-room v h = paid-room v (reached-routes day before v h .visits) (reached-paid day before v h)
 
   pub rested-room : (v : Truck) → Reached day before v → Room (resting day v .tasks)
-  rested-room v h = paid-room day before (resting day v) (rested-routes day before v h) (rested-paid day before v h)
+  rested-room v h = paid-room (resting day v) (rested-routes day before v h .visits) (rested-paid day before v h)
 
   pub vehicle-room : Room (oneVehicle day before .tasks)
-  vehicle-room = paid-room day before (oneVehicle day before) (vehicle-routes day before) (vehicle-paid day before)
+  vehicle-room = paid-room (oneVehicle day before) (vehicle-routes day before .visits) (vehicle-paid day before)
 
 -- the words of a vehicle
 pub round-length : (number : ℕ) (tasks : Round) → length (roundWords number tasks) ≡ length tasks + 2

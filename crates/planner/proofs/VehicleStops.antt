@@ -36,7 +36,8 @@ met-task met (serve k) = refl
 met-task met (empty k) = refl
 met-task met lunch = refl
 
-visits-task : (day : List ℕ) (c : Cargo) (task : Task) → cargoAfter day c (wordFor task) .visits ≡ c .visits + length (stopsOn (task ∷ []))
+-- and counts it
+pub visits-task : (day : List ℕ) (c : Cargo) (task : Task) → cargoAfter day c (wordFor task) .visits ≡ c .visits + length (stopsOn (task ∷ []))
 unfolding cargoAfter stopsOn
 visits-task day c (serve k) = refl
 visits-task day c (empty k) = omega arith

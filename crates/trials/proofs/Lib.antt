@@ -3,3 +3,4 @@ pub mod ChangeLaws
 pub mod Searching
 pub mod TrialCases
 pub mod WalkLaws
+pub mod Walking
