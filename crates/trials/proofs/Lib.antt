@@ -1,7 +1,10 @@
 pub mod CabLaws
 pub mod ChangeLaws
+pub mod EditLaws
+pub mod EditSuits
 pub mod NeighbourLaws
 pub mod Searching
+pub mod Shapes
 pub mod TrialCases
 pub mod WalkLaws
 pub mod Walking

@@ -1,0 +1,140 @@
+-- The plans that trials work on: they serve the greedy plan's stops, each once, by as many busy vehicles with room. Which vehicle a stop is
+-- on, and what a trial that may be made names. The day may be any list of words.
+-- Assumes nothing.
+use Prim.Native.Nat.{ℕ, suc, _+_, _*_, _≤_, _<_}
+use mathlib.Core.Path.{_≡_, refl, sym, ap, _∙_}
+use mathlib.Core.Bool.{true, false, true≢false, false≢true}
+use mathlib.Core.List.{List, [], _∷_, _++_}
+use mathlib.Core.Logic.{_⊎_, inl, inr}
+use native.Mathlib.Omega.{arith}
+use lib.Dec.{eqb}
+use lib.ListN.{length, length-append}
+use borrow.Author.Tests.{eqb-false, eq-eqb, ne-eqb}
+use Rattle.laws.specs.Lists.{Every, mem, times}
+use Rattle.laws.specs.Tests.{if_then_else_}
+use Rattle.day.specs.Fields.{stops}
+use Rattle.checker.specs.Plan.{serve, empty, Round, stopsOn, stopsOnAll, planWords, Known}
+use Rattle.planner.specs.Build.{greedyRounds, greedyLefts}
+use Rattle.planner.proofs.Decided.{known}
+use Rattle.planner.proofs.GreedyForm.{times-append, greedy-known, greedy-busy, greedy-once, greedy-named}
+use Rattle.planner.proofs.GreedyRoom.{Room, rounds-words, plan-length, greedy-rooms}
+use Rattle.trials.specs.Edits.{before, after, swap, remove, replace, Trial, onOne, onTwo}
+use Rattle.trials.specs.TrialList.{vehicleFrom, vehicleOf}
+
+-- a plan as trials find and leave it, lawful or not
+pub record Shaped (day : List ℕ) (rounds : List Round) : Type 0 where
+  pub known : Every (Every (Known day)) rounds
+  pub rooms : Every Room rounds
+  pub busy : Every (λ tasks. 0 < length (stopsOn tasks)) rounds
+  -- each stop stands as often as in the greedy plan
+  pub once : (k : ℕ) → times k (stopsOnAll rounds) ≡ times k (stopsOnAll (greedyRounds day))
+  pub count : length (stopsOnAll rounds) ≡ length (stopsOnAll (greedyRounds day))
+  pub vehicles : length rounds ≡ length (greedyRounds day)
+
+pub greedy-shaped : (day : List ℕ) → Shaped day (greedyRounds day)
+greedy-shaped day =
+    record { known = greedy-known day; rooms = greedy-rooms day; busy = greedy-busy day; once = λ k. refl; count = refl; vehicles = refl }
+
+module _ (day : List ℕ) (rounds : List Round) (s : Shaped day rounds) where
+  -- 5n words are enough
+  pub shaped-length : length (planWords rounds (greedyLefts day)) ≤ 5 * stops day
+  shaped-length = omega (arith, plan-length rounds (greedyLefts day), rounds-words 0 rounds (s .rooms) (s .busy), greedy-named day, s .count)
+
+  pub shaped-stops : length (stopsOnAll rounds) ≤ stops day
+  shaped-stops = omega (arith, greedy-named day, s .count)
+
+  -- no stop stands twice
+  pub shaped-once : (k : ℕ) → 1 ≤ k → k ≤ stops day → times k (stopsOnAll rounds) ≤ 1
+  shaped-once k a b = omega (arith, greedy-once day k a b, times-append k (stopsOnAll (greedyRounds day)) (greedyLefts day), s .once k)
+
+-- a property of each vehicle and its number, counted on from a number
+unfoldable pub EachFrom : (ℕ → Round → Type 0) → ℕ → List Round → Type 0
+EachFrom P from [] = Unit {0}
+EachFrom P from (tasks ∷ rounds) = P (suc from) tasks × EachFrom P (suc from) rounds
+
+pub each-at : (P : ℕ → Round → Type 0) (from : ℕ) (front : List Round) (tasks : Round) (rest : List Round)
+    → EachFrom P from (front ++ (tasks ∷ rest)) → P (from + length front + 1) tasks
+unfolding EachFrom
+each-at P from [] tasks rest h =
+    let e : suc from ≡ from + 0 + 1 = omega arith in
+    rw (← e) (h .0)
+each-at P from (first ∷ front) tasks rest h =
+    let e : suc from + length front + 1 ≡ from + suc (length front) + 1 = omega arith in
+    rw (← e) (each-at P (suc from) front tasks rest (h .1))
+
+-- a stop stands once on the vehicle with a number, and on no other
+unfoldable pub Stands : ℕ → ℕ → ℕ → Round → Type 0
+Stands k number n tasks = times k (stopsOn tasks) ≡ (if eqb n number then 1 else 0)
+
+pub record On (day : List ℕ) (rounds : List Round) (k number : ℕ) : Type 0 where
+  pub known : Known day (serve k)
+  pub first : 1 ≤ number
+  pub within : number ≤ length rounds
+  pub stands : EachFrom (Stands k number) 0 rounds
+
+-- a trial that may be made of a plan: its stops differ and are on the vehicles that it touches, its tip is one of the day's
+pub data Valid (day : List ℕ) (rounds : List Round) : Trial → Type 0 where
+  moved-before : (i j number : ℕ) → (i ≡ j → ⊥) → On day rounds i number → On day rounds j number → Valid day rounds (onOne (before i j) number)
+  moved-after : (i j number : ℕ) → (i ≡ j → ⊥) → On day rounds i number → On day rounds j number → Valid day rounds (onOne (after i j) number)
+  swapped : (i j number other : ℕ) → (i ≡ j → ⊥) → (number ≡ other → ⊥) → On day rounds i number → On day rounds j other
+      → Valid day rounds (onTwo (swap i j) number other)
+  removed : (at number : ℕ) → 1 ≤ number → number ≤ length rounds → Valid day rounds (onOne (remove at) number)
+  replaced : (at x number : ℕ) → Known day (empty x) → 1 ≤ number → number ≤ length rounds → Valid day rounds (onOne (replace at x) number)
+
+-- standing in a list, and how often
+pub mem-times : (k : ℕ) (ks : List ℕ) → mem k ks ≡ true → 1 ≤ times k ks
+unfolding mem times
+mem-times k [] e = absurd (false≢true e)
+mem-times k (x ∷ ks) e = elim (known (eqb k x)) [ inl a ↦ rw a (omega arith) | inr a ↦ rw a (omega (arith, mem-times k ks (rw a at e))) ]
+
+pub not-mem-times : (k : ℕ) (ks : List ℕ) → mem k ks ≡ false → times k ks ≡ 0
+unfolding mem times
+not-mem-times k [] e = refl
+not-mem-times k (x ∷ ks) e = elim (known (eqb k x)) [
+  | inl a ↦ absurd (true≢false (rw a at e))
+  | inr a ↦ rw a (omega (arith, not-mem-times k ks (rw a at e)))
+]
+
+times-all-front : (k : ℕ) (tasks : Round) (rounds : List Round) → times k (stopsOnAll (tasks ∷ rounds)) ≡ times k (stopsOn tasks) + times k (stopsOnAll rounds)
+unfolding stopsOnAll
+times-all-front k tasks rounds = times-append k (stopsOn tasks) (stopsOnAll rounds)
+
+-- a stop on no vehicle
+stands-none : (k number from : ℕ) (rounds : List Round) → number ≤ from → times k (stopsOnAll rounds) ≡ 0 → EachFrom (Stands k number) from rounds
+unfolding EachFrom Stands
+stands-none k number from [] h z = tt
+stands-none k number from (tasks ∷ rounds) h z =
+    (rw (ne-eqb (suc from) number (λ e. omega arith)) (omega (arith, times-all-front k tasks rounds)),
+     stands-none k number (suc from) rounds (omega arith) (omega (arith, times-all-front k tasks rounds)))
+
+-- the number of the vehicle that a stop is on
+pub record Found (k from number : ℕ) (rounds : List Round) : Type 0 where
+  pub above : from < number
+  pub within : number ≤ from + length rounds
+  pub named : 1 ≤ times k (stopsOnAll rounds)
+  pub stands : times k (stopsOnAll rounds) ≤ 1 → EachFrom (Stands k number) from rounds
+
+pub vehicle-found : (from k : ℕ) (rounds : List Round) → (vehicleFrom from k rounds ≡ 0) ⊎ Found k from (vehicleFrom from k rounds) rounds
+unfolding vehicleFrom EachFrom Stands
+vehicle-found from k [] = inl refl
+vehicle-found from k (tasks ∷ rounds) = elim (known (mem k (stopsOn tasks))) [
+  | inl a ↦ rw a (inr (record {
+      above = omega arith;
+      within = omega arith;
+      named = omega (arith, times-all-front k tasks rounds, mem-times k (stopsOn tasks) a);
+      stands = λ l.
+          (rw (eq-eqb (suc from) (suc from) refl) (omega (arith, times-all-front k tasks rounds, mem-times k (stopsOn tasks) a)),
+           stands-none k (suc from) (suc from) rounds (omega arith) (omega (arith, times-all-front k tasks rounds, mem-times k (stopsOn tasks) a)));
+    }))
+  | inr a ↦ rw a (elim (vehicle-found (suc from) k rounds) [
+    | inl z ↦ inl z
+    | inr f ↦ inr (record {
+        above = omega (arith, f .above);
+        within = omega (arith, f .within);
+        named = omega (arith, f .named, times-all-front k tasks rounds);
+        stands = λ l.
+            (rw (ne-eqb (suc from) (vehicleFrom (suc from) k rounds) (λ e. omega (arith, f .above))) (not-mem-times k (stopsOn tasks) a),
+             f .stands (omega (arith, times-all-front k tasks rounds)));
+      })
+  ])
+]
