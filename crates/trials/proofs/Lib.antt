@@ -2,8 +2,11 @@ pub mod CabLaws
 pub mod ChangeLaws
 pub mod EditLaws
 pub mod EditSuits
+pub mod ListLength
+pub mod Listed
 pub mod NeighbourLaws
 pub mod Searching
+pub mod ShapeKept
 pub mod Shapes
 pub mod TrialCases
 pub mod WalkLaws

@@ -70,6 +70,7 @@ pub record On (day : List ℕ) (rounds : List Round) (k number : ℕ) : Type 0 w
   pub known : Known day (serve k)
   pub first : 1 ≤ number
   pub within : number ≤ length rounds
+  pub once : times k (stopsOnAll rounds) ≡ 1
   pub stands : EachFrom (Stands k number) 0 rounds
 
 -- a trial that may be made of a plan: its stops differ and are on the vehicles that it touches, its tip is one of the day's
@@ -103,9 +104,10 @@ times-all-front k tasks rounds = times-append k (stopsOn tasks) (stopsOnAll roun
 stands-none : (k number from : ℕ) (rounds : List Round) → number ≤ from → times k (stopsOnAll rounds) ≡ 0 → EachFrom (Stands k number) from rounds
 unfolding EachFrom Stands
 stands-none k number from [] h z = tt
-stands-none k number from (tasks ∷ rounds) h z =
-    (rw (ne-eqb (suc from) number (λ e. omega arith)) (omega (arith, times-all-front k tasks rounds)),
-     stands-none k number (suc from) rounds (omega arith) (omega (arith, times-all-front k tasks rounds)))
+stands-none k number from (tasks ∷ rounds) h z = (
+  rw (ne-eqb (suc from) number (λ e. omega arith)) (omega (arith, times-all-front k tasks rounds)),
+  stands-none k number (suc from) rounds (omega arith) (omega (arith, times-all-front k tasks rounds)),
+)
 
 -- the number of the vehicle that a stop is on
 pub record Found (k from number : ℕ) (rounds : List Round) : Type 0 where
@@ -119,22 +121,24 @@ unfolding vehicleFrom EachFrom Stands
 vehicle-found from k [] = inl refl
 vehicle-found from k (tasks ∷ rounds) = elim (known (mem k (stopsOn tasks))) [
   | inl a ↦ rw a (inr (record {
-      above = omega arith;
-      within = omega arith;
-      named = omega (arith, times-all-front k tasks rounds, mem-times k (stopsOn tasks) a);
-      stands = λ l.
-          (rw (eq-eqb (suc from) (suc from) refl) (omega (arith, times-all-front k tasks rounds, mem-times k (stopsOn tasks) a)),
-           stands-none k (suc from) (suc from) rounds (omega arith) (omega (arith, times-all-front k tasks rounds, mem-times k (stopsOn tasks) a)));
-    }))
+    above = omega arith;
+    within = omega arith;
+    named = omega (arith, times-all-front k tasks rounds, mem-times k (stopsOn tasks) a);
+    stands = λ l. (
+      rw (eq-eqb (suc from) (suc from) refl) (omega (arith, times-all-front k tasks rounds, mem-times k (stopsOn tasks) a)),
+      stands-none k (suc from) (suc from) rounds (omega arith) (omega (arith, times-all-front k tasks rounds, mem-times k (stopsOn tasks) a)),
+    );
+  }))
   | inr a ↦ rw a (elim (vehicle-found (suc from) k rounds) [
     | inl z ↦ inl z
     | inr f ↦ inr (record {
-        above = omega (arith, f .above);
-        within = omega (arith, f .within);
-        named = omega (arith, f .named, times-all-front k tasks rounds);
-        stands = λ l.
-            (rw (ne-eqb (suc from) (vehicleFrom (suc from) k rounds) (λ e. omega (arith, f .above))) (not-mem-times k (stopsOn tasks) a),
-             f .stands (omega (arith, times-all-front k tasks rounds)));
-      })
+      above = omega (arith, f .above);
+      within = omega (arith, f .within);
+      named = omega (arith, f .named, times-all-front k tasks rounds);
+      stands = λ l. (
+        rw (ne-eqb (suc from) (vehicleFrom (suc from) k rounds) (λ e. omega (arith, f .above))) (not-mem-times k (stopsOn tasks) a),
+        f .stands (omega (arith, times-all-front k tasks rounds)),
+      );
+    })
   ])
 ]
