@@ -5,6 +5,7 @@ pub mod EditSuits
 pub mod ListLength
 pub mod Listed
 pub mod NeighbourLaws
+pub mod PlanTold
 pub mod Searching
 pub mod ShapeKept
 pub mod Shapes
