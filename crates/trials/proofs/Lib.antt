@@ -6,6 +6,7 @@ pub mod ListLength
 pub mod Listed
 pub mod NeighbourLaws
 pub mod PlanTold
+pub mod Promises
 pub mod Searching
 pub mod ShapeKept
 pub mod Shapes

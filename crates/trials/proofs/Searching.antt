@@ -12,7 +12,7 @@ use native.Mathlib.Numerals.{add-one}
 use native.Mathlib.Nat.{mul-le-mul-right, suc-add, sub-zero}
 use lib.ListN.{length, length-append}
 use Rattle.planner.proofs.Decided.{known-option}
-use Rattle.trials.specs.Search.{Result, run, improve, Held, start, kept, Outcome, lists}
+use Rattle.trials.specs.Search.{Result, run, improve, Held, start, kept, Outcome, lists, sum}
 
 module _ {P M : Type 0} (list : P → List M) (attempt : P → M → Option P) where
   -- The steps, for a loop of the code.
@@ -184,10 +184,6 @@ lists-mem list (k ∷ ks) k′ p m i j = elim (List·Memᴰ·cases-cons i) [
   | inl e ↦ Memᴰ·append-left (lists list ks p) (rw e at j)
   | inr i′ ↦ Memᴰ·append-right (list k p) (lists-mem list ks k′ p m i′ j)
 ]
-
-unfoldable pub sum : List ℕ → ℕ
-sum [] = 0
-sum (x ∷ xs) = x + sum xs
 
 pub lists-bound : {P M : Type 0} (list : ℕ → P → List M) (n d : ℕ) (p : P) → ((k : ℕ) → length (list k p) ≤ n * (2 * k + d))
     → (ks : List ℕ) → length (lists list ks p) ≤ n * (2 * sum ks + length ks * d)

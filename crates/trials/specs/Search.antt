@@ -50,3 +50,8 @@ module _ {P M : Type 0} (list : P → List M) (attempt : P → M → Option P) w
 unfoldable pub lists : {P M N : Type 0} → (N → P → List M) → List N → P → List M
 lists list [] p = []
 lists list (k ∷ ks) p = list k p ++ lists list ks p
+
+-- the sum of the neighbourhoods' sizes
+unfoldable pub sum : List ℕ → ℕ
+sum [] = 0
+sum (x ∷ xs) = x + sum xs
