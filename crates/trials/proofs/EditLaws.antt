@@ -1,8 +1,7 @@
 -- What an edit does to a vehicle's stops: none is lost, none comes twice, and their number stays. The day may be any list of words.
 -- Assumes nothing.
-use Prim.Native.Nat.{ℕ, suc, _+_, _≤_}
+use Prim.Native.Nat.{ℕ, suc, _+_}
 use mathlib.Core.Path.{_≡_, refl, sym, ap, _∙_}
-use mathlib.Core.Bool.{Bool, true, false}
 use mathlib.Core.List.{List, [], _∷_, _++_}
 use mathlib.Core.Logic.{inl, inr}
 use native.Mathlib.Omega.{arith}
@@ -12,7 +11,6 @@ use borrow.Author.Tests.{eqb-true, eqb-false, eq-eqb, ne-eqb}
 use Rattle.laws.specs.Lists.{Every, times}
 use Rattle.laws.specs.Tests.{if_then_else_}
 use Rattle.laws.proofs.Fresh.{every-append}
-use Rattle.day.specs.Fields.{stops, tips}
 use Rattle.checker.specs.Plan.{Task, serve, empty, lunch, Round, stopsOn, Known}
 use Rattle.planner.proofs.Decided.{known}
 use Rattle.planner.proofs.GreedyForm.{times-append}

@@ -14,7 +14,7 @@ use Rattle.laws.specs.Lists.{Every, times}
 use Rattle.laws.specs.Tests.{if_then_else_}
 use Rattle.checker.specs.Plan.{serve, empty, Round, stopsOn, Known}
 use Rattle.planner.proofs.Decided.{known}
-use Rattle.trials.specs.Edits.{Edit, before, after, swap, remove, replace, changeStop, changed}
+use Rattle.trials.specs.Edits.{Edit, before, after, swap, remove, replace, changeStop}
 use Rattle.trials.proofs.EditLaws.{renamed, Named, Suits, times-all, length-all, changed-known, move-same, move-count}
 
 module _ (day : List ℕ) (tasks : Round) (h : Every (Known day) tasks) where

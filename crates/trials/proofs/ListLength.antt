@@ -2,22 +2,22 @@
 -- of words.
 -- Assumes nothing.
 use Prim.Native.Nat.{ℕ, zero, suc, _+_, _*_, _≤_, _<_}
-use mathlib.Core.Path.{_≡_, refl, sym, ap, _∙_}
+use mathlib.Core.Path.{_≡_, refl}
 use mathlib.Core.Bool.{Bool, true, false, _||_}
-use mathlib.Core.List.{List, [], _∷_, _++_}
+use mathlib.Core.List.{List, [], _∷_}
 use mathlib.Core.Logic.{inl, inr}
 use native.Mathlib.Nat.{mul-le-mul-right, eq-or-lt-of-le}
 use native.Mathlib.Omega.{arith}
 use lib.Dec.{eqb}
 use lib.ListN.{length, length-append}
-use borrow.Author.Tests.{eq-eqb, ne-eqb}
+use borrow.Author.Tests.{eq-eqb}
 use Rattle.laws.specs.Lists.{Every, total}
 use Rattle.laws.specs.Tests.{if_then_else_}
 use Rattle.day.specs.Fields.{stops, tips}
-use Rattle.checker.specs.Plan.{Task, serve, empty, lunch, Round, Known}
+use Rattle.checker.specs.Plan.{serve, empty, lunch, Round, Known}
 use Rattle.planner.proofs.Decided.{known}
 use Rattle.planner.proofs.GreedyRoom.{emptiesIn, rounds-tips}
-use Rattle.trials.specs.Edits.{Trial, onOne, onTwo, before, after, swap}
+use Rattle.trials.specs.Edits.{onOne, onTwo, before, after, swap}
 use Rattle.trials.specs.Neighbours.{neighbours}
 use Rattle.trials.specs.TrialList.{each, rising, vehicleOf, pairTrials, stopTrials, otherTip, taskTrials, roundTrials, tipTrials, trialList}
 use Rattle.trials.proofs.NeighbourLaws.{neighbours-are}

@@ -3,25 +3,24 @@
 -- Assumes nothing.
 use Prim.Native.Nat.{ℕ, zero, suc, _+_, _≤_, _<_}
 use mathlib.Core.Path.{_≡_, sym, subst}
-use mathlib.Core.Bool.{Bool, true, false, not, _||_}
-use mathlib.Core.List.{List, [], _∷_, _++_, List·Memᴰ, List·Memᴰ·cases-cons, List·Memᴰ·not-nil}
+use mathlib.Core.Bool.{true, not}
+use mathlib.Core.List.{List, [], _∷_, List·Memᴰ, List·Memᴰ·cases-cons, List·Memᴰ·not-nil}
 use mathlib.Core.Logic.{inl, inr}
 use native.Mathlib.Omega.{arith}
 use lib.Dec.{eqb}
 use lib.ListN.{length}
 use borrow.Author.Tests.{eqb-true, eqb-false, not-true}
 use Rattle.laws.specs.Lists.{Every}
-use Rattle.laws.specs.Tests.{if_then_else_}
 use Rattle.laws.proofs.Fresh.{every-append}
 use Rattle.laws.proofs.Tests.{both-true}
 use Rattle.day.specs.Fields.{stops, tips}
 use Rattle.checker.specs.Plan.{Task, serve, empty, lunch, Round, Known}
 use Rattle.planner.proofs.Decided.{known}
-use Rattle.trials.specs.Edits.{before, after, swap, remove, replace, Trial, onOne, onTwo}
+use Rattle.trials.specs.Edits.{Trial}
 use Rattle.trials.specs.Neighbours.{compatible, neighbours}
 use Rattle.trials.specs.TrialList.{each, rising, vehicleOf, pairTrials, stopTrials, otherTip, taskTrials, roundTrials, tipTrials, trialList}
 use Rattle.trials.proofs.NeighbourLaws.{neighbours-are}
-use Rattle.trials.proofs.Shapes.{Shaped, shaped-once, On, Valid, moved-before, moved-after, swapped, removed, replaced, Found, vehicle-found}
+use Rattle.trials.proofs.Shapes.{Shaped, shaped-once, On, Valid, moved-before, moved-after, swapped, removed, replaced, vehicle-found}
 
 -- what holds of each element holds of one
 pub every-mem : {A : Type 0} (P : A → Type 0) (xs : List A) (x : A) → Every P xs → List·Memᴰ x xs → P x

@@ -1,13 +1,13 @@
 -- The neighbours of a stop are the first K compatible stops in the order of (minutes, number). The day may be any list of words.
 -- Assumes nothing.
-use Prim.Native.Nat.{ℕ, zero, suc, _+_, _*_, _≤_, _<_}
+use Prim.Native.Nat.{ℕ, zero, suc, _≤_, _<_}
 use mathlib.Core.Path.{_≡_, refl, sym, ap, _∙_}
-use mathlib.Core.Bool.{Bool, true, false, _&&_, true≢false}
+use mathlib.Core.Bool.{true, true≢false}
 use mathlib.Core.List.{List, [], _∷_, map, List·Memᴰ, List·Memᴰ·head, List·Memᴰ·tail}
 use mathlib.Core.Logic.{_⊎_, inl, inr}
 use native.Mathlib.Nat.{eq-zero-or-pos, eq-or-lt-of-le}
 use native.Mathlib.Omega.{arith}
-use lib.Dec.{ltb, eqb}
+use lib.Dec.{ltb}
 use lib.ListN.{length}
 use borrow.Author.Tests.{eq-eqb, ne-eqb, ltb-true, lt-ltb}
 use Rattle.laws.specs.Least.{IsLeast}
@@ -15,7 +15,7 @@ use Rattle.laws.specs.Lists.{Every, Rising}
 use Rattle.laws.proofs.Least.{least-is}
 use Rattle.laws.proofs.Tests.{both-true}
 use Rattle.day.specs.Fields.{stops}
-use Rattle.trials.specs.Neighbours.{compatible, between, neighbourKey, behind, nextNeighbour, neighboursAfter, neighbours, AreNeighbours}
+use Rattle.trials.specs.Neighbours.{compatible, neighbourKey, behind, nextNeighbour, neighboursAfter, neighbours, AreNeighbours}
 
 module _ (day : List ℕ) (i : ℕ) where
   -- the next one behind a key, and how the list goes on

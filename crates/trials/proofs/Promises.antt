@@ -1,9 +1,9 @@
 -- Demand 3 holds of planning with trials on every accepted day.
 -- Assumes nothing.
 use Prim.Native.Nat.{ℕ, _+_, _*_, _≤_, _<_}
-use mathlib.Core.Path.{_≡_, refl, sym, ap, _∙_}
-use mathlib.Core.Bool.{Bool, true, false, _&&_}
-use mathlib.Core.List.{List, [], _∷_, _++_, List·Memᴰ}
+use mathlib.Core.Path.{_≡_, refl, ap, _∙_}
+use mathlib.Core.Bool.{true, _&&_}
+use mathlib.Core.List.{List, [], _∷_, List·Memᴰ}
 use mathlib.Core.Option.{Option, none, some, Option·some-injective, Option·none-ne-some}
 use native.Mathlib.Nat.{mul-assoc}
 use native.Mathlib.Omega.{arith}
@@ -11,23 +11,22 @@ use lib.Dec.{ltb}
 use lib.ListN.{length}
 use borrow.Author.Tests.{ltb-true}
 use Rattle.laws.specs.Answers.{given, isGiven}
-use Rattle.laws.specs.Lists.{Every, times}
-use Rattle.laws.specs.Tests.{if_then_else_}
+use Rattle.laws.specs.Lists.{Every}
 use Rattle.laws.proofs.Fresh.{every-append}
 use Rattle.laws.proofs.Tests.{both-true, only-first}
 use Rattle.day.specs.Accepted.{IsAccepted}
 use Rattle.day.specs.Fields.{stops, tips}
 use Rattle.day.proofs.Ranges.{accepted-ranges}
-use Rattle.checker.specs.Check.{checkPlan, checkWords}
+use Rattle.checker.specs.Check.{checkPlan}
 use Rattle.checker.specs.Plan.{Round, planWords, stopsOnAll, Formed}
 use Rattle.planner.specs.Build.{greedyRounds, greedyLefts, greedyPlan}
 use Rattle.planner.proofs.GreedyForm.{times-append, greedy-rising, greedy-once, greedy-others}
 use Rattle.planner.proofs.GreedyLawful.{greedy-answer}
 use Rattle.planner.proofs.LeftOut.{left-out-justified}
 use Rattle.trials.specs.Attempts.{tried, distanceOf, isLawful, keptIf, attempt, searched}
-use Rattle.trials.specs.Demands.{plannedRounds, plannedWords, Promised, DemandThree}
+use Rattle.trials.specs.Demands.{plannedRounds, Promised, DemandThree}
 use Rattle.trials.specs.Edits.{Trial}
-use Rattle.trials.specs.Search.{improve, lists, sum}
+use Rattle.trials.specs.Search.{lists, sum}
 use Rattle.trials.specs.TrialList.{trialList}
 use Rattle.trials.proofs.ListLength.{trials-bound}
 use Rattle.trials.proofs.Listed.{every-mem, listed-all}

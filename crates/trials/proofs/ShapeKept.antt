@@ -1,7 +1,7 @@
 -- A trial that is listed for a plan leaves it in shape, whether or not the plan is then lawful: the same stops, each once, known numbers and
 -- room for its words. The day may be any list of words.
 -- Assumes nothing.
-use Prim.Native.Nat.{ℕ, suc, _+_, _<_}
+use Prim.Native.Nat.{ℕ, suc, _<_}
 use mathlib.Core.Path.{_≡_, refl, sym, ap, _∙_, subst}
 use mathlib.Core.Bool.{Bool, true, false, _||_, true≢false}
 use mathlib.Core.List.{List, [], _∷_, List·Memᴰ}
@@ -12,12 +12,12 @@ use lib.Dec.{eqb}
 use lib.ListN.{length, length-append}
 use Rattle.laws.specs.Lists.{Every, times}
 use Rattle.laws.specs.Tests.{if_then_else_}
-use Rattle.checker.specs.Plan.{serve, Round, stopsOn, stopsOnAll, Known}
+use Rattle.checker.specs.Plan.{Round, stopsOn, stopsOnAll, Known}
 use Rattle.planner.proofs.Decided.{known}
 use Rattle.planner.proofs.GreedyForm.{times-append}
 use Rattle.planner.proofs.GreedyRoom.{Room}
 use Rattle.trials.specs.Attempts.{retried, joined, triedFrom, tried}
-use Rattle.trials.specs.Edits.{swap, changed, Trial, touches}
+use Rattle.trials.specs.Edits.{changed, Trial, touches}
 use Rattle.trials.specs.TrialList.{trialList}
 use Rattle.trials.proofs.EditLaws.{renamed, Suits}
 use Rattle.trials.proofs.EditSuits.{suits-before, suits-after, suits-swap, suits-remove, suits-replace, swap-elsewhere}

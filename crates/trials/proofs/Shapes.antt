@@ -2,14 +2,14 @@
 -- on, and what a trial that may be made names. The day may be any list of words.
 -- Assumes nothing.
 use Prim.Native.Nat.{ℕ, suc, _+_, _*_, _≤_, _<_}
-use mathlib.Core.Path.{_≡_, refl, sym, ap, _∙_}
+use mathlib.Core.Path.{_≡_, refl}
 use mathlib.Core.Bool.{true, false, true≢false, false≢true}
 use mathlib.Core.List.{List, [], _∷_, _++_}
 use mathlib.Core.Logic.{_⊎_, inl, inr}
 use native.Mathlib.Omega.{arith}
 use lib.Dec.{eqb}
-use lib.ListN.{length, length-append}
-use borrow.Author.Tests.{eqb-false, eq-eqb, ne-eqb}
+use lib.ListN.{length}
+use borrow.Author.Tests.{eq-eqb, ne-eqb}
 use Rattle.laws.specs.Lists.{Every, mem, times}
 use Rattle.laws.specs.Tests.{if_then_else_}
 use Rattle.day.specs.Fields.{stops}
@@ -19,7 +19,7 @@ use Rattle.planner.proofs.Decided.{known}
 use Rattle.planner.proofs.GreedyForm.{times-append, greedy-known, greedy-busy, greedy-once, greedy-named}
 use Rattle.planner.proofs.GreedyRoom.{Room, rounds-words, plan-length, greedy-rooms}
 use Rattle.trials.specs.Edits.{before, after, swap, remove, replace, Trial, onOne, onTwo}
-use Rattle.trials.specs.TrialList.{vehicleFrom, vehicleOf}
+use Rattle.trials.specs.TrialList.{vehicleFrom}
 
 -- a plan as trials find and leave it, lawful or not
 pub record Shaped (day : List ℕ) (rounds : List Round) : Type 0 where

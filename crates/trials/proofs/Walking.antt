@@ -18,7 +18,6 @@ use Rattle.day.specs.Fields.{stopPlace, legDistance, quantity, loadLimit}
 use Rattle.checker.specs.Lawful.{distanceFrom}
 use Rattle.checker.specs.Plan.{Task, serve, empty, lunch, Round, stopsOn, Known}
 use Rattle.planner.specs.Build.{Truck, fresh, doing, resting}
-use Rattle.planner.specs.Home.{due}
 use Rattle.planner.specs.Tips.{nearestTip}
 use Rattle.planner.proofs.Decided.{known, known-option}
 use Rattle.planner.proofs.Driving.{resting-keeps}
