@@ -11,5 +11,6 @@ pub mod Searching
 pub mod ShapeKept
 pub mod Shapes
 pub mod TrialCases
+pub mod TrialRoom
 pub mod WalkLaws
 pub mod Walking

@@ -131,8 +131,10 @@ module _ (day Ks : List ℕ) where
         noLonger = improve-dist listed attempted (distanceOf day) shortens budget (greedyRounds day);
         at = o .at;
         held = o .held;
+        since = o .since;
         within = o .within;
         spent = o .spent;
+        missed = o .missed;
         whole = o .whole;
         settledWhen = settled-iff listed attempted budget (greedyRounds day) _ o;
         settles = settles listed attempted (distanceOf day) shortens (Sound day) keeps _ bound budget (greedyRounds day) (greedy-sound day a);

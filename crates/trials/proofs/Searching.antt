@@ -52,6 +52,7 @@ module _ {P M : Type 0} (list : P → List M) (attempt : P → M → Option P) w
   outcome-settled p₀ B p c done at r e n k h = record {
     at = at;
     held = r;
+    since = omega arith;
     within = h;
     whole = λ _. omega (arith, length-split p done [] e);
     noneKept = λ _ m i. n m (rw (e, append-nil) at i);
@@ -70,6 +71,7 @@ module _ {P M : Type 0} (list : P → List M) (attempt : P → M → Option P) w
   run-outcome p₀ B zero p (m ∷ ms) c done at r e n k h = record {
     at = at;
     held = r;
+    since = omega arith;
     within = omega arith;
     whole = λ x. absurd (true≢false (sym x));
     noneKept = λ x. absurd (true≢false (sym x));

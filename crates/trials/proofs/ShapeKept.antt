@@ -80,14 +80,14 @@ module _ (day : List ℕ) (rounds : List Round) where
   valid-renamed m (replaced at x a n first within) k = refl
 
 -- one vehicle before and after a trial
-record Remade (day : List ℕ) (rename : ℕ → ℕ) (tasks done : Round) : Type 0 where
+pub record Remade (day : List ℕ) (rename : ℕ → ℕ) (tasks done : Round) : Type 0 where
   pub known : Every (Known day) done
   pub room : Room done
   pub count : length (stopsOn done) ≡ length (stopsOn tasks)
   pub same : (k : ℕ) → times k (stopsOn done) ≡ times (rename k) (stopsOn tasks)
 
 -- all of them
-record AllRemade (day : List ℕ) (rename : ℕ → ℕ) (rounds q : List Round) : Type 0 where
+pub record AllRemade (day : List ℕ) (rename : ℕ → ℕ) (rounds q : List Round) : Type 0 where
   pub known : Every (Every (Known day)) q
   pub rooms : Every Room q
   pub busy : Every (λ tasks. 0 < length (stopsOn tasks)) rounds → Every (λ tasks. 0 < length (stopsOn tasks)) q
@@ -96,7 +96,7 @@ record AllRemade (day : List ℕ) (rename : ℕ → ℕ) (rounds q : List Round)
   pub same : (k : ℕ) → times k (stopsOnAll q) ≡ times (rename k) (stopsOnAll rounds)
 
 module _ (day : List ℕ) (m : Trial) where
-  retried-remade : (number : ℕ) (tasks done : Round) → Every (Known day) tasks → Room tasks → Suited day m number tasks
+  pub retried-remade : (number : ℕ) (tasks done : Round) → Every (Known day) tasks → Room tasks → Suited day m number tasks
       → retried day m number tasks ≡ some done → Remade day (renamed (m .edit)) tasks done
   unfolding retried
   retried-remade number tasks done h r s e = elim (known (touches m number)) [
@@ -110,7 +110,7 @@ module _ (day : List ℕ) (m : Trial) where
         (record { known = h; room = r; count = refl; same = λ k. sym (s .elsewhere f k) })
   ]
 
-  front-remade : (tasks done : Round) (rounds others : List Round) → Remade day (renamed (m .edit)) tasks done
+  pub front-remade : (tasks done : Round) (rounds others : List Round) → Remade day (renamed (m .edit)) tasks done
       → AllRemade day (renamed (m .edit)) rounds others → AllRemade day (renamed (m .edit)) (tasks ∷ rounds) (done ∷ others)
   unfolding Every stopsOnAll
   front-remade tasks done rounds others a b =
@@ -140,7 +140,7 @@ module _ (day : List ℕ) (m : Trial) where
       subst (AllRemade day (renamed (m .edit)) (tasks ∷ rounds)) (Option·some-injective _ _ e)
       (front-remade tasks done rounds others (a done refl) (b others refl))
 
-  tried-remade : (from : ℕ) (rounds q : List Round) → Every (Every (Known day)) rounds → Every Room rounds → EachFrom (Suited day m) from rounds
+  pub tried-remade : (from : ℕ) (rounds q : List Round) → Every (Every (Known day)) rounds → Every Room rounds → EachFrom (Suited day m) from rounds
       → triedFrom day m from rounds ≡ some q → AllRemade day (renamed (m .edit)) rounds q
   unfolding triedFrom Every EachFrom stopsOnAll times
   tried-remade from [] q h r s e =

@@ -14,6 +14,7 @@ use Rattle.laws.specs.Lists.{Every, mem, times}
 use Rattle.laws.specs.Tests.{if_then_else_}
 use Rattle.day.specs.Fields.{stops}
 use Rattle.checker.specs.Plan.{serve, empty, Round, stopsOn, stopsOnAll, planWords, Known}
+use Rattle.checker.proofs.PlanChecks.{busy-rounds}
 use Rattle.planner.specs.Build.{greedyRounds, greedyLefts}
 use Rattle.planner.proofs.Decided.{known}
 use Rattle.planner.proofs.GreedyForm.{times-append, greedy-known, greedy-busy, greedy-once, greedy-named}
@@ -43,6 +44,10 @@ module _ (day : List ℕ) (rounds : List Round) (s : Shaped day rounds) where
   pub shaped-stops : length (stopsOnAll rounds) ≤ stops day
   shaped-stops = omega (arith, greedy-named day, s .count)
 
+  -- no more vehicles than stops
+  pub shaped-few : length rounds ≤ stops day
+  shaped-few = omega (arith, busy-rounds rounds (s .busy), shaped-stops)
+
   -- no stop stands twice
   pub shaped-once : (k : ℕ) → 1 ≤ k → k ≤ stops day → times k (stopsOnAll rounds) ≤ 1
   shaped-once k a b = omega (arith, greedy-once day k a b, times-append k (stopsOnAll (greedyRounds day)) (greedyLefts day), s .once k)
@@ -61,6 +66,11 @@ each-at P from [] tasks rest h =
 each-at P from (first ∷ front) tasks rest h =
     let e : suc from + length front + 1 ≡ from + suc (length front) + 1 = omega arith in
     rw (← e) (each-at P (suc from) front tasks rest (h .1))
+
+pub each-front : (P : ℕ → Round → Type 0) (from : ℕ) (front rest : List Round) → EachFrom P from (front ++ rest) → EachFrom P from front
+unfolding EachFrom
+each-front P from [] rest h = tt
+each-front P from (tasks ∷ front) rest h = (h .0, each-front P (suc from) front rest (h .1))
 
 -- a stop stands once on the vehicle with a number, and on no other
 unfoldable pub Stands : ℕ → ℕ → ℕ → Round → Type 0

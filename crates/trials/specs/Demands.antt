@@ -1,6 +1,6 @@
 -- What is promised of planning with trials: demand 3 as named facts, of the definition `searched` and of the words of its plan. Assumes
 -- nothing.
-use Prim.Native.Nat.{ℕ, _+_, _*_, _≤_}
+use Prim.Native.Nat.{ℕ, _+_, _*_, _≤_, _<_}
 use mathlib.Core.Path.{_≡_}
 use mathlib.Core.Bool.{true, false}
 use mathlib.Core.List.{List, [], _∷_, List·Memᴰ}
@@ -46,9 +46,12 @@ pub record Promised (day Ks : List ℕ) (budget : ℕ) : Type 0 where
   -- the plan was held after so many trials, each made in turn and kept only as the first of its list
   pub at : ℕ
   pub held : Held (lists (trialList day) Ks) (attempt day (greedyLefts day)) (greedyRounds day) (plannedRounds day Ks budget) at
-  -- the trial count is within the budget: all of the budget, or the trials up to the plan and its whole list
+  -- the trial count is the number made, within the budget: those up to the plan, and of its list the whole where settled; not settled,
+  -- the budget is gone and the list not yet made
+  pub since : at ≤ searched day Ks budget .trials
   pub within : searched day Ks budget .trials ≤ budget
   pub spent : searched day Ks budget .settled ≡ false → searched day Ks budget .trials ≡ budget
+  pub missed : searched day Ks budget .settled ≡ false → searched day Ks budget .trials < at + length (plannedTrials day Ks budget)
   pub whole : searched day Ks budget .settled ≡ true → searched day Ks budget .trials ≡ at + length (plannedTrials day Ks budget)
   -- settled exactly when every trial listed for the plan was made within the budget and none gives a lawful, shorter plan
   pub settledWhen : (searched day Ks budget .settled ≡ true)

@@ -39,6 +39,7 @@ module _ {P M : Type 0} (list : P → List M) (attempt : P → M → Option P) w
   pub record Outcome (first : P) (budget : ℕ) (r : Result P) : Type 0 where
     pub at : ℕ
     pub held : Held first (r .plan) at
+    pub since : at ≤ r .trials
     pub within : r .trials ≤ budget
     pub whole : r .settled ≡ true → r .trials ≡ at + length (list (r .plan))
     pub noneKept : r .settled ≡ true → (m : M) → List·Memᴰ m (list (r .plan)) → attempt (r .plan) m ≡ none
