@@ -4,7 +4,7 @@
 
 use crate::day::Day;
 use crate::samples::day_m;
-use crate::worked::with_words;
+use crate::worked::{with_words, DAY_M};
 
 /// Distance, vehicles and stops served; or number and place of the refusal.
 pub type Answer = Result<(u64, u64, u64), (u64, u64)>;
@@ -205,22 +205,28 @@ pub fn long_plan(length: usize) -> (Day, Vec<u32>) {
     (day, plan)
 }
 
-/// A day with one tip and no stop.
-pub const NO_STOPS: [u32; 13] = [
-    0x1000_0100, // one tip, no stop
-    0x2000_0064, // Q 100
-    0x3000_00C8, // Q* 200
-    0x4000_0005, // S* 5
-    0x5000_0064, // depot 0..100
-    0x6001_E03C, // rest 30..60
-    0x7000_000A, // for 10 minutes
-    0x5000_0064, // tip 0..100
-    0x7000_0005, // V 5
-    0x9000_0000, // from the depot to itself
-    0x900A_0007, // to the tip
-    0x900A_0007, // from the tip to the depot
-    0x9000_0000, // to itself
-];
+/// A day with one tip and no stop: day M's limits, windows and rest, its tip, and the legs between
+/// the depot and the tip.
+pub const NO_STOPS: [u32; 13] = {
+    let [_, load, day_load, day_stops, depot, rest, rest_minutes, tip, service, ..] = DAY_M;
+    let [from_depot, depot_to_tip] = [DAY_M[15], DAY_M[16]];
+    let [tip_to_depot, from_tip] = [DAY_M[19], DAY_M[20]];
+    [
+        0x1000_0100, // one tip, no stop
+        load,
+        day_load,
+        day_stops,
+        depot,
+        rest,
+        rest_minutes,
+        tip,
+        service,
+        from_depot, // to itself
+        depot_to_tip,
+        tip_to_depot,
+        from_tip, // to itself
+    ]
+};
 
 /// Plans of the day that has no stop: only the plan of no words is lawful.
 pub const OF_NO_STOPS: &[(&[u32], Answer)] = &[
