@@ -1,7 +1,7 @@
 //! Days on which the greedy build has something to decide: ties, openings to wait for, loads at
 //! four fifths of a limit, rests at the very beginning and tips that open and close.
 
-use crate::damage::damage;
+use crate::damage::file_of;
 use crate::day::{Day, Window};
 use crate::random::Random;
 use crate::samples::random_size;
@@ -9,11 +9,8 @@ use crate::workdays::workday;
 
 /// The words of a day of any size, of which one in twenty is damaged.
 pub fn random_file(random: &mut Random) -> Vec<u32> {
-    let mut words = random_build_day(random).words();
-    if random.once_in(20) {
-        damage(random, &mut words);
-    }
-    words
+    let day = random_build_day(random);
+    file_of(random, &day)
 }
 
 /// A day of any size. Most are small, so that a test has time for many.

@@ -1,8 +1,18 @@
 //! Ways in which the words of a day file can be damaged. A damaged day may still be accepted:
 //! what it then is, the judges have to agree on.
 
+use crate::day::Day;
 use crate::random::Random;
 use crate::word::{DAY_LOAD, DAY_STOPS, LEG, LOAD, MINUTES, QUANTITY, REST, SIZE, WINDOW};
+
+/// The words of a day, once in twenty times damaged.
+pub fn file_of(random: &mut Random, day: &Day) -> Vec<u32> {
+    let mut words = day.words();
+    if random.once_in(20) {
+        damage(random, &mut words);
+    }
+    words
+}
 
 /// Damages the words of a day file in one way, chosen at random. There is at least one word.
 pub fn damage(random: &mut Random, words: &mut Vec<u32>) {

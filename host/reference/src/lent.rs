@@ -3,6 +3,8 @@
 use std::fmt::Debug;
 use std::ops::Range;
 
+use crate::random::Random;
+
 const CANARIES: usize = 16;
 
 /// Items that can be lent, and what stands around them.
@@ -42,6 +44,18 @@ impl<T: Copy + Debug + PartialEq + From<u8>> Lent<T> {
         assert!(self.items() == items, "a lent buffer was changed where it should not be");
         assert_eq!(self.store[..start], canaries::<T>(0..start), "before a lent buffer");
         assert_eq!(self.store[end..], canaries::<T>(end..end + CANARIES), "behind a lent buffer");
+    }
+}
+
+/// The length of a buffer of which so many items are needed: often just enough, else too little or
+/// more.
+pub fn random_room(random: &mut Random, needed: usize) -> usize {
+    match random.below(8) {
+        0 => needed.saturating_sub(1),
+        1 => random.below(needed + 1),
+        2 => needed + 1,
+        3 => needed + random.below(600),
+        _ => needed,
     }
 }
 

@@ -4,7 +4,7 @@ use kazhuvendi::{Planned, Refusal};
 use reference::build::{build, Built};
 use reference::build_days::random_file;
 use reference::day;
-use reference::lent::Lent;
+use reference::lent::{random_room, Lent};
 use reference::random::Random;
 
 use crate::compare::{as_refusal, Tally};
@@ -13,13 +13,7 @@ use crate::compare::{as_refusal, Tally};
 pub fn round(random: &mut Random, tally: &mut Tally) {
     let words = random_file(random);
     let needed = 5 * day::read(&words).map_or(0, |day| day.stops.len());
-    let room = match random.below(8) {
-        0 => needed.saturating_sub(1),
-        1 => random.below(needed + 1),
-        2 => needed + 1,
-        3 => needed + random.below(600),
-        _ => needed,
-    };
+    let room = random_room(random, needed);
     build_alike(&words, room, random, tally);
 }
 

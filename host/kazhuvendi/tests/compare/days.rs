@@ -1,7 +1,7 @@
 //! Day files: both get the same words or bytes.
 
 use kazhuvendi::{Refusal, Size};
-use reference::lent::Lent;
+use reference::lent::{random_room, Lent};
 use reference::random::Random;
 use reference::{bytes, day, files};
 
@@ -46,15 +46,4 @@ pub fn expected_size(words: &[u32]) -> Result<Size, Refusal> {
     day::read(words)
         .map(|day| Size { stops: day.stops.len(), tips: day.tips.len() })
         .map_err(as_refusal)
-}
-
-/// Too little room, just enough, or more.
-fn random_room(random: &mut Random, needed: usize) -> usize {
-    match random.below(6) {
-        0 => needed.saturating_sub(1),
-        1 => random.below(needed + 1),
-        2 => needed + 1,
-        3 => needed + random.below(600),
-        _ => needed,
-    }
 }

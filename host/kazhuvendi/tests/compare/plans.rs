@@ -3,7 +3,7 @@
 use std::fmt;
 
 use kazhuvendi::{Refusal, Totals};
-use reference::damage::damage;
+use reference::damage::file_of;
 use reference::day::{self, Day};
 use reference::drafts::{other_rounds, other_ways, random_draft, Draft};
 use reference::lent::Lent;
@@ -112,7 +112,7 @@ pub fn round(random: &mut Random, tallies: &mut Tallies) {
     let draft = random_draft(random, &day);
     let lawful = draft.words(&day);
     let day = if random.once_in(2) { at_a_limit(random, &day, &lawful) } else { day };
-    let file = LentDay::new(&random_file(random, &day));
+    let file = LentDay::new(&file_of(random, &day));
     check_alike(&file, &lawful, &mut tallies.check);
     for _ in 0..8 {
         let plan = random_plan(random, &day, &draft);
@@ -125,15 +125,6 @@ pub fn round(random: &mut Random, tallies: &mut Tallies) {
         let second = random_plan(random, &day, &draft);
         rounds_alike(&file, &plan, &second, &mut tallies.rounds);
     }
-}
-
-/// The words of the day, once in twenty times damaged.
-fn random_file(random: &mut Random, day: &Day) -> Vec<u32> {
-    let mut words = day.words();
-    if random.once_in(20) {
-        damage(random, &mut words);
-    }
-    words
 }
 
 /// The plan of the draft, one near it, or a damaged one.
