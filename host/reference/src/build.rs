@@ -142,7 +142,7 @@ fn has_way_home(day: &Day, done: &[Word]) -> bool {
 }
 
 /// These words, and a rest behind them where it is due.
-fn rested_if_due(day: &Day, done: &[Word]) -> Vec<Word> {
+pub(crate) fn rested_if_due(day: &Day, done: &[Word]) -> Vec<Word> {
     let minute = replay(day, done).minute;
     let due =
         !done.contains(&Word::Rest) && day.rest.opening <= minute && minute <= day.rest.closing;
@@ -154,7 +154,7 @@ fn rested_if_due(day: &Day, done: &[Word]) -> Vec<Word> {
 }
 
 /// n(p,T), of the place and the minute that these words lead to.
-fn nearest_open_tip(day: &Day, done: &[Word]) -> Option<Word> {
+pub(crate) fn nearest_open_tip(day: &Day, done: &[Word]) -> Option<Word> {
     let here = replay(day, done).place;
     let tips = (1..=day.tips.len() as u32).filter(|tip| is_open(day, done, Word::Tip(*tip)));
     let (_, tip) = least(tips.map(|tip| (minutes_to(day, here, Word::Tip(tip)), tip)))?;
@@ -177,24 +177,24 @@ fn minutes_to(day: &Day, here: usize, next: Word) -> u32 {
     day.legs[here][place_of(day, next).unwrap_or(here)].minutes
 }
 
-fn with(done: &[Word], next: Word) -> Vec<Word> {
+pub(crate) fn with(done: &[Word], next: Word) -> Vec<Word> {
     let mut words = done.to_vec();
     words.push(next);
     words
 }
 
 /// Where a vehicle is and what it carries.
-struct Standing {
+pub(crate) struct Standing {
     minute: u32,
     place: usize,
-    load: u32,
+    pub(crate) load: u32,
     day_load: u32,
     stops: u32,
     distance: u64,
 }
 
 /// What a vehicle has come to that left the depot at its opening and did these words.
-fn replay(day: &Day, done: &[Word]) -> Standing {
+pub(crate) fn replay(day: &Day, done: &[Word]) -> Standing {
     let minute = day.depot.opening;
     let mut now = Standing { minute, place: 0, load: 0, day_load: 0, stops: 0, distance: 0 };
     for &word in done {

@@ -1,18 +1,27 @@
 //! Lawful plans made up at random, and other lawful plans made from them.
 
+use std::ops::Range;
+
 use crate::check::vehicle_is_lawful;
 use crate::day::Day;
-use crate::plan::Word;
+use crate::plan::{self, Word};
 use crate::random::Random;
 
 /// A plan that is being made up: what each vehicle does between its A and its E. The stops that no
 /// vehicle serves are left out.
 #[derive(Clone, Debug, Default, PartialEq, Eq)]
 pub struct Draft {
-    vehicles: Vec<Vec<Word>>,
+    pub(crate) vehicles: Vec<Vec<Word>>,
 }
 
 impl Draft {
+    /// A plan that has the form of one, taken apart.
+    pub fn of(day: &Day, words: &[u32]) -> Draft {
+        let plan = plan::read(day, words);
+        let acts = |vehicle: &Range<usize>| plan.words[vehicle.start + 1..vehicle.end - 1].to_vec();
+        Draft { vehicles: plan.vehicles.iter().map(acts).collect() }
+    }
+
     /// The words of the plan.
     pub fn words(&self, day: &Day) -> Vec<u32> {
         let mut words = Vec::new();
@@ -22,6 +31,14 @@ impl Draft {
         let left_out = (1..=day.stops.len() as u32).filter(|stop| !self.serves(*stop));
         words.extend(left_out.map(|stop| Word::LeftOut(stop).word()));
         words
+    }
+
+    /// The tip that a vehicle visits at this place between A and E, both from 0.
+    pub fn tip(&self, vehicle: usize, place: usize) -> Option<u32> {
+        match self.vehicles[vehicle][place] {
+            Word::Tip(tip) => Some(tip),
+            _ => None,
+        }
     }
 
     fn serves(&self, stop: u32) -> bool {

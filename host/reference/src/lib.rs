@@ -5,9 +5,10 @@
 //! A plan is not walked at its earliest minutes: [`check`] asks each rule by itself for the first
 //! word that breaks it, and [`timetable`] looks for minutes from the last word backwards. The
 //! greedy build, [`build`], carries nothing along: it replays a vehicle from the depot for each
-//! question, and sorts what could come next. It is there to be compared with, so it is written to be
-//! read and not to be fast; [`plain`] is the ordinary Rust that the benchmark sets beside the
-//! library.
+//! question, and sorts what could come next. So does [`planning`], which takes a plan apart for each
+//! of its [`trials`], puts it together whole and has it checked afresh. It is there to be compared
+//! with, so it is written to be read and not to be fast; [`plain`] is the ordinary Rust that the
+//! benchmark sets beside the library.
 //!
 //! Beside it stand the answers that were worked out by hand, and days and plans made up at random
 //! to compare the two on.
@@ -26,15 +27,18 @@ pub mod limits;
 pub mod plain;
 pub mod plan;
 pub mod plan_damage;
+pub mod planning;
 pub mod random;
 pub mod rounds;
 pub mod samples;
 pub mod timetable;
+pub mod trials;
 pub mod word;
 pub mod workdays;
 pub mod worked;
 pub mod worked_builds;
 pub mod worked_plans;
+pub mod worked_trials;
 
 /// "Each refusal returns its number and a place."
 #[derive(Clone, Copy, Debug, PartialEq, Eq)]

@@ -1,0 +1,30 @@
+//! The lettered cases of document 01 that speak of planning with trials, as it gives them: day M
+//! with some words changed, K 5.
+
+use crate::worked::with_words;
+use crate::worked_builds::ONE_EACH;
+use crate::worked_plans::{A1, B2, C1, D, E, F1, PLAN_M};
+
+/// K in each of the cases.
+pub const K: u64 = 5;
+
+/// The case; the words of day M that are others, by their index; the budget; the plan's words, its
+/// distance and the stops left out; trials made and whether settled, where document 01 gives them.
+pub type WorkedTrials =
+    (&'static str, &'static [(usize, u32)], u64, (&'static [u32], u64, u64), Option<(u64, bool)>);
+
+/// Case (j) has a day of its own, and (h) and (i) are plans to check.
+pub const PLANS: &[WorkedTrials] = &[
+    ("(a)", &[], 6, (&PLAN_M, 35, 0), Some((6, true))),
+    ("(b) budget 5", &[], 5, (&PLAN_M, 35, 0), Some((5, false))),
+    ("(c) stop 2 closes at 49", &[(12, 0x5000_0031)], 6, (&ONE_EACH, 42, 0), None),
+    ("(d) 100 kg at stop 1", &[(11, 0x8000_0064)], 6, (&PLAN_M, 35, 0), Some((6, true))),
+    ("(e) 101 kg at stop 1", &[(11, 0x8000_0065)], 6, (&[A1, B2, C1, D, E, F1], 21, 1), None),
+    ("(f) L0 = 80", &[(4, 0x5000_0050)], 6, (&PLAN_M, 35, 0), Some((6, true))),
+    ("(g) L0 = 79", &[(4, 0x5000_004F)], 6, (&ONE_EACH, 42, 0), None),
+];
+
+/// Day M with the changes of a case.
+pub fn day_of_trials(worked: &WorkedTrials) -> [u32; 31] {
+    with_words(worked.1)
+}
