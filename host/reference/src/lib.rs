@@ -32,6 +32,7 @@ pub mod random;
 pub mod rounds;
 pub mod samples;
 pub mod timetable;
+pub mod trial_days;
 pub mod trials;
 pub mod word;
 pub mod workdays;

@@ -1,15 +1,18 @@
-//! The judge, byte reading, the check and the greedy build as ordinary Rust: loops that leave at the
-//! first fault, no allocation, no step taken for the sake of a benchmark. The library's times are set
-//! beside it.
+//! The plain path: the judge, byte reading, the check, the greedy build and planning with trials as
+//! ordinary Rust. Loops that leave at the first fault, no allocation but of a few tables a planning
+//! call, no step taken for the sake of a benchmark. The library's times are set beside it.
 
 mod build;
 mod check;
 mod fields;
+mod trials;
+mod trip;
 
 use crate::Refusal;
 
 pub use build::{build, build_accepted, Planned};
 pub use check::{check, check_accepted};
+pub use trials::plan;
 
 /// The stops and tips of an accepted day, or the first of refusals 1 to 5.
 pub fn judge(day: &[u32]) -> Result<(usize, usize), Refusal> {

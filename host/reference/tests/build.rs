@@ -42,6 +42,8 @@ fn buffer(built: &Built, stops: usize, room: usize) -> Vec<u32> {
 fn planned(built: &Built) -> plain::Planned {
     plain::Planned {
         distance: built.distance,
+        trials: 0,
+        settled: false,
         left_out: built.left_out as usize,
         words: built.words.len(),
     }

@@ -3,7 +3,7 @@
 
 use std::collections::BTreeMap;
 
-use reference::build::build;
+use reference::build::{build, Built};
 use reference::build_days::build_day;
 use reference::check::check;
 use reference::day::Day;
@@ -18,8 +18,11 @@ fn small_day(random: &mut Random) -> Day {
     build_day(random, stops, tips)
 }
 
-fn random_neighbours(random: &mut Random) -> u64 {
-    random.one_of(&[1, 2, 3, 5, 50])
+/// A day, K and the greedy plan.
+fn random_case(random: &mut Random) -> (Day, u64, Built) {
+    let day = small_day(random);
+    let greedy = build(&day, 5 * day.stops.len()).expect("the room is enough");
+    (day, random.one_of(&[1, 2, 3, 5, 50]), greedy)
 }
 
 fn planned(day: &Day, k: u64, budget: u64) -> Planned {
@@ -35,7 +38,7 @@ fn stops_left_out(words: &[u32]) -> Vec<u32> {
     words.iter().copied().filter(|word| word >> 28 == 0xF).collect()
 }
 
-/// The budgets that are asked for beside 0 and no end: some below what settles, and those about it.
+/// Budgets, rising: none, some below what settles, those about it, and no end.
 fn budgets(random: &mut Random, settles_at: u64) -> Vec<u64> {
     let mut budgets: Vec<u64> =
         (0..4).map(|_| random.below(settles_at as usize + 1) as u64).collect();
@@ -52,8 +55,7 @@ fn each_plan_is_lawful_and_settled_or_out_of_budget() {
     let mut random = Random::new(61);
     let mut shorter = 0;
     for _ in 0..700 {
-        let (day, k) = (small_day(&mut random), random_neighbours(&mut random));
-        let greedy = build(&day, 5 * day.stops.len()).expect("the room is enough");
+        let (day, k, greedy) = random_case(&mut random);
         let end = planned(&day, k, u64::MAX);
         let mut longest = greedy.distance;
         for budget in budgets(&mut random, end.trials) {
@@ -77,11 +79,10 @@ fn each_plan_is_lawful_and_settled_or_out_of_budget() {
 #[test]
 fn planning_settles_within_the_bound_and_then_no_trial_is_left() {
     let mut random = Random::new(62);
-    let mut without_end = 0;
+    let mut lowered = 0;
     for _ in 0..1_000 {
-        let (day, k) = (small_day(&mut random), random_neighbours(&mut random));
+        let (day, k, greedy) = random_case(&mut random);
         let (stops, tips) = (day.stops.len() as u64, day.tips.len() as u64);
-        let greedy = build(&day, 5 * day.stops.len()).expect("the room is enough");
         let one_list = stops * (2 * k + tips);
         let bound = (greedy.distance + 1) * one_list;
         let end = planned(&day, k, bound);
@@ -91,9 +92,9 @@ fn planning_settles_within_the_bound_and_then_no_trial_is_left() {
         let list = trials_of(&day, k, &plan);
         assert!(list.len() as u64 <= one_list);
         assert!(list.iter().all(|trial| kept(&day, &plan, *trial, end.distance).is_none()));
-        without_end += u32::from(end.trials > list.len() as u64);
+        lowered += u32::from(end.trials > list.len() as u64);
     }
-    assert!(without_end > 300, "{without_end} with a plan kept");
+    assert!(lowered > 300, "{lowered} with a trial kept");
 }
 
 /// A larger budget never gives a longer plan, and each plan that comes is one trial away from the
@@ -103,8 +104,7 @@ fn a_larger_budget_never_gives_a_longer_plan() {
     let mut random = Random::new(63);
     let mut steps = 0;
     for _ in 0..60 {
-        let (day, k) = (small_day(&mut random), random_neighbours(&mut random));
-        let greedy = build(&day, 5 * day.stops.len()).expect("the room is enough");
+        let (day, k, greedy) = random_case(&mut random);
         let mut last = planned(&day, k, 0);
         assert_eq!((&last.words, last.distance), (&greedy.words, greedy.distance));
         for budget in 1..=planned(&day, k, u64::MAX).trials {

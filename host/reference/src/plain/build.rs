@@ -1,7 +1,8 @@
 //! The greedy build as ordinary Rust: a vehicle carries its minute, place and loads along, and each
 //! choice is one loop over the stops that keeps the best so far.
 
-use super::fields::{number, Fields, Window};
+use super::fields::Fields;
+use super::trip::Trip;
 use super::{judge, refuse};
 use crate::Refusal;
 
@@ -10,6 +11,10 @@ use crate::Refusal;
 pub struct Planned {
     /// The sum over the legs driven.
     pub distance: u64,
+    /// The trials made, of which the build makes none.
+    pub trials: u64,
+    /// Whether no trial is left that would be kept, which the build does not say.
+    pub settled: bool,
     /// The stops left out.
     pub left_out: usize,
     /// The words of the plan.
@@ -36,15 +41,7 @@ pub fn build_accepted(day: &[u32], plan: &mut [u32]) -> Result<Planned, Refusal>
     Ok(builder.finish())
 }
 
-/// Where and when a vehicle is.
-#[derive(Clone, Copy)]
-struct Trip {
-    minute: u32,
-    place: usize,
-    rested: bool,
-}
-
-/// What it carries and has done.
+/// What a vehicle carries and has done.
 #[derive(Clone, Copy, Default)]
 struct Cargo {
     load: u32,
@@ -188,21 +185,14 @@ impl<'a> Builder<'a> {
             }
         }
         self.plan[self.written..].fill(0);
-        Planned { distance: self.distance, left_out, words: self.written }
+        let (distance, words) = (self.distance, self.written);
+        Planned { distance, trials: 0, settled: false, left_out, words }
     }
 }
 
 impl Fields<'_> {
-    fn leaving(&self) -> Trip {
-        Trip { minute: self.depot.opening, place: 0, rested: false }
-    }
-
-    fn stop_window(&self, stop: usize) -> Window {
-        Window::of(self.stop_words[3 * (stop - 1)])
-    }
-
     fn loaded(&self, cargo: Cargo, stop: usize) -> Cargo {
-        let quantity = number(self.stop_words[3 * (stop - 1) + 2]);
+        let quantity = self.quantity(stop);
         Cargo {
             load: cargo.load + quantity,
             day_load: cargo.day_load + quantity,
@@ -215,40 +205,6 @@ impl Fields<'_> {
             && (5 * cargo.load > 4 * self.load
                 || 5 * cargo.day_load > 4 * self.day_load
                 || 5 * cargo.stops > 4 * self.day_stops)
-    }
-
-    fn rest_if_due(&self, trip: Trip) -> Trip {
-        if !trip.rested && self.rest.opening <= trip.minute && trip.minute <= self.rest.closing {
-            Trip { minute: trip.minute + self.rest_minutes, rested: true, ..trip }
-        } else {
-            trip
-        }
-    }
-
-    fn served(&self, trip: Trip, stop: usize) -> Trip {
-        let place = self.tips + stop;
-        let arrival = trip.minute + self.leg(trip.place, place).0;
-        let start = arrival.max(self.stop_window(stop).opening);
-        Trip { minute: start + number(self.stop_words[3 * (stop - 1) + 1]), place, ..trip }
-    }
-
-    /// The tip is open on arrival, so there is no wait.
-    fn tipped(&self, trip: Trip, tip: usize) -> Trip {
-        let arrival = trip.minute + self.leg(trip.place, tip).0;
-        Trip { minute: arrival + number(self.tip_words[2 * tip - 1]), place: tip, ..trip }
-    }
-
-    fn nearest_tip(&self, trip: Trip) -> Option<usize> {
-        let (mut best, mut least) = (None, u32::MAX);
-        for tip in 1..=self.tips {
-            let minutes = self.leg(trip.place, tip).0;
-            let (window, arrival) =
-                (Window::of(self.tip_words[2 * tip - 2]), trip.minute + minutes);
-            if minutes < least && window.opening <= arrival && arrival <= window.closing {
-                (best, least) = (Some(tip), minutes);
-            }
-        }
-        best
     }
 
     fn has_way_home(&self, trip: Trip, load: u32) -> bool {
