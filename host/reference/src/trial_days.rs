@@ -43,7 +43,7 @@ pub fn random_trial_day(random: &mut Random) -> Day {
 }
 
 /// A setting for a day, accepted or not. Many budgets are about as many trials as there are to the
-/// end.
+/// end; of some the low bits would end them at once.
 pub fn random_setting(random: &mut Random, words: &[u32]) -> Setting {
     let needed = 5 * day::read(words).map_or(0, |day| day.stops.len());
     let k = random_neighbours(random);
@@ -55,7 +55,7 @@ pub fn random_setting(random: &mut Random, words: &[u32]) -> Setting {
         2 => to_the_end.saturating_sub(1),
         3 => to_the_end,
         4 => to_the_end + 1,
-        5 => to_the_end + (1 << 32),
+        5 => (1 << 32) + random.below(2) as u64,
         _ => u64::MAX,
     };
     let (room, work_room) = match random.below(6) {
