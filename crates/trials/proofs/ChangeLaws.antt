@@ -73,12 +73,12 @@ module _ (day : List ℕ) (e : Edit) (i j one two t w : ℕ) {first second : ℕ
         | inl a ↦ drops (f ∙ rw (h, a) refl) (g ∙ rw (h, a) refl) (moves k ∙ rw a refl)
         | inr a ↦ elim (known (eqb k i)) [
           | inl b ↦ record {
-              one = serve one ∷ [];
-              two = serve two ∷ [];
-              oneIs = subst (λ (x : ℕ). Means day x (serve one ∷ [])) (sym (f ∙ rw (h, a, l, b) refl)) (aStop one oneIs);
-              twoIs = subst (λ (x : ℕ). Means day x (serve two ∷ [])) (sym (g ∙ rw (h, a, l, b) refl)) (aStop two twoIs);
-              same = sym (moves k ∙ rw (a, b) refl);
-            }
+            one = serve one ∷ [];
+            two = serve two ∷ [];
+            oneIs = subst (λ (x : ℕ). Means day x (serve one ∷ [])) (sym (f ∙ rw (h, a, l, b) refl)) (aStop one oneIs);
+            twoIs = subst (λ (x : ℕ). Means day x (serve two ∷ [])) (sym (g ∙ rw (h, a, l, b) refl)) (aStop two twoIs);
+            same = sym (moves k ∙ rw (a, b) refl);
+          }
           | inr b ↦ stays (subst (λ (x : ℕ). Means day x (serve k ∷ [])) (sym (f ∙ rw (h, a, l, b) q)) (aStop k n)) (g ∙ rw (h, a, l, b) refl) (moves k ∙ rw (a, b) refl)
         ]
       ]

@@ -4,9 +4,11 @@ pub mod EditLaws
 pub mod EditSuits
 pub mod ListLength
 pub mod Listed
+pub mod MidwayLaws
 pub mod NeighbourLaws
 pub mod PlanTold
 pub mod Promises
+pub mod RewalkLaws
 pub mod Searching
 pub mod ShapeKept
 pub mod Shapes

@@ -1,7 +1,6 @@
 // What a trial does to the words of a vehicle.
 ghost use mathlib.Core.Path.{_≡_};
 ghost use mathlib.Core.Bool.{_&&_};
-
 ghost use lib.Dec.{eqb, leb};
 ghost use Prim.Native.Nat.{ℕ};
 ghost use mathlib.Core.List.{List};

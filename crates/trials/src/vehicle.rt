@@ -100,7 +100,14 @@ fn failed() -> Walked
 }
 
 // The vehicle walked again: its words at the front of the part.
-pub fn walk_vehicle(day: &[u32], z: Layout, e: Edit, number: u32, tasks: &[u32], part: &mut [u32]) -> Walked
+pub fn walk_vehicle(
+    day: &[u32],
+    z: Layout,
+    e: Edit,
+    number: u32,
+    tasks: &[u32],
+    part: &mut [u32],
+) -> Walked
     requires { ⌜ LayoutOf (now day) z × IsAccepted (now day) × EditSmall e × EditKnown (now day) e × (number < 256) × SomeWalkable (now day) (editOf e) (now tasks) (now part) ⌝ }
     ensures { λ r. ⌜ ((ts : Round) → Walkable (now (day .entry)) (editOf e) (now (tasks .entry)) (now (part .entry)) ts → WalkedAs (now (day .entry)) number (changed (editOf e) 0 ts) (now (part .entry)) (now (part .exit)) r) ⌝ }
 {
