@@ -21,7 +21,8 @@ use Rattle.trials.specs.Edits.{onOne, onTwo, before, after, swap}
 use Rattle.trials.specs.Neighbours.{neighbours}
 use Rattle.trials.specs.TrialList.{each, rising, vehicleOf, pairTrials, stopTrials, otherTip, taskTrials, roundTrials, tipTrials, trialList}
 use Rattle.trials.proofs.NeighbourLaws.{neighbours-are}
-use Rattle.trials.proofs.Shapes.{Shaped, shaped-stops}
+use Rattle.trials.specs.Shapes.{Shaped}
+use Rattle.trials.proofs.Shapes.{shaped-stops}
 
 -- lists of at most so many each
 pub each-length : {A M : Type 0} (f : A → List M) (most : ℕ) → ((x : A) → length (f x) ≤ most) → (xs : List A) → length (each f xs) ≤ length xs * most

@@ -20,7 +20,8 @@ use Rattle.trials.specs.Edits.{Trial}
 use Rattle.trials.specs.Neighbours.{compatible, neighbours}
 use Rattle.trials.specs.TrialList.{each, rising, vehicleOf, pairTrials, stopTrials, otherTip, taskTrials, roundTrials, tipTrials, trialList}
 use Rattle.trials.proofs.NeighbourLaws.{neighbours-are}
-use Rattle.trials.proofs.Shapes.{Shaped, shaped-once, On, Valid, moved-before, moved-after, swapped, removed, replaced, vehicle-found}
+use Rattle.trials.specs.Shapes.{Shaped, On, Valid, moved-before, moved-after, swapped, removed, replaced}
+use Rattle.trials.proofs.Shapes.{shaped-once, vehicle-found}
 
 -- what holds of each element holds of one
 pub every-mem : {A : Type 0} (P : A → Type 0) (xs : List A) (x : A) → Every P xs → List·Memᴰ x xs → P x

@@ -33,7 +33,8 @@ use Rattle.trials.proofs.Listed.{every-mem, listed-all}
 use Rattle.trials.proofs.PlanTold.{told-lawful, told-totals}
 use Rattle.trials.proofs.Searching.{outcome, settled-iff, result-keeps, improve-dist, more-budget, settles, lists-bound}
 use Rattle.trials.proofs.ShapeKept.{valid-shaped}
-use Rattle.trials.proofs.Shapes.{Shaped, greedy-shaped, shaped-length, Valid}
+use Rattle.trials.specs.Shapes.{Shaped, Valid}
+use Rattle.trials.proofs.Shapes.{greedy-shaped, shaped-length}
 
 -- a trial that is kept: the plan that it gives, lawful and shorter
 pub record IsKept (day lefts : List ℕ) (rounds : List Round) (m : Trial) (q : List Round) : Type 0 where

@@ -22,7 +22,7 @@ use Rattle.trials.specs.TrialList.{trialList}
 use Rattle.trials.proofs.EditLaws.{renamed, Suits}
 use Rattle.trials.proofs.EditSuits.{suits-before, suits-after, suits-swap, suits-remove, suits-replace, swap-elsewhere}
 use Rattle.trials.proofs.Listed.{listed-valid}
-use Rattle.trials.proofs.Shapes.{Shaped, EachFrom, Stands, Valid, moved-before, moved-after, swapped, removed, replaced}
+use Rattle.trials.specs.Shapes.{Shaped, EachFrom, StandsOn, Valid, moved-before, moved-after, swapped, removed, replaced}
 use Rattle.trials.proofs.Walking.{walked-again}
 
 -- what a trial's edit does to a vehicle that it touches, and to one that it does not
@@ -49,17 +49,17 @@ neither i j ks false false e p q = p ∙ sym q
 
 module _ (day : List ℕ) (rounds : List Round) where
   pub valid-suits : (m : Trial) → Valid day rounds m → EachFrom (Suited day m) 0 rounds
-  unfolding Stands renamed touches
+  unfolding StandsOn renamed touches
   valid-suits m (moved-before i j a apart p q) =
-      each-two (Stands i a) (Stands j a) (Suited day m)
+      each-two (StandsOn i a) (StandsOn j a) (Suited day m)
       (λ n tasks x y. record { touched = λ t h. suits-before day tasks h i j apart (p .known, q .known) (x ∙ sym y); elsewhere = λ f k. refl })
       0 rounds (p .stands) (q .stands)
   valid-suits m (moved-after i j a apart p q) =
-      each-two (Stands i a) (Stands j a) (Suited day m)
+      each-two (StandsOn i a) (StandsOn j a) (Suited day m)
       (λ n tasks x y. record { touched = λ t h. suits-after day tasks h i j apart (p .known, q .known) (x ∙ sym y); elsewhere = λ f k. refl })
       0 rounds (p .stands) (q .stands)
   valid-suits m (swapped i j a b apart two p q) =
-      each-two (Stands i a) (Stands j b) (Suited day m)
+      each-two (StandsOn i a) (StandsOn j b) (Suited day m)
       (λ n tasks x y. record {
         touched = λ t h. suits-swap day tasks h i j apart (p .known, q .known);
         elsewhere = λ f. swap-elsewhere i j (stopsOn tasks) (neither i j (stopsOn tasks) (eqb n a) (eqb n b) f x y);

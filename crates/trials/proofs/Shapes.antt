@@ -20,17 +20,8 @@ use Rattle.planner.proofs.Decided.{known}
 use Rattle.planner.proofs.GreedyForm.{times-append, greedy-known, greedy-busy, greedy-once, greedy-named}
 use Rattle.planner.proofs.GreedyRoom.{Room, rounds-words, plan-length, greedy-rooms}
 use Rattle.trials.specs.Edits.{before, after, swap, remove, replace, Trial, onOne, onTwo}
+use Rattle.trials.specs.Shapes.{Shaped, EachFrom, StandsOn, On, Valid, moved-before, moved-after, swapped, removed, replaced}
 use Rattle.trials.specs.TrialList.{vehicleFrom}
-
--- a plan as trials find and leave it, lawful or not
-pub record Shaped (day : List ℕ) (rounds : List Round) : Type 0 where
-  pub known : Every (Every (Known day)) rounds
-  pub rooms : Every Room rounds
-  pub busy : Every (λ tasks. 0 < length (stopsOn tasks)) rounds
-  -- each stop stands as often as in the greedy plan
-  pub once : (k : ℕ) → times k (stopsOnAll rounds) ≡ times k (stopsOnAll (greedyRounds day))
-  pub count : length (stopsOnAll rounds) ≡ length (stopsOnAll (greedyRounds day))
-  pub vehicles : length rounds ≡ length (greedyRounds day)
 
 pub greedy-shaped : (day : List ℕ) → Shaped day (greedyRounds day)
 greedy-shaped day =
@@ -52,11 +43,6 @@ module _ (day : List ℕ) (rounds : List Round) (s : Shaped day rounds) where
   pub shaped-once : (k : ℕ) → 1 ≤ k → k ≤ stops day → times k (stopsOnAll rounds) ≤ 1
   shaped-once k a b = omega (arith, greedy-once day k a b, times-append k (stopsOnAll (greedyRounds day)) (greedyLefts day), s .once k)
 
--- a property of each vehicle and its number, counted on from a number
-unfoldable pub EachFrom : (ℕ → Round → Type 0) → ℕ → List Round → Type 0
-EachFrom P from [] = Unit {0}
-EachFrom P from (tasks ∷ rounds) = P (suc from) tasks × EachFrom P (suc from) rounds
-
 pub each-at : (P : ℕ → Round → Type 0) (from : ℕ) (front : List Round) (tasks : Round) (rest : List Round)
     → EachFrom P from (front ++ (tasks ∷ rest)) → P (from + length front + 1) tasks
 unfolding EachFrom
@@ -71,26 +57,6 @@ pub each-front : (P : ℕ → Round → Type 0) (from : ℕ) (front rest : List 
 unfolding EachFrom
 each-front P from [] rest h = tt
 each-front P from (tasks ∷ front) rest h = (h .0, each-front P (suc from) front rest (h .1))
-
--- a stop stands once on the vehicle with a number, and on no other
-unfoldable pub Stands : ℕ → ℕ → ℕ → Round → Type 0
-Stands k number n tasks = times k (stopsOn tasks) ≡ (if eqb n number then 1 else 0)
-
-pub record On (day : List ℕ) (rounds : List Round) (k number : ℕ) : Type 0 where
-  pub known : Known day (serve k)
-  pub first : 1 ≤ number
-  pub within : number ≤ length rounds
-  pub once : times k (stopsOnAll rounds) ≡ 1
-  pub stands : EachFrom (Stands k number) 0 rounds
-
--- a trial that may be made of a plan: its stops differ and are on the vehicles that it touches, its tip is one of the day's
-pub data Valid (day : List ℕ) (rounds : List Round) : Trial → Type 0 where
-  moved-before : (i j number : ℕ) → (i ≡ j → ⊥) → On day rounds i number → On day rounds j number → Valid day rounds (onOne (before i j) number)
-  moved-after : (i j number : ℕ) → (i ≡ j → ⊥) → On day rounds i number → On day rounds j number → Valid day rounds (onOne (after i j) number)
-  swapped : (i j number other : ℕ) → (i ≡ j → ⊥) → (number ≡ other → ⊥) → On day rounds i number → On day rounds j other
-      → Valid day rounds (onTwo (swap i j) number other)
-  removed : (at number : ℕ) → 1 ≤ number → number ≤ length rounds → Valid day rounds (onOne (remove at) number)
-  replaced : (at x number : ℕ) → Known day (empty x) → 1 ≤ number → number ≤ length rounds → Valid day rounds (onOne (replace at x) number)
 
 -- standing in a list, and how often
 pub mem-times : (k : ℕ) (ks : List ℕ) → mem k ks ≡ true → 1 ≤ times k ks
@@ -111,8 +77,8 @@ unfolding stopsOnAll
 times-all-front k tasks rounds = times-append k (stopsOn tasks) (stopsOnAll rounds)
 
 -- a stop on no vehicle
-stands-none : (k number from : ℕ) (rounds : List Round) → number ≤ from → times k (stopsOnAll rounds) ≡ 0 → EachFrom (Stands k number) from rounds
-unfolding EachFrom Stands
+stands-none : (k number from : ℕ) (rounds : List Round) → number ≤ from → times k (stopsOnAll rounds) ≡ 0 → EachFrom (StandsOn k number) from rounds
+unfolding EachFrom StandsOn
 stands-none k number from [] h z = tt
 stands-none k number from (tasks ∷ rounds) h z = (
   rw (ne-eqb (suc from) number (λ e. omega arith)) (omega (arith, times-all-front k tasks rounds)),
@@ -124,10 +90,10 @@ pub record Found (k from number : ℕ) (rounds : List Round) : Type 0 where
   pub above : from < number
   pub within : number ≤ from + length rounds
   pub named : 1 ≤ times k (stopsOnAll rounds)
-  pub stands : times k (stopsOnAll rounds) ≤ 1 → EachFrom (Stands k number) from rounds
+  pub stands : times k (stopsOnAll rounds) ≤ 1 → EachFrom (StandsOn k number) from rounds
 
 pub vehicle-found : (from k : ℕ) (rounds : List Round) → (vehicleFrom from k rounds ≡ 0) ⊎ Found k from (vehicleFrom from k rounds) rounds
-unfolding vehicleFrom EachFrom Stands
+unfolding vehicleFrom EachFrom StandsOn
 vehicle-found from k [] = inl refl
 vehicle-found from k (tasks ∷ rounds) = elim (known (mem k (stopsOn tasks))) [
   | inl a ↦ rw a (inr (record {

@@ -13,7 +13,7 @@ use Rattle.planner.specs.Build.{greedyLefts}
 use Rattle.planner.proofs.GreedyForm.{greedy-named}
 use Rattle.planner.proofs.GreedyRoom.{Room, rounds-words}
 use Rattle.trials.proofs.ShapeKept.{AllRemade}
-use Rattle.trials.proofs.Shapes.{Shaped}
+use Rattle.trials.specs.Shapes.{Shaped}
 
 -- the properties and the stops of two parts of a plan
 pub every-front : {A : Type 0} (P : A → Type 0) (xs ys : List A) → Every P (xs ++ ys) → Every P xs

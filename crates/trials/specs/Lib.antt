@@ -5,5 +5,6 @@ pub mod Edits
 pub mod Neighbours
 pub mod Rewalks
 pub mod Search
+pub mod Shapes
 pub mod TrialList
 pub mod Walk
