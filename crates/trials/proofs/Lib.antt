@@ -1,5 +1,7 @@
 pub mod CabLaws
+pub mod CandidateLaws
 pub mod ChangeLaws
+pub mod CopyLaws
 pub mod EditLaws
 pub mod EditSuits
 pub mod ListLength
@@ -9,6 +11,7 @@ pub mod NeighbourLaws
 pub mod PlanTold
 pub mod Promises
 pub mod RewalkLaws
+pub mod RoundLists
 pub mod Searching
 pub mod ShapeKept
 pub mod Shapes

@@ -1,5 +1,6 @@
 pub mod Attempts
 pub mod Cabs
+pub mod Candidates
 pub mod Demands
 pub mod Edits
 pub mod Neighbours

@@ -1,4 +1,5 @@
 // The trials: a plan is worked over by moving and interchanging stops and by changing tips.
 pub mod cabs;
+pub mod candidate;
 pub mod edits;
 pub mod vehicle;

@@ -1,0 +1,54 @@
+-- The plan that a trial gives, written vehicle by vehicle. Assumes nothing.
+use Prim.Native.Nat.{ℕ, suc, _+_, _-_, _*_, _≤_, _<_}
+use mathlib.Core.Path.{_≡_, refl, sym, ap, _∙_, subst}
+use mathlib.Core.Bool.{Bool, true, false, true≢false}
+use mathlib.Core.List.{List, [], _∷_, _++_, map}
+use mathlib.Core.Option.{Option, none, some}
+use native.Mathlib.Omega.{arith}
+use lib.ListN.{length, length-append, getD, take, drop}
+use Rattle.laws.specs.Buffer.{Wrote}
+use Rattle.laws.specs.Lists.{Every}
+use Rattle.laws.specs.Tests.{if_then_else_}
+use Rattle.laws.proofs.Buffer.{wrote-same}
+use Rattle.checker.specs.Plan.{Round, taskWord, roundWords, stopsOn, Known}
+use Rattle.trials.specs.Candidates.{Roundable, SomeRoundable, RoundDone, RoundAs}
+use Rattle.trials.specs.Edits.{Edit, changed}
+use Rattle.trials.specs.Rewalks.{Walkable, SomeWalkable, WalkedAs}
+use Rattle.trials.specs.Walk.{walkedAgain}
+use Rattle.trials.specs.declared.vehicle.Walked.{Walked}
+use Rattle.trials.proofs.CopyLaws.{inner-words, round-long}
+
+-- a touched vehicle's tasks are walked again
+module _ {day : List ℕ} {e : Edit} {touched : Bool} {number : ℕ} {words part : List ℕ} (yes : touched ≡ true) where
+  pub round-walkable : (tasks : Round) → Roundable day e touched number words part tasks → Walkable day e (take (length words - 1 - 1) (drop 1 words)) part tasks
+  round-walkable tasks h =
+      record {
+        are = inner-words number tasks words (h .are);
+        known = h .known;
+        edited = h .edited yes;
+        few = omega (arith, h .same yes, h .few);
+        room = omega (arith, h .same yes, h .more);
+      }
+
+  pub some-walkable : SomeRoundable day e touched number words part → SomeWalkable day e (take (length words - 1 - 1) (drop 1 words)) part
+  some-walkable s = record { tasks = s .tasks; walkable = round-walkable (s .tasks) (s .roundable) }
+
+pub round-walked : {day : List ℕ} (e : Edit) {touched : Bool} {number : ℕ} {part : List ℕ} → touched ≡ true → (tasks : Round) {now : List ℕ} {r : Walked}
+    → WalkedAs day number (changed e 0 tasks) part now r → RoundAs number (if touched then walkedAgain day (changed e 0 tasks) else some tasks) part now r
+round-walked e is tasks w =
+    rw is (record {
+      size = w .size;
+      failed = w .failed;
+      written = λ n. let a = w .again n in record { done = a .done; is = a .is; text = a .text };
+    })
+
+-- one that is not touched stays
+pub round-copied : {day : List ℕ} {e : Edit} {touched : Bool} {number : ℕ} {words part : List ℕ} → touched ≡ false → (tasks : Round)
+    → Roundable day e touched number words part tasks → {now : List ℕ} {r : Walked} → Wrote words part now (length words) → r .words ≡ length words → r .stuck ≡ false
+    → RoundAs number (if touched then walkedAgain day (changed e 0 tasks) else some tasks) part now r
+round-copied not tasks h w n g =
+    rw not (record {
+      size = w .size;
+      failed = λ y. absurd (true≢false (sym y ∙ g));
+      written = λ _. record { done = tasks; is = refl; text = wrote-same w (h .are) (sym n) };
+    })
