@@ -134,6 +134,9 @@ trailing-lowest (suc k) x p l =
         (λ h. subst (LowestBit (suc k) x) (sym (h .1)) (lowest-odd k x (h .0)))
         (under-cases (x % 2) t (omega arith))
 
--- 1 << (k % 64), as the machine has it, loses no bit
+-- 1 << b, as the machine has it, loses no bit
+pub one-shl-bit : (b : ℕ) → b < 64 → 1 * 2 ^ b % 2 ^ 64 ≡ 2 ^ b
+one-shl-bit b l = shl-exact 1 b 64 (omega arith) (omega arith) ∙ one-mul (2 ^ b)
+
 pub one-shl : (k : ℕ) → 1 * 2 ^ (k % 64) % 2 ^ 64 ≡ 2 ^ (k % 64)
-one-shl k = shl-exact 1 (k % 64) 64 (omega arith) (omega arith) ∙ one-mul (2 ^ (k % 64))
+one-shl k = one-shl-bit (k % 64) (omega arith)

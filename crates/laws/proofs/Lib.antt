@@ -6,3 +6,4 @@ pub mod Least
 pub mod Lists
 pub mod Marks
 pub mod Tests
+pub mod Walk

@@ -5,3 +5,4 @@ pub mod Least
 pub mod Lists
 pub mod Marks
 pub mod Tests
+pub mod Walk

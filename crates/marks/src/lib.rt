@@ -1,9 +1,10 @@
 // A set of the numbers 0 to 255, such as the stops that are still to be routed: number k is bit k % 64 of word k / 64.
 // What a function does to the set is said through `marked`, the set that the words hold.
-ghost use Prim.Native.Nat.{_<_};
+ghost use Prim.Native.Nat.{_-_, _^_, _<_};
 ghost use mathlib.Core.Path.{_≡_};
 ghost use mathlib.Core.Bool.{true, false};
 ghost use lib.ListN.{replicate};
+ghost use Rattle.laws.specs.Bits.{bit, LowestBit};
 ghost use Rattle.laws.specs.Marks.{marked, onesOf, upTo, Unmarked, Marked, Lowest};
 
 pub struct Marks {
@@ -15,16 +16,6 @@ pub fn none() -> Marks
     ensures { λ r. ⌜ r .words ≡ replicate 4 0 ⌝ }
 {
     Marks { words: [0u64; 4] }
-}
-
-// Whether k is marked.
-pub fn is_marked(m: Marks, k: usize) -> bool
-    requires { ⌜ k < 256 ⌝ }
-    ensures { λ r. ⌜ r ≡ marked (m .words) k ⌝ }
-{
-    let i = k / 64;
-    let w = m.words[i];
-    (w >> (k % 64)) % 2 == 1
 }
 
 // The set with k, which was not in it.
@@ -75,6 +66,22 @@ pub fn remaining(m: Marks) -> u32
         + u64::count_ones(m.words[3])
 }
 
+// The lowest set bit of a word that has one.
+pub fn lowest_bit(w: u64) -> usize
+    requires { ⌜ 0 < w ⌝ }
+    ensures { λ r. ⌜ LowestBit 64 w r ⌝ }
+{
+    u64::trailing_zeros(w) as usize
+}
+
+// The word without bit b, which was set.
+pub fn clear_bit(w: u64, b: usize) -> u64
+    requires { ⌜ (b < 64) × (bit w b ≡ 1) ⌝ }
+    ensures { λ r. ⌜ (r ≡ w - 2 ^ b) × (r < w) ⌝ }
+{
+    w - (1u64 << b)
+}
+
 // The lowest marked number, and 256 where none is marked.
 pub fn lowest(m: Marks) -> usize
     ensures { λ r. ⌜ Lowest (marked (m .words)) 256 r ⌝ }
@@ -83,7 +90,7 @@ pub fn lowest(m: Marks) -> usize
     while i < 4 {
         let w = m.words[i];
         if w != 0 {
-            return i * 64 + (u64::trailing_zeros(w) as usize);
+            return i * 64 + lowest_bit(w);
         }
         i += 1;
     }

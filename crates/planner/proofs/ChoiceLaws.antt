@@ -7,10 +7,10 @@ use mathlib.Core.List.{List}
 use native.Mathlib.Omega.{arith}
 use lib.Dec.{ltb, leb, eqb}
 use borrow.Author.Tests.{le-leb, lt-leb, le-ltb, lt-ltb, eq-eqb, ne-eqb, leb-true, leb-false}
-use Rattle.laws.specs.Marks.{both}
-use Rattle.laws.specs.Least.{better, least}
-use Rattle.laws.proofs.Marks.{both-in, both-out}
-use Rattle.laws.proofs.Least.{better-fails, better-wins, better-loses, least-none, least-suc, least-le}
+use Rattle.laws.specs.Marks.{both, upTo}
+use Rattle.laws.specs.Least.{better}
+use Rattle.laws.proofs.Marks.{both-in, both-out, upTo-low, upTo-out, upTo-in}
+use Rattle.laws.proofs.Least.{better-fails, better-wins, better-loses}
 use Rattle.day.specs.Fields.{tips, stops, stopPlace, loadLimit, dayLimit, stopLimit, opening, quantity, legMinutes}
 use Rattle.day.specs.Layout.{LayoutOf, WindowOf, LegOf}
 use Rattle.day.specs.declared.fields.Layout.{Layout}
@@ -111,35 +111,27 @@ module _ (day : List ℕ) (z : Layout) (t : Trip) (c : Cargo) (k : ℕ) (l : Leg
   unfolding waitable
   not-open-yet h e = e ∙ rw (lt-ltb _ _ (rw (leg-here, hw .opens) at h))
 
--- one stop against the best so far: routed already, not better, not to be had, taken
-module _ (p q : ℕ → Bool) (key : ℕ → ℕ) (k best : ℕ) where
-  pub routed-already : {b : Bool} → b ≡ p k → b ≡ false → best ≡ better (both p q) key k best
-  routed-already e z = sym (better-fails _ _ k best (both-out p q k (sym e ∙ z)))
+-- one number against the best so far: none of 1..n, not better, not to be had, taken
+module _ (n : ℕ) (q : ℕ → Bool) (key : ℕ → ℕ) (k best : ℕ) where
+  pub no-stop : k ≡ 0 → best ≡ better (both (upTo n) q) key k best
+  no-stop e = sym (better-fails _ _ k best (both-out (upTo n) q k (ap (upTo n) e ∙ upTo-low n)))
 
-  pub not-better : {x : ℕ} {b : Bool} → x ≡ key k → b ≡ (eqb best 0 || ltb x (key best)) → b ≡ false → best ≡ better (both p q) key k best
-  not-better ex eb z = sym (better-loses (both p q) key k best (rw ex at (sym eb ∙ z)))
+  pub past-stops : n < k → best ≡ better (both (upTo n) q) key k best
+  past-stops l = sym (better-fails _ _ k best (both-out (upTo n) q k (upTo-out n k l)))
 
-  pub not-had : {b d : Bool} → b ≡ p k → b ≡ true → d ≡ q k → d ≡ false → best ≡ better (both p q) key k best
-  not-had eb zb ed zd = sym (better-fails _ _ k best (both-in p q k (sym eb ∙ zb) ∙ (sym ed ∙ zd)))
+  pub not-better : {x : ℕ} {b : Bool} → x ≡ key k → b ≡ (eqb best 0 || ltb x (key best)) → b ≡ false → best ≡ better (both (upTo n) q) key k best
+  not-better ex eb z = sym (better-loses (both (upTo n) q) key k best (rw ex at (sym eb ∙ z)))
 
-  pub is-taken : {x : ℕ} {b d f : Bool} → b ≡ p k → b ≡ true → x ≡ key k → d ≡ (eqb best 0 || ltb x (key best)) → d ≡ true → f ≡ q k → f ≡ true
-      → k ≡ better (both p q) key k best
-  is-taken eb zb ex ed zd ef zf = sym (better-wins (both p q) key k best (both-in p q k (sym eb ∙ zb) ∙ (sym ef ∙ zf)) (rw ex at (sym ed ∙ zd)))
+  among : (k ≡ 0 → ⊥) → k ≤ n → both (upTo n) q k ≡ q k
+  among p l = both-in (upTo n) q k (upTo-in n k (omega arith) l)
+
+  pub not-had : {d : Bool} → (k ≡ 0 → ⊥) → k ≤ n → d ≡ q k → d ≡ false → best ≡ better (both (upTo n) q) key k best
+  not-had p l ed zd = sym (better-fails _ _ k best (among p l ∙ (sym ed ∙ zd)))
+
+  pub is-taken : {x : ℕ} {d f : Bool} → (k ≡ 0 → ⊥) → k ≤ n → x ≡ key k → d ≡ (eqb best 0 || ltb x (key best)) → d ≡ true → f ≡ q k → f ≡ true
+      → k ≡ better (both (upTo n) q) key k best
+  is-taken p l ex ed zd ef zf = sym (better-wins (both (upTo n) q) key k best (among p l ∙ (sym ef ∙ zf)) (rw ex at (sym ed ∙ zd)))
 
 -- the keys as they are read
 pub near-read : (day : List ℕ) (z : Layout) (t : Trip) (k : ℕ) (l : Leg) → LayoutOf day z → LegOf day (t .place) (z .tips + k) l → l .minutes ≡ nearKey day t k
 near-read day z t k l hz hl = rw (hz .tipsAre) at (hl .takes)
-
--- a pass over 1..n: after the first k the best so far is the least of them
-module _ (ok : ℕ → Bool) (key : ℕ → ℕ) where
-  pub pass-none : 0 ≡ least ok key 0
-  pass-none = sym (least-none ok key)
-
-  pub pass-next : (k best : ℕ) {next : ℕ} → best ≡ least ok key k → next ≡ better ok key (k + 1) best → next ≡ least ok key (k + 1)
-  pass-next k best e n = n ∙ ap (better ok key (k + 1)) e ∙ sym (least-suc ok key k)
-
-  pub pass-most : (k best : ℕ) → best ≡ least ok key k → best ≤ k
-  pass-most k best e = least-le ok key k best e
-
-  pub pass-all : (n k best : ℕ) → best ≡ least ok key k → k ≤ n → n ≤ k → best ≡ least ok key n
-  pass-all n k best e a b = let all : k ≡ n = omega arith in e ∙ ap (least ok key) all

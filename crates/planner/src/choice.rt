@@ -3,8 +3,9 @@ ghost use mathlib.Core.Path.{_≡_};
 ghost use mathlib.Core.Bool.{not, _||_};
 ghost use Prim.Native.Nat.{_+_, _<_, _≤_};
 ghost use lib.Dec.{eqb, ltb};
-ghost use Rattle.laws.specs.Marks.{marked, both};
+ghost use Rattle.laws.specs.Marks.{marked, both, upTo};
 ghost use Rattle.laws.specs.Least.{better, least};
+ghost use Rattle.laws.specs.Walk.{bestOf};
 ghost use Rattle.day.specs.Fields.{stops, stopPlace, opening, closing};
 ghost use Rattle.day.specs.Layout.{LayoutOf};
 ghost use Rattle.checker.specs.Cargo.{loaded, overLimits};
@@ -98,54 +99,90 @@ fn is_earlier(day: &[u32], z: Layout, opening: u32, best: usize) -> bool
     opening < day::fields::stop_window(day, z, best).opening
 }
 
-// Stop k in place of the best so far, where it is unrouted, nearer and can be taken. 0 stands for none.
-fn better_near(
-    day: &[u32],
-    z: Layout,
-    t: Trip,
-    c: Cargo,
-    left: Marks,
-    k: usize,
-    best: usize,
-) -> usize
-    requires { ⌜ LayoutOf (now day) z × SmallTrip (now day) 2147483648 t × SmallCargo c × (0 < k) × (k ≤ z .stops) × (best ≤ z .stops) ⌝ }
-    ensures { λ r. ⌜ r ≡ better (both (marked (left .words)) (takeable (now (day .entry)) t c)) (nearKey (now (day .entry)) t) k best ⌝ }
+// Stop k in place of the best so far, where it is nearer and can be taken. 0 stands for none.
+fn better_near(day: &[u32], z: Layout, t: Trip, c: Cargo, k: usize, best: usize) -> usize
+    requires { ⌜ LayoutOf (now day) z × SmallTrip (now day) 2147483648 t × SmallCargo c × (best ≤ z .stops) ⌝ }
+    ensures { λ r. ⌜ (r ≤ z .stops) × (r ≡ better (both (upTo (z .stops)) (takeable (now (day .entry)) t c)) (nearKey (now (day .entry)) t) k best) ⌝ }
 {
-    if marks::is_marked(left, k) {
-        let leg = day::fields::leg_between(day, z, t.place, z.tips + k);
-        if is_nearer(day, z, t, leg.minutes, best) {
-            if is_takeable(day, z, t, c, k) {
-                return k;
-            }
-            return best;
+    if k == 0 {
+        return best;
+    }
+    if z.stops < k {
+        return best;
+    }
+    let leg = day::fields::leg_between(day, z, t.place, z.tips + k);
+    if is_nearer(day, z, t, leg.minutes, best) {
+        if is_takeable(day, z, t, c, k) {
+            return k;
         }
         return best;
     }
     best
 }
 
-// Stop k in place of the best so far, where it is unrouted, opens earlier and is worth waiting for. 0 stands for none.
-fn better_early(
+// Stop k in place of the best so far, where it opens earlier and is worth waiting for. 0 stands for none.
+fn better_early(day: &[u32], z: Layout, t: Trip, c: Cargo, k: usize, best: usize) -> usize
+    requires { ⌜ LayoutOf (now day) z × SmallTrip (now day) 2147483648 t × SmallCargo c × (best ≤ z .stops) ⌝ }
+    ensures { λ r. ⌜ (r ≤ z .stops) × (r ≡ better (both (upTo (z .stops)) (waitable (now (day .entry)) t c)) (openKey (now (day .entry))) k best) ⌝ }
+{
+    if k == 0 {
+        return best;
+    }
+    if z.stops < k {
+        return best;
+    }
+    let hours = day::fields::stop_window(day, z, k);
+    if is_earlier(day, z, hours.opening, best) {
+        if is_waitable(day, z, t, c, k) {
+            return k;
+        }
+        return best;
+    }
+    best
+}
+
+// The nearest of the best before and the stops of one word of the marks, whose bit b is stop first + b.
+fn nearest_in_word(
     day: &[u32],
     z: Layout,
     t: Trip,
     c: Cargo,
-    left: Marks,
-    k: usize,
-    best: usize,
+    word: u64,
+    first: usize,
+    before: usize,
 ) -> usize
-    requires { ⌜ LayoutOf (now day) z × SmallTrip (now day) 2147483648 t × SmallCargo c × (0 < k) × (k ≤ z .stops) × (best ≤ z .stops) ⌝ }
-    ensures { λ r. ⌜ r ≡ better (both (marked (left .words)) (waitable (now (day .entry)) t c)) (openKey (now (day .entry))) k best ⌝ }
+    requires { ⌜ LayoutOf (now day) z × SmallTrip (now day) 2147483648 t × SmallCargo c × (first < 256) × (before ≤ z .stops) ⌝ }
+    ensures { λ r. ⌜ (r ≤ z .stops) × (r ≡ bestOf (both (upTo (z .stops)) (takeable (now (day .entry)) t c)) (nearKey (now (day .entry)) t) word first before 64) ⌝ }
 {
-    if marks::is_marked(left, k) {
-        let hours = day::fields::stop_window(day, z, k);
-        if is_earlier(day, z, hours.opening, best) {
-            if is_waitable(day, z, t, c, k) {
-                return k;
-            }
-            return best;
-        }
-        return best;
+    let mut best = before;
+    let mut rest = word;
+    while rest != 0 {
+        let b = marks::lowest_bit(rest);
+        best = better_near(day, z, t, c, first + b, best);
+        rest = marks::clear_bit(rest, b);
+    }
+    best
+}
+
+// The first to open of the best before and the stops of one word of the marks, whose bit b is stop first + b.
+fn earliest_in_word(
+    day: &[u32],
+    z: Layout,
+    t: Trip,
+    c: Cargo,
+    word: u64,
+    first: usize,
+    before: usize,
+) -> usize
+    requires { ⌜ LayoutOf (now day) z × SmallTrip (now day) 2147483648 t × SmallCargo c × (first < 256) × (before ≤ z .stops) ⌝ }
+    ensures { λ r. ⌜ (r ≤ z .stops) × (r ≡ bestOf (both (upTo (z .stops)) (waitable (now (day .entry)) t c)) (openKey (now (day .entry))) word first before 64) ⌝ }
+{
+    let mut best = before;
+    let mut rest = word;
+    while rest != 0 {
+        let b = marks::lowest_bit(rest);
+        best = better_early(day, z, t, c, first + b, best);
+        rest = marks::clear_bit(rest, b);
     }
     best
 }
@@ -155,12 +192,11 @@ pub fn nearest_stop(day: &[u32], z: Layout, t: Trip, c: Cargo, left: Marks) -> u
     requires { ⌜ LayoutOf (now day) z × SmallTrip (now day) 2147483648 t × SmallCargo c ⌝ }
     ensures { λ r. ⌜ (r ≤ z .stops) × (r ≡ least (both (marked (left .words)) (takeable (now (day .entry)) t c)) (nearKey (now (day .entry)) t) (stops (now (day .entry)))) ⌝ }
 {
-    let stops = z.stops;
     let mut best: usize = 0;
-    let mut k: usize = 0;
-    while k < stops {
-        best = better_near(day, z, t, c, left, k + 1, best);
-        k += 1;
+    let mut i: usize = 0;
+    while i < 4 {
+        best = nearest_in_word(day, z, t, c, left.words[i], i * 64, best);
+        i += 1;
     }
     best
 }
@@ -170,12 +206,11 @@ pub fn earliest_stop(day: &[u32], z: Layout, t: Trip, c: Cargo, left: Marks) -> 
     requires { ⌜ LayoutOf (now day) z × SmallTrip (now day) 2147483648 t × SmallCargo c ⌝ }
     ensures { λ r. ⌜ (r ≤ z .stops) × (r ≡ least (both (marked (left .words)) (waitable (now (day .entry)) t c)) (openKey (now (day .entry))) (stops (now (day .entry)))) ⌝ }
 {
-    let stops = z.stops;
     let mut best: usize = 0;
-    let mut k: usize = 0;
-    while k < stops {
-        best = better_early(day, z, t, c, left, k + 1, best);
-        k += 1;
+    let mut i: usize = 0;
+    while i < 4 {
+        best = earliest_in_word(day, z, t, c, left.words[i], i * 64, best);
+        i += 1;
     }
     best
 }

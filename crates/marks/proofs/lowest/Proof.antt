@@ -3,13 +3,8 @@ use Prim.Native.Nat.{ℕ, _*_, _-_, _≤_, _<_}
 use mathlib.Core.Path.{_≡_}
 use mathlib.Core.Bool.{false}
 use native.Mathlib.Omega.{arith}
-use lib.ListN.{getD}
-use lib.Count.{trailing-le}
-use mir.Syntax.{w64}
 use borrow.Author.Needs.{needs}
 use Rattle.laws.specs.Marks.{marked}
-use Rattle.laws.proofs.Arrays.{array-fits}
-use Rattle.laws.proofs.Bits.{trailing-lowest}
 use Rattle.laws.proofs.Marks.{lowest-next, lowest-word}
 use Rattle.marks.proofs.lowest.Statement.{statement}
 use Rattle.marks.proofs.lowest.Tie as tie
@@ -32,22 +27,16 @@ element-copy-out-w c = search needs
 mul-result : tie.Need-mul-result Inv-loop μ-loop
 mul-result c = search needs
 
-cast-result : tie.Need-cast-result Inv-loop μ-loop
-cast-result c =
-    let h = c .before .before .before in
-    omega (arith, trailing-le 64 (getD (h .before .args .t1 .words) (h .loop .i) 0))
+lowest-bit-requires : tie.Need-lowest-bit-requires Inv-loop μ-loop
+lowest-bit-requires c κs = omega arith
 
 add-result : tie.Need-add-result Inv-loop μ-loop
-add-result c =
-    let h = c .before .before .before in
-    omega (arith, trailing-le 64 (getD (h .before .args .t1 .words) (h .loop .i) 0))
+add-result c = omega (arith, c .lowest-bit .ensures .within)
 
 returns : tie.Need-returns Inv-loop μ-loop
 returns c =
-    let h = c .before .before .before in
-    lowest-word _ _ (h .loop .inv .1) 4 _ (omega arith)
-    (trailing-lowest 64 _ (omega (arith, c .if1 .taken))
-    (array-fits w64 4 (h .before .args .t1 .words) _ (h .before .good .0 .1 .1 .0) (h .loop .i)))
+    let h = c .before .before .before .before in
+    lowest-word _ _ (h .loop .inv .1) 4 _ (omega arith) (c .lowest-bit .ensures)
 
 add-i : tie.Need-add-i Inv-loop μ-loop
 add-i c = search needs
@@ -75,7 +64,7 @@ lowest-spec =
     mul-w
     element-copy-out-w
     mul-result
-    cast-result
+    lowest-bit-requires
     add-result
     returns
     add-i
