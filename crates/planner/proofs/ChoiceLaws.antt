@@ -2,7 +2,7 @@
 -- Assumes nothing.
 use Prim.Native.Nat.{ℕ, _+_, _≤_, _<_}
 use mathlib.Core.Path.{_≡_, refl, sym, ap, _∙_}
-use mathlib.Core.Bool.{Bool, true, false, not, _||_}
+use mathlib.Core.Bool.{Bool, true, false, not, _||_, true≢false, and-false}
 use mathlib.Core.List.{List}
 use native.Mathlib.Omega.{arith}
 use lib.Dec.{ltb, leb, eqb}
@@ -20,7 +20,7 @@ use Rattle.checker.specs.Cargo.{loaded, overLimits}
 use Rattle.checker.specs.Trip.{arrival, visited}
 use Rattle.checker.specs.declared.walk.Cargo.{Cargo}
 use Rattle.checker.specs.declared.walk.Trip.{Trip}
-use Rattle.planner.specs.Choice.{suits, takeable, waitable, nearKey, openKey}
+use Rattle.planner.specs.Choice.{taking, suits, takeable, waitable, nearKey, openKey}
 use Rattle.planner.specs.Home.{wayHome}
 use Rattle.planner.specs.States.{SmallTrip}
 
@@ -43,16 +43,33 @@ module _ (day : List ℕ) (c : Cargo) (q : ℕ) where
       go true x = rw (le-ltb (stopLimit day) (c .visits + 1) (leb-true _ _ x))
       go false x = rw (lt-ltb (stopLimit day) (c .visits + 1) (leb-false _ _ x))
 
--- a stop that does not fit does not suit; one that fits suits where there is a way home
-module _ (day : List ℕ) (t : Trip) (c : Cargo) (k : ℕ) where
-  pub unfit : {q : ℕ} {b : Bool} → q ≡ quantity day (stopPlace day k) → b ≡ not (overLimits day (loaded c q)) → b ≡ false → false ≡ suits day t c k
-  unfolding suits
-  unfit eq eb z = rw (← eq, ← eb, z)
+-- the test of what one stop more comes to says that it fits
+pub fitting : (day : List ℕ) (c : Cargo) (k : ℕ) {q : ℕ} {b : Bool} → q ≡ quantity day (stopPlace day k) → b ≡ not (overLimits day (loaded c q)) → b ≡ true
+    → overLimits day (taking day c k) ≡ false
+fitting day c k eq eb z = go (overLimits day (taking day c k)) (sym z ∙ eb ∙ ap (λ (x : ℕ). not (overLimits day (loaded c x))) eq)
+  where
+    go : (x : Bool) → true ≡ not x → x ≡ false
+    go true e = absurd (true≢false e)
+    go false e = refl
 
-  pub fit-home : {q : ℕ} {b r : Bool} (u : Trip) → q ≡ quantity day (stopPlace day k) → b ≡ not (overLimits day (loaded c q)) → b ≡ true
+-- a stop that fits suits where there is a way home; one that does not is not to be had
+module _ (day : List ℕ) (t : Trip) (c : Cargo) (k : ℕ) where
+  pub fit-home : {q : ℕ} {r : Bool} (u : Trip) → overLimits day (taking day c k) ≡ false → q ≡ quantity day (stopPlace day k)
       → u ≡ visited day t (stopPlace day k) → r ≡ wayHome day u (c .load + q) → r ≡ suits day t c k
   unfolding suits
-  fit-home u eq eb z eu er = er ∙ rw (eu, ← eq, ← eb, z)
+  fit-home u fit eq eu er = er ∙ rw (fit, eu, ← eq)
+
+  unfit : {q : ℕ} {b : Bool} → q ≡ quantity day (stopPlace day k) → b ≡ not (overLimits day (loaded c q)) → b ≡ false → suits day t c k ≡ false
+  unfolding suits
+  unfit eq eb z = rw (← eq, ← eb, z) refl
+
+  pub unfit-near : {q : ℕ} {b : Bool} → q ≡ quantity day (stopPlace day k) → b ≡ not (overLimits day (loaded c q)) → b ≡ false → false ≡ takeable day t c k
+  unfolding takeable
+  unfit-near eq eb z = rw (unfit eq eb z, and-false, and-false)
+
+  pub unfit-early : {q : ℕ} {b : Bool} → q ≡ quantity day (stopPlace day k) → b ≡ not (overLimits day (loaded c q)) → b ≡ false → false ≡ waitable day t c k
+  unfolding waitable
+  unfit-early eq eb z = rw (unfit eq eb z, and-false)
 
 -- bounds: a larger bound on the distance, and the trip after the service
 pub weaker-trip : (day : List ℕ) (less most : ℕ) (t : Trip) → less ≤ most → SmallTrip day less t → SmallTrip day most t

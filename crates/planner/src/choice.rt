@@ -1,6 +1,6 @@
 // Which stop a vehicle takes next: the nearest that can be taken, and the first to open among those worth waiting for.
 ghost use mathlib.Core.Path.{_≡_};
-ghost use mathlib.Core.Bool.{not, _||_};
+ghost use mathlib.Core.Bool.{false, not, _||_};
 ghost use Prim.Native.Nat.{_+_, _<_, _≤_};
 ghost use lib.Dec.{eqb, ltb};
 ghost use Rattle.laws.specs.Marks.{marked, both, upTo};
@@ -10,7 +10,7 @@ ghost use Rattle.day.specs.Fields.{stops, stopPlace, opening, closing};
 ghost use Rattle.day.specs.Layout.{LayoutOf};
 ghost use Rattle.checker.specs.Cargo.{loaded, overLimits};
 ghost use Rattle.checker.specs.Trip.{arrival};
-ghost use Rattle.planner.specs.Choice.{suits, takeable, waitable, nearKey, openKey};
+ghost use Rattle.planner.specs.Choice.{taking, suits, takeable, waitable, nearKey, openKey};
 ghost use Rattle.planner.specs.States.{SmallTrip, SmallCargo};
 use crate::home::is_way_home;
 use crate::home::visit_stop;
@@ -33,23 +33,20 @@ fn fits(day: &[u32], z: Layout, c: Cargo, q: u32) -> bool
     c.visits + 1 <= day::fields::stop_limit(day, z)
 }
 
-// Whether stop k fits and leaves a way home, where its service starts by its closing.
+// Whether stop k, which fits, leaves a way home, where its service starts by its closing.
 fn is_suited(day: &[u32], z: Layout, t: Trip, c: Cargo, k: usize) -> bool
-    requires { ⌜ LayoutOf (now day) z × SmallTrip (now day) 2147483648 t × SmallCargo c × (0 < k) × (k ≤ z .stops) ⌝ }
+    requires { ⌜ LayoutOf (now day) z × SmallTrip (now day) 2147483648 t × SmallCargo c × (0 < k) × (k ≤ z .stops) × (overLimits (now day) (taking (now day) c k) ≡ false) ⌝ }
     requires { ⌜ (arrival (now day) t (stopPlace (now day) k) < 4096) ⌝ }
     ensures { λ r. ⌜ r ≡ suits (now (day .entry)) t c k ⌝ }
 {
     let q = day::fields::stop_quantity(day, z, k);
-    if fits(day, z, c, q) {
-        let served = visit_stop(day, z, t, k);
-        return is_way_home(day, z, served, c.load + q);
-    }
-    false
+    let served = visit_stop(day, z, t, k);
+    is_way_home(day, z, served, c.load + q)
 }
 
-// Whether stop k can be taken: reached within its window, and suited.
+// Whether stop k, which fits, can be taken: reached within its window, and suited.
 fn is_takeable(day: &[u32], z: Layout, t: Trip, c: Cargo, k: usize) -> bool
-    requires { ⌜ LayoutOf (now day) z × SmallTrip (now day) 2147483648 t × SmallCargo c × (0 < k) × (k ≤ z .stops) ⌝ }
+    requires { ⌜ LayoutOf (now day) z × SmallTrip (now day) 2147483648 t × SmallCargo c × (0 < k) × (k ≤ z .stops) × (overLimits (now day) (taking (now day) c k) ≡ false) ⌝ }
     ensures { λ r. ⌜ r ≡ takeable (now (day .entry)) t c k ⌝ }
 {
     let leg = day::fields::leg_between(day, z, t.place, z.tips + k);
@@ -64,9 +61,9 @@ fn is_takeable(day: &[u32], z: Layout, t: Trip, c: Cargo, k: usize) -> bool
     is_suited(day, z, t, c, k)
 }
 
-// Whether stop k is worth waiting for: reached before it opens, and suited.
+// Whether stop k, which fits, is worth waiting for: reached before it opens, and suited.
 fn is_waitable(day: &[u32], z: Layout, t: Trip, c: Cargo, k: usize) -> bool
-    requires { ⌜ LayoutOf (now day) z × SmallTrip (now day) 2147483648 t × SmallCargo c × (0 < k) × (k ≤ z .stops) ⌝ }
+    requires { ⌜ LayoutOf (now day) z × SmallTrip (now day) 2147483648 t × SmallCargo c × (0 < k) × (k ≤ z .stops) × (overLimits (now day) (taking (now day) c k) ≡ false) ⌝ }
     ensures { λ r. ⌜ r ≡ waitable (now (day .entry)) t c k ⌝ }
 {
     let leg = day::fields::leg_between(day, z, t.place, z.tips + k);
@@ -112,8 +109,12 @@ fn better_near(day: &[u32], z: Layout, t: Trip, c: Cargo, k: usize, best: usize)
     }
     let leg = day::fields::leg_between(day, z, t.place, z.tips + k);
     if is_nearer(day, z, t, leg.minutes, best) {
-        if is_takeable(day, z, t, c, k) {
-            return k;
+        let q = day::fields::stop_quantity(day, z, k);
+        if fits(day, z, c, q) {
+            if is_takeable(day, z, t, c, k) {
+                return k;
+            }
+            return best;
         }
         return best;
     }
@@ -133,8 +134,12 @@ fn better_early(day: &[u32], z: Layout, t: Trip, c: Cargo, k: usize, best: usize
     }
     let hours = day::fields::stop_window(day, z, k);
     if is_earlier(day, z, hours.opening, best) {
-        if is_waitable(day, z, t, c, k) {
-            return k;
+        let q = day::fields::stop_quantity(day, z, k);
+        if fits(day, z, c, q) {
+            if is_waitable(day, z, t, c, k) {
+                return k;
+            }
+            return best;
         }
         return best;
     }
