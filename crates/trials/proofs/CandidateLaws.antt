@@ -1,11 +1,13 @@
 -- The plan that a trial gives, written vehicle by vehicle. Assumes nothing.
 use Prim.Native.Nat.{ℕ, suc, _+_, _-_, _*_, _≤_, _<_}
 use mathlib.Core.Path.{_≡_, refl, sym, ap, _∙_, subst}
-use mathlib.Core.Bool.{Bool, true, false, true≢false}
+use mathlib.Core.Bool.{Bool, true, false, true≢false, _||_}
 use mathlib.Core.List.{List, [], _∷_, _++_, map}
 use mathlib.Core.Option.{Option, none, some}
 use native.Mathlib.Omega.{arith}
+use lib.Dec.{eqb}
 use lib.ListN.{length, length-append, getD, take, drop}
+use borrow.Author.Tests.{eq-eqb, ne-eqb}
 use Rattle.laws.specs.Buffer.{Wrote}
 use Rattle.laws.specs.Lists.{Every}
 use Rattle.laws.specs.Tests.{if_then_else_}
@@ -52,3 +54,10 @@ round-copied not tasks h w n g =
       failed = λ y. absurd (true≢false (sym y ∙ g));
       written = λ _. record { done = tasks; is = refl; text = wrote-same w (h .are) (sym n) };
     })
+
+-- which vehicles are touched
+pub touched-one : (one other number : ℕ) → number ≡ one → true ≡ (eqb number one || eqb number other)
+touched-one one other number e = rw (eq-eqb number one e) refl
+
+pub touched-other : (one other number : ℕ) → (number ≡ one → ⊥) → eqb number other ≡ (eqb number one || eqb number other)
+touched-other one other number n = rw (ne-eqb number one n) refl

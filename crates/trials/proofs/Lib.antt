@@ -8,6 +8,7 @@ pub mod ListLength
 pub mod Listed
 pub mod MidwayLaws
 pub mod NeighbourLaws
+pub mod NextRounds
 pub mod PlanTold
 pub mod Promises
 pub mod RewalkLaws
@@ -19,3 +20,4 @@ pub mod TrialCases
 pub mod TrialRoom
 pub mod WalkLaws
 pub mod Walking
+pub mod WrittenLaws

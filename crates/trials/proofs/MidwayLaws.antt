@@ -32,7 +32,7 @@ use Rattle.trials.proofs.WalkLaws.{stands-goes, stands-failed}
 use Rattle.trials.proofs.Walking.{walked-on, walked-home, walked-distance}
 
 -- an element of a list of which each has a property
-every-at : {A : Type 0} (P : A → Type 0) (xs : List A) (i : ℕ) (d : A) → Every P xs → i < length xs → P (getD xs i d)
+pub every-at : {A : Type 0} (P : A → Type 0) (xs : List A) (i : ℕ) (d : A) → Every P xs → i < length xs → P (getD xs i d)
 unfolding Every
 every-at P [] i d e l = absurd (omega arith)
 every-at P (x ∷ xs) zero d e l = e .0

@@ -49,18 +49,30 @@ pub record RoundAs (number : ℕ) (o : Option Round) (p part : List ℕ) (r : Wa
   pub written : r .stuck ≡ false → RoundDone number o p part r
 
 -- the plan held, its words, where its vehicles start, and a trial of it that may be made
-pub record Trying (day plan starts work : List ℕ) (m : Trial) (rounds : List Round) : Type 0 where
+pub record Trying (day plan starts : List ℕ) (m : Trial) (rounds : List Round) : Type 0 where
   pub shaped : Shaped day rounds
   pub valid : Valid day rounds m
   pub are : plan ≡ planWords rounds (greedyLefts day)
   pub starting : (v : ℕ) → v ≤ length rounds → getD starts v 0 ≡ length (roundsWords 0 (take v rounds))
   pub table : length starts ≡ 256
-  pub room : 5 * stops day ≤ length work
 
-pub record SomeTrying (day plan starts work : List ℕ) (m : Trial) (count : ℕ) : Type 0 where
+pub record SomeTrying (day plan starts : List ℕ) (m : Trial) (count : ℕ) : Type 0 where
   pub rounds : List Round
-  pub trying : Trying day plan starts work m rounds
+  pub trying : Trying day plan starts m rounds
   pub counted : count ≡ length rounds
+
+-- and there is room for what vehicle v becomes
+pub record SomeNext (day plan starts : List ℕ) (m : Trial) (v : ℕ) (part : List ℕ) : Type 0 where
+  pub rounds : List Round
+  pub trying : Trying day plan starts m rounds
+  pub inside : v < length rounds
+  pub room : 5 * length (stopsOn (getD rounds v [])) ≤ length part
+
+-- so vehicle v is written, whatever vehicles have these words
+abbrev pub WritesNext : List ℕ → List ℕ → List ℕ → Trial → ℕ → List ℕ → List ℕ → Walked → Type 0
+WritesNext day plan starts m v part now r =
+    (rounds : List Round) → Trying day plan starts m rounds → v < length rounds → 5 * length (stopsOn (getD rounds v [])) ≤ length part
+    → RoundAs (v + 1) (retried day m (v + 1) (getD rounds v [])) part now r
 
 -- the first v vehicles of the candidate are written
 pub record Written (day : List ℕ) (m : Trial) (rounds : List Round) (p part : List ℕ) (v at : ℕ) : Type 0 where
@@ -68,8 +80,19 @@ pub record Written (day : List ℕ) (m : Trial) (rounds : List Round) (p part : 
   pub is : triedFrom day m 0 (take v rounds) ≡ some done
   pub text : Wrote (roundsWords 0 done) p part at
 
--- the candidate: the trial has failed, or the plan's words stand at the front of the part
+-- they all are, or the trial has failed
+pub record RoundsAs (day : List ℕ) (m : Trial) (rounds : List Round) (p part : List ℕ) (count : ℕ) (r : Walked) : Type 0 where
+  pub size : length part ≡ length p
+  pub failed : r .stuck ≡ true → tried day rounds m ≡ none
+  pub written : r .stuck ≡ false → Written day m rounds p part count (r .words)
+
+-- the candidate: the plan's words stand at the front of the part, or the trial has failed
 pub record Candidate (day : List ℕ) (m : Trial) (rounds : List Round) (p part : List ℕ) (words : ℕ) : Type 0 where
   pub q : List Round
   pub is : tried day rounds m ≡ some q
   pub text : Wrote (planWords q (greedyLefts day)) p part words
+
+pub record CandidateAs (day : List ℕ) (m : Trial) (rounds : List Round) (p part : List ℕ) (r : Walked) : Type 0 where
+  pub size : length part ≡ length p
+  pub failed : r .stuck ≡ true → tried day rounds m ≡ none
+  pub written : r .stuck ≡ false → Candidate day m rounds p part (r .words)
