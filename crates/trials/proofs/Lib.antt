@@ -4,6 +4,7 @@ pub mod ChangeLaws
 pub mod CopyLaws
 pub mod EditLaws
 pub mod EditSuits
+pub mod Gains
 pub mod ListLength
 pub mod Listed
 pub mod MidwayLaws
