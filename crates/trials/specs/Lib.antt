@@ -8,4 +8,5 @@ pub mod Rewalks
 pub mod Search
 pub mod Shapes
 pub mod TrialList
+pub mod Tries
 pub mod Walk

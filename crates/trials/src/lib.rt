@@ -2,4 +2,5 @@
 pub mod cabs;
 pub mod candidate;
 pub mod edits;
+pub mod tries;
 pub mod vehicle;

@@ -1,0 +1,101 @@
+use borrow.Author.Needs.{needs}
+use Rattle.trials.proofs.tries.retry.Statement.{statement}
+use Rattle.trials.proofs.tries.retry.Tie as tie
+use Rattle.trials.proofs.tries.retry.Reads as reads
+use Rattle.trials.proofs.tries.retry.Lts as lts
+use Rattle.trials.proofs.vehicle.walk_vehicle.Reads as walk-vehicle-reads
+
+-- src/tries.rt:35:16
+mul-from : tie.Need-mul-from
+mul-from c = ?
+
+-- src/tries.rt:35:16
+shared-slice-read-from : tie.Need-shared-slice-read-from
+shared-slice-read-from c = ?
+
+-- src/tries.rt:35:16
+cast-from : tie.Need-cast-from
+cast-from c = ?
+
+-- src/tries.rt:35:16
+add-from : tie.Need-add-from
+add-from c = ?
+
+-- src/tries.rt:36:21
+add-to : tie.Need-add-to
+add-to c = ?
+
+-- src/tries.rt:36:14
+mul-to : tie.Need-mul-to
+mul-to c = ?
+
+-- src/tries.rt:36:14
+shared-slice-read-to : tie.Need-shared-slice-read-to
+shared-slice-read-to c = ?
+
+-- src/tries.rt:36:14
+cast-to : tie.Need-cast-to
+cast-to c = ?
+
+-- src/tries.rt:36:14
+sub-to : tie.Need-sub-to
+sub-to c = ?
+
+-- src/tries.rt:37:30
+add-walk-vehicle : tie.Need-add-walk-vehicle
+add-walk-vehicle c = ?
+
+-- src/tries.rt:37:29
+cast-walk-vehicle : tie.Need-cast-walk-vehicle
+cast-walk-vehicle c = ?
+
+-- src/tries.rt:37:45
+mul-walk-vehicle : tie.Need-mul-walk-vehicle
+mul-walk-vehicle c = ?
+
+-- src/tries.rt:37:45
+sub-walk-vehicle : tie.Need-sub-walk-vehicle
+sub-walk-vehicle c = ?
+
+-- src/tries.rt:37:45
+part-walk-vehicle-start : tie.Need-part-walk-vehicle-start
+part-walk-vehicle-start c = ?
+
+-- src/tries.rt:37:45
+part-walk-vehicle-end : tie.Need-part-walk-vehicle-end
+part-walk-vehicle-end c = ?
+
+-- src/tries.rt:37:5
+walk-vehicle-requires : tie.Need-walk-vehicle-requires
+walk-vehicle-requires c κs = ?
+
+-- src/tries.rt:21:1
+same-length : tie.Need-same-length
+same-length c = search needs
+
+-- src/tries.rt:21:1
+returns : tie.Need-returns
+returns c = ?
+
+pub retry-spec : {M : Type 1} → statement M
+retry-spec =
+    tie.close
+    (tie.spec
+    mul-from
+    shared-slice-read-from
+    cast-from
+    add-from
+    add-to
+    mul-to
+    shared-slice-read-to
+    cast-to
+    sub-to
+    add-walk-vehicle
+    cast-walk-vehicle
+    mul-walk-vehicle
+    sub-walk-vehicle
+    part-walk-vehicle-start
+    part-walk-vehicle-end
+    walk-vehicle-requires
+    same-length
+    returns)

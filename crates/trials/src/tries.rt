@@ -1,0 +1,45 @@
+// One trial of the plan held.
+ghost use mathlib.Core.Path.{_≡_};
+ghost use mathlib.Core.Bool.{false};
+ghost use mathlib.Core.List.{List};
+ghost use Prim.Native.Nat.{_≤_, _<_, _*_};
+ghost use lib.ListN.{length};
+ghost use Rattle.day.specs.Accepted.{IsAccepted};
+ghost use Rattle.day.specs.Layout.{LayoutOf};
+ghost use Rattle.checker.specs.Plan.{Round};
+ghost use Rattle.trials.specs.Attempts.{distanceOf};
+ghost use Rattle.trials.specs.Candidates.{trialOf};
+ghost use Rattle.trials.specs.Rewalks.{EditKnown, EditSmall};
+ghost use Rattle.trials.specs.Tries.{SomeTouched, Retries, Measured, SomeMeasured, NoneKept, TriedAs};
+use crate::candidate::write_candidate;
+use crate::edits::Edit;
+use crate::vehicle::Walked;
+use crate::vehicle::walk_vehicle;
+use day::fields::Layout;
+
+// Vehicle v, counted from 0, walked again; the working buffer takes its words.
+fn retry(
+    day: &[u32],
+    z: Layout,
+    e: Edit,
+    one: usize,
+    other: usize,
+    plan: &[u32],
+    starts: &[u32],
+    v: usize,
+    work: &mut [u32],
+) -> Walked
+    requires { ⌜ LayoutOf (now day) z × IsAccepted (now day) × EditSmall e × EditKnown (now day) e × SomeTouched (now day) (now plan) (now starts) (trialOf e one other) v × (5 * z .stops ≤ length (now work)) ⌝ }
+    ensures { λ r. ⌜ Retries (now (day .entry)) (now (plan .entry)) (now (starts .entry)) (trialOf e one other) v (now (work .entry)) (now (work .exit)) r ⌝ }
+{
+    let from = starts[v] as usize + 1;
+    let to = starts[v + 1] as usize - 1;
+    walk_vehicle(day, z, e, (v + 1) as u32, &plan[from..to], work)
+}
+
+// What came of a trial: whether its plan is kept, how many words it has and how far it drives.
+pub struct Tried {
+    pub kept: bool,
+    pub words: usize,
+    pub distance: u32,
+}
