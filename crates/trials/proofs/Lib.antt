@@ -10,6 +10,7 @@ pub mod Listed
 pub mod MidwayLaws
 pub mod NeighbourLaws
 pub mod NextRounds
+pub mod PairRests
 pub mod PlanTold
 pub mod Promises
 pub mod RewalkLaws

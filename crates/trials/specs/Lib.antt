@@ -3,10 +3,12 @@ pub mod Cabs
 pub mod Candidates
 pub mod Demands
 pub mod Edits
+pub mod Listing
 pub mod Neighbours
 pub mod Rewalks
 pub mod Search
 pub mod Shapes
+pub mod Tables
 pub mod TrialList
 pub mod Tries
 pub mod Walk

@@ -2,5 +2,6 @@
 pub mod cabs;
 pub mod candidate;
 pub mod edits;
+pub mod listing;
 pub mod tries;
 pub mod vehicle;
