@@ -6,6 +6,7 @@ pub mod EditLaws
 pub mod EditSuits
 pub mod Gains
 pub mod ListLength
+pub mod ListRests
 pub mod Listed
 pub mod MidwayLaws
 pub mod NeighbourLaws
@@ -18,6 +19,8 @@ pub mod RoundLists
 pub mod Searching
 pub mod ShapeKept
 pub mod Shapes
+pub mod TaskPlaces
+pub mod TipRests
 pub mod TrialCases
 pub mod TrialRoom
 pub mod WalkLaws

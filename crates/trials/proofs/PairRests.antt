@@ -18,9 +18,10 @@ use Rattle.day.specs.declared.fields.Layout.{Layout}
 use Rattle.checker.specs.Plan.{Round}
 use Rattle.planner.proofs.Decided.{known}
 use Rattle.trials.specs.Edits.{before, after, swap, Trial, onOne, onTwo}
-use Rattle.trials.specs.Listing.{trialOf, pairOn, fromHalf, neighboursFrom, stopsFrom, pairRest, Goes, Tells, nextRank, halfway, nextStop, PairTells, no-trial, last-trial, first-trial, PairsOf, pairsLeft, PairStep, PairAnswer}
+use Rattle.trials.specs.Listing.{Goes, nextRank, halfway, nextStop, PairTells, no-trial, last-trial, first-trial, PairsOf, pairsLeft, PairStep, PairAnswer}
 use Rattle.trials.specs.Neighbours.{neighbours}
-use Rattle.trials.specs.TrialList.{each, rising, vehicleOf, pairTrials}
+use Rattle.trials.specs.TrialList.{each, rising, pairTrials}
+use Rattle.trials.specs.TrialRest.{trialOf, pairOn, fromHalf, neighboursFrom, stopsFrom, pairRest}
 use Rattle.trials.specs.declared.listing.PairListed.{PairListed}
 use Rattle.trials.specs.declared.listing.PairPlace.{PairPlace}
 use Rattle.trials.proofs.NeighbourLaws.{neighbours-are}
@@ -187,17 +188,17 @@ module _ (day : List ℕ) (K : ℕ) (rounds : List Round) where
   pair-goes p r within h (last-trial _ f e n) =
       record {
         some = λ t.
-          rank-at p within h ∙ ap (λ (ms : List Trial). ms ++ pairRest day K rounds (nextRank p)) e ∙ ap (λ (q : PairPlace). trialOf (r .trial) ∷ pairRest day K rounds q) (sym n);
+            rank-at p within h ∙ ap (λ (ms : List Trial). ms ++ pairRest day K rounds (nextRank p)) e ∙ ap (λ (q : PairPlace). trialOf (r .trial) ∷ pairRest day K rounds q) (sym n);
         none = λ t. absurd (true≢false (sym f ∙ t));
       }
   pair-goes p r within h (first-trial _ m f s e n) =
       record {
         some = λ t.
-          no-second p within h s
-          ∙ ap (λ (ms : List Trial). ms ++ pairRest day K rounds (nextRank p)) e
-          ∙ ap (λ (ms : List Trial). trialOf (r .trial) ∷ (ms ++ pairRest day K rounds (nextRank p))) (sym (ap (drop 1) e))
-          ∙ ap (λ (ms : List Trial). trialOf (r .trial) ∷ ms) (sym (half-at p within h))
-          ∙ ap (λ (q : PairPlace). trialOf (r .trial) ∷ pairRest day K rounds q) (sym n);
+            no-second p within h s
+            ∙ ap (λ (ms : List Trial). ms ++ pairRest day K rounds (nextRank p)) e
+            ∙ ap (λ (ms : List Trial). trialOf (r .trial) ∷ (ms ++ pairRest day K rounds (nextRank p))) (sym (ap (drop 1) e))
+            ∙ ap (λ (ms : List Trial). trialOf (r .trial) ∷ ms) (sym (half-at p within h))
+            ∙ ap (λ (q : PairPlace). trialOf (r .trial) ∷ pairRest day K rounds q) (sym n);
         none = λ t. absurd (true≢false (sym f ∙ t));
       }
 
@@ -228,8 +229,8 @@ module _ (z : Layout) (K : ℕ) (table vehicles : List ℕ) (p : PairPlace) (r :
   neighbours-over k a h l j t n e =
       record {
         goes = λ s.
-          let b : p .stop ≤ stops (s .day) = omega (arith, s .layout .stopsAre) in
-          passes s b (rank-beyond (s .day) K (p .stop) (p .rank) (sym (s .tableIs .rows (p .stop) (p .rank) a b l) ∙ sym t ∙ n)) (e .0) (e .1);
+            let b : p .stop ≤ stops (s .day) = omega (arith, s .layout .stopsAre) in
+            passes s b (rank-beyond (s .day) K (p .stop) (p .rank) (sym (s .tableIs .rows (p .stop) (p .rank) a b l) ∙ sym t ∙ n)) (e .0) (e .1);
         first = rw (e .1) (omega arith);
         falls = λ f. next-falls h k (e .1);
       }
@@ -245,12 +246,12 @@ module _ (z : Layout) (K : ℕ) (table vehicles : List ℕ) (p : PairPlace) (r :
   pair-steps j one two a h l ej n eo et tells =
       record {
         goes = λ s.
-          let b : p .stop ≤ stops (s .day) = omega (arith, s .layout .stopsAre) in
-          let e : j ≡ getD (neighbours (s .day) K (p .stop)) (p .rank) 0 = ej ∙ s .tableIs .rows (p .stop) (p .rank) a b l in
-          let inside = rank-within (s .day) K (p .stop) (p .rank) (λ x. n (e ∙ x)) in
-          let stop = every-at (λ j. (1 ≤ j) × (j ≤ stops (s .day))) (neighbours (s .day) K (p .stop)) (p .rank) 0 (neighbours-are (s .day) K (p .stop) .known) inside in
-          let same = same-pair s (p .stop) (getD (neighbours (s .day) K (p .stop)) (p .rank) 0) a b (stop .0) (stop .1) in
-          pair-goes (s .day) K (s .rounds) p r b inside (rw (eo, et, e, same) at tells);
+            let b : p .stop ≤ stops (s .day) = omega (arith, s .layout .stopsAre) in
+            let e : j ≡ getD (neighbours (s .day) K (p .stop)) (p .rank) 0 = ej ∙ s .tableIs .rows (p .stop) (p .rank) a b l in
+            let inside = rank-within (s .day) K (p .stop) (p .rank) (λ x. n (e ∙ x)) in
+            let stop = every-at (λ j. (1 ≤ j) × (j ≤ stops (s .day))) (neighbours (s .day) K (p .stop)) (p .rank) 0 (neighbours-are (s .day) K (p .stop) .known) inside in
+            let same = same-pair s (p .stop) (getD (neighbours (s .day) K (p .stop)) (p .rank) 0) a b (stop .0) (stop .1) in
+            pair-goes (s .day) K (s .rounds) p r b inside (rw (eo, et, e, same) at tells);
         first = rw (tells-stop r tells) a;
         falls = λ f. rw (tells-rank r tells f) (omega arith);
       }
@@ -275,10 +276,10 @@ module _ (z : Layout) (K : ℕ) (table vehicles : List ℕ) (p : PairPlace) wher
   pairs-end q r h a l e =
       record {
         tells = λ s.
-          let over = pairs-over (s .day) K (s .rounds) q (omega (arith, s .layout .stopsAre)) in
-          record {
-            some = λ t. absurd (true≢false (sym t ∙ e .0));
-            none = λ t. (h s ∙ over, ap (pairRest (s .day) K (s .rounds)) (e .1) ∙ over);
-          };
+            let over = pairs-over (s .day) K (s .rounds) q (omega (arith, s .layout .stopsAre)) in
+            record {
+              some = λ t. absurd (true≢false (sym t ∙ e .0));
+              none = λ t. (h s ∙ over, ap (pairRest (s .day) K (s .rounds)) (e .1) ∙ over);
+            };
         first = rw (e .1) a;
       }

@@ -10,5 +10,6 @@ pub mod Search
 pub mod Shapes
 pub mod Tables
 pub mod TrialList
+pub mod TrialRest
 pub mod Tries
 pub mod Walk

@@ -1,22 +1,19 @@
--- The trial list of a plan from a place on, as the code has it, which never writes the list down. It serves the contracts of this crate's
--- own functions. Assumes nothing.
-use Prim.Native.Nat.{ℕ, zero, suc, _+_, _*_, _-_, _≤_, _<_}
+-- What the code says of the trial list, which it never writes down: a step over it, the next trial, and the tables that it goes by. It serves
+-- the contracts of this crate's own functions. Assumes nothing.
+use Prim.Native.Nat.{ℕ, suc, _+_, _*_, _-_, _≤_, _<_}
 use mathlib.Core.Path.{_≡_}
-use mathlib.Core.Bool.{Bool, true, false, _||_}
-use mathlib.Core.List.{List, [], _∷_, _++_}
-use lib.Dec.{eqb}
-use lib.ListN.{length, getD, drop, take}
+use mathlib.Core.Bool.{Bool, true, false}
+use mathlib.Core.List.{List, [], _∷_}
+use lib.ListN.{length, getD, take}
 use Rattle.laws.specs.Lists.{Every}
-use Rattle.laws.specs.Tests.{if_then_else_}
-use Rattle.day.specs.Fields.{stops, tips}
+use Rattle.day.specs.Fields.{stops}
 use Rattle.day.specs.Layout.{LayoutOf}
 use Rattle.day.specs.declared.fields.Layout.{Layout}
-use Rattle.checker.specs.Plan.{Task, serve, empty, lunch, Round, roundsWords, planWords, Known}
-use Rattle.trials.specs.Edits.{before, after, swap, remove, replace, Trial, onOne, onTwo}
-use Rattle.trials.specs.Neighbours.{neighbours}
-use Rattle.trials.specs.Rewalks.{editOf}
+use Rattle.checker.specs.Plan.{Round, roundsWords, planWords, Known}
+use Rattle.trials.specs.Edits.{Trial}
 use Rattle.trials.specs.Tables.{TableOf, Surveyed}
-use Rattle.trials.specs.TrialList.{each, rising, vehicleOf, pairTrials, otherTip, roundTrials, tipTrials}
+use Rattle.trials.specs.TrialList.{vehicleOf}
+use Rattle.trials.specs.TrialRest.{trialOf, fromHalf, pairRest, tipFrom, tipRest, restOf}
 use Rattle.trials.specs.declared.listing.Cursor.{Cursor}
 use Rattle.trials.specs.declared.listing.Listed.{Listed}
 use Rattle.trials.specs.declared.listing.PairListed.{PairListed}
@@ -24,61 +21,6 @@ use Rattle.trials.specs.declared.listing.PairPlace.{PairPlace}
 use Rattle.trials.specs.declared.listing.TipListed.{TipListed}
 use Rattle.trials.specs.declared.listing.TipPlace.{TipPlace}
 use Rattle.trials.specs.declared.listing.Trial as Code
-
--- the trial that the code names
-abbrev pub trialOf : Code.Trial → Trial
-trialOf m = record { edit = editOf (m .edit); one = m .one; other = m .other }
-
--- the trials of a pair of stops, by the vehicles that they are on, 0 for none
-unfoldable pub pairOn : ℕ → ℕ → ℕ → ℕ → List Trial
-pairOn i j one other =
-    if eqb one 0 || eqb other 0 then []
-    else if eqb one other then onOne (before i j) one ∷ onOne (after i j) one ∷ []
-    else onTwo (swap i j) one other ∷ []
-
--- all of a list, or what stands behind its first
-unfoldable pub fromHalf : {A : Type 0} → Bool → List A → List A
-fromHalf second xs = if second then drop 1 xs else xs
-
--- a stop and the neighbours that are left
-unfoldable pub neighboursFrom : List Round → ℕ → Bool → List ℕ → List Trial
-neighboursFrom rounds i second [] = []
-neighboursFrom rounds i second (j ∷ js) = fromHalf second (pairTrials rounds i j) ++ each (pairTrials rounds i) js
-
--- so many stops that are left, of the first the neighbours from a rank on
-unfoldable pub stopsFrom : List ℕ → ℕ → List Round → ℕ → ℕ → Bool → ℕ → List Trial
-stopsFrom day K rounds i rank second zero = []
-stopsFrom day K rounds i rank second (suc more) =
-    neighboursFrom rounds i second (drop rank (neighbours day K i))
-    ++ rising (λ i. each (pairTrials rounds i) (neighbours day K i)) (suc i) more
-
--- the pairs that are left
-unfoldable pub pairRest : List ℕ → ℕ → List Round → PairPlace → List Trial
-pairRest day K rounds p = stopsFrom day K rounds (p .stop) (p .rank) (p .second) (suc (stops day) - p .stop)
-
--- of tip y, the task number t of a vehicle: at 0 its removal and every other tip, else the other tips from x on
-unfoldable pub tipFrom : ℕ → ℕ → ℕ → ℕ → ℕ → List Trial
-tipFrom most number t y zero = onOne (remove t) number ∷ rising (otherTip number t y) 1 most
-tipFrom most number t y (suc x) = rising (otherTip number t y) (suc x) (most - x)
-
-unfoldable pub taskFrom : ℕ → ℕ → ℕ → ℕ → Task → List Trial
-taskFrom most number t x (empty y) = tipFrom most number t y x
-taskFrom most number t x (serve k) = []
-taskFrom most number t x lunch = []
-
--- a vehicle's tasks from number t on
-unfoldable pub tasksFrom : List ℕ → ℕ → ℕ → ℕ → Round → List Trial
-tasksFrom day number t x [] = []
-tasksFrom day number t x (task ∷ tasks) = taskFrom (tips day) number t x task ++ roundTrials day number (suc t) tasks
-
--- the tips that are left
-unfoldable pub tipRest : List ℕ → List Round → TipPlace → List Trial
-tipRest day rounds q =
-    tasksFrom day (suc (q .vehicle)) (q .task) (q .tip) (drop (q .task) (getD rounds (q .vehicle) [])) ++ tipTrials day (suc (q .vehicle)) (drop (suc (q .vehicle)) rounds)
-
--- what is left of a plan's trial list
-unfoldable pub restOf : List ℕ → ℕ → List Round → Cursor → List Trial
-restOf day K rounds c = pairRest day K rounds (c .pairs) ++ tipRest day rounds (c .tips)
 
 -- a list that goes on behind a place: with a trial or, passing on, without
 pub record Goes {P : Type 0} (rest : P → List Trial) (at : P) (found : Bool) (m : Code.Trial) (next : P) : Type 0 where
@@ -166,6 +108,32 @@ pub record TipsOf (z : Layout) (starts plan : List ℕ) (count : ℕ) : Type 0 w
   pub size : length starts ≡ 256
   pub text : plan ≡ planWords rounds lefts
 
+-- there are such tables, and the place is one of a vehicle of theirs
+pub record SomeTip (z : Layout) (starts plan : List ℕ) (q : TipPlace) : Type 0 where
+  pub count : ℕ
+  pub tables : TipsOf z starts plan count
+  pub within : q .vehicle < count
+  pub fits : getD starts (q .vehicle) 0 + q .task + 2 ≤ getD starts (q .vehicle + 1) 0
+
+-- how many words there are yet
+abbrev pub tipsLeft : List ℕ → List ℕ → TipPlace → ℕ
+tipsLeft starts plan q = length plan - (getD starts (q .vehicle) 0 + q .task)
+
+-- one step over the tips: the list goes on, and there are fewer words yet
+pub record TipStep (z : Layout) (starts plan : List ℕ) (count : ℕ) (q : TipPlace) (r : TipListed) : Type 0 where
+  pub goes : (s : TipsOf z starts plan count) → Goes (tipRest (s .day) (s .rounds)) q (r .found) (r .trial) (r .next)
+  pub fits : TipFits starts count (r .next)
+  pub falls : r .found ≡ false → tipsLeft starts plan (r .next) < tipsLeft starts plan q
+
+-- so it is for whatever tables have this place
+abbrev pub TipSteps : Layout → List ℕ → List ℕ → TipPlace → TipListed → Type 0
+TipSteps z starts plan q r = (count : ℕ) → TipsOf z starts plan count → q .vehicle < count → TipFits starts count q → TipStep z starts plan count q r
+
+-- the next trial of a tip, if there is one
+pub record TipAnswer (z : Layout) (starts plan : List ℕ) (count : ℕ) (q : TipPlace) (r : TipListed) : Type 0 where
+  pub tells : (s : TipsOf z starts plan count) → Tells (tipRest (s .day) (s .rounds)) q (r .found) (r .trial) (r .next)
+  pub fits : TipFits starts count (r .next)
+
 -- the present plan and its tables
 pub record PlanTables (z : Layout) (K : ℕ) (table starts vehicles plan : List ℕ) (count : ℕ) : Type 0 where
   pub day : List ℕ
@@ -185,3 +153,8 @@ pub record PlanTables (z : Layout) (K : ℕ) (table starts vehicles plan : List 
 pub record CursorFits (starts : List ℕ) (count : ℕ) (c : Cursor) : Type 0 where
   pub first : 1 ≤ c .pairs .stop
   pub tipFits : TipFits starts count (c .tips)
+
+-- the next trial of the list, if there is one
+pub record ListAnswer (z : Layout) (K : ℕ) (table starts vehicles plan : List ℕ) (count : ℕ) (c : Cursor) (r : Listed) : Type 0 where
+  pub tells : (s : PlanTables z K table starts vehicles plan count) → Tells (restOf (s .day) K (s .rounds)) c (r .found) (r .trial) (r .next)
+  pub fits : CursorFits starts count (r .next)

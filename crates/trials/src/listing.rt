@@ -5,7 +5,8 @@ ghost use Prim.Native.Nat.{_+_, _<_, _≤_};
 ghost use lib.Dec.{eqb};
 ghost use lib.ListN.{getD, length};
 ghost use Rattle.laws.specs.Tests.{if_then_else_};
-ghost use Rattle.trials.specs.Listing.{pairOn, pairRest, tipRest, restOf, Goes, Tells, nextStop, nextTask, nextVehicle, PairTells, pairsLeft, TipTells, TipFits, PairsOf, PairStep, PairAnswer, TipsOf, PlanTables, CursorFits};
+ghost use Rattle.trials.specs.TrialRest.{pairOn, listStart};
+ghost use Rattle.trials.specs.Listing.{nextTask, PairTells, TipTells, TipFits, PairsOf, PairStep, PairAnswer, TipsOf, SomeTip, TipSteps, TipAnswer, PlanTables, CursorFits, ListAnswer};
 use crate::edits::Edit;
 use day::fields::Layout;
 
@@ -192,4 +193,176 @@ fn next_pair(z: Layout, k: usize, table: &[u8], vehicles: &[u8], p: PairPlace) -
         q = r.next;
     }
     no_pair(q)
+}
+
+// The task behind a place.
+fn next_task(q: TipPlace) -> TipPlace
+    requires { ⌜ q .task < 4294967296 ⌝ }
+    ensures { λ r. ⌜ r ≡ nextTask q ⌝ }
+{
+    TipPlace {
+        vehicle: q.vehicle,
+        task: q.task + 1,
+        tip: 0,
+    }
+}
+
+// A number of a table of words.
+fn number_at(table: &[u32], i: usize) -> usize
+    requires { ⌜ i < length (now table) ⌝ }
+    ensures { λ r. ⌜ (r ≡ getD (now (table .entry)) i 0) × (r < 4294967296) ⌝ }
+{
+    table[i] as usize
+}
+
+// The tip x, or the next where x is the tip y itself.
+fn other_tip(x: usize, y: usize) -> usize
+    requires { ⌜ y < 268435456 ⌝ }
+    ensures { λ r. ⌜ r ≡ (if eqb x y then x + 1 else x) ⌝ }
+{
+    if x == y {
+        return x + 1;
+    }
+    x
+}
+
+// The next trial of the tip y.
+fn tip_trial(most: usize, q: TipPlace, y: usize) -> TipListed
+    requires { ⌜ (most < 256) × (y < 268435456) × (q .vehicle < 256) × (q .task < 4294967296) ⌝ }
+    ensures { λ r. ⌜ TipTells most y q r ⌝ }
+{
+    let vehicle = q.vehicle;
+    let task = q.task;
+    let number = vehicle + 1;
+    if q.tip == 0 {
+        return TipListed {
+            found: true,
+            trial: Trial {
+                edit: Edit::Remove { at: task },
+                one: number,
+                other: number,
+            },
+            next: TipPlace {
+                vehicle,
+                task,
+                tip: 1,
+            },
+        };
+    }
+    let x = other_tip(q.tip, y);
+    if x <= most {
+        return TipListed {
+            found: true,
+            trial: Trial {
+                edit: Edit::Replace {
+                    at: task,
+                    tip: x as u32,
+                },
+                one: number,
+                other: number,
+            },
+            next: TipPlace {
+                vehicle,
+                task,
+                tip: x + 1,
+            },
+        };
+    }
+    no_tip(next_task(q))
+}
+
+// The trial at a place, if there is one; else the place behind it. A vehicle's last word is its E.
+fn tip_at(z: Layout, starts: &[u32], plan: &[u32], q: TipPlace) -> TipListed
+    requires { ⌜ SomeTip z (now starts) (now plan) q ⌝ }
+    ensures { λ r. ⌜ TipSteps z (now (starts .entry)) (now (plan .entry)) q r ⌝ }
+{
+    let vehicle = q.vehicle;
+    let start = number_at(starts, vehicle);
+    let end = number_at(starts, vehicle + 1);
+    let at = start + 1 + q.task;
+    if at + 1 == end {
+        return no_tip(TipPlace {
+            vehicle: vehicle + 1,
+            task: 0,
+            tip: 0,
+        });
+    }
+    let w = number_at(plan, at);
+    if w < 3221225472 {
+        return no_tip(next_task(q));
+    }
+    if 3489660928 <= w {
+        return no_tip(next_task(q));
+    }
+    tip_trial(z.tips, q, w - 3221225472)
+}
+
+// The next trial of a tip, passing over the tasks that have none.
+fn next_tip(z: Layout, starts: &[u32], count: usize, plan: &[u32], q: TipPlace) -> TipListed
+    requires { ⌜ TipsOf z (now starts) (now plan) count × TipFits (now starts) count q ⌝ }
+    ensures { λ r. ⌜ TipAnswer z (now (starts .entry)) (now (plan .entry)) count q r ⌝ }
+{
+    let mut p = q;
+    while p.vehicle < count {
+        let r = tip_at(z, starts, plan, p);
+        if r.found {
+            return r;
+        }
+        p = r.next;
+    }
+    no_tip(p)
+}
+
+// Where the list begins.
+pub fn first_trial() -> Cursor
+    ensures { λ r. ⌜ r ≡ listStart ⌝ }
+{
+    Cursor {
+        pairs: PairPlace {
+            stop: 1,
+            rank: 0,
+            second: false,
+        },
+        tips: TipPlace {
+            vehicle: 0,
+            task: 0,
+            tip: 0,
+        },
+    }
+}
+
+// The next trial of the present plan's list, of neighbourhood k, and the cursor behind it.
+pub fn next_trial(
+    z: Layout,
+    k: usize,
+    table: &[u8],
+    starts: &[u32],
+    vehicles: &[u8],
+    count: usize,
+    plan: &[u32],
+    c: Cursor,
+) -> Listed
+    requires { ⌜ PlanTables z k (now table) (now starts) (now vehicles) (now plan) count × CursorFits (now starts) count c ⌝ }
+    ensures { λ r. ⌜ ListAnswer z k (now (table .entry)) (now (starts .entry)) (now (vehicles .entry)) (now (plan .entry)) count c r ⌝ }
+{
+    let p = c.pairs;
+    let q = c.tips;
+    let pair = next_pair(z, k, table, vehicles, p);
+    let pairs = pair.next;
+    if pair.found {
+        let trial = pair.trial;
+        return Listed {
+            found: true,
+            trial,
+            next: Cursor { pairs, tips: q },
+        };
+    }
+    let tip = next_tip(z, starts, count, plan, q);
+    let trial = tip.trial;
+    let tips = tip.next;
+    Listed {
+        found: tip.found,
+        trial,
+        next: Cursor { pairs, tips },
+    }
 }
