@@ -1,11 +1,13 @@
 // The trial list of the present plan, trial by trial: a cursor says where the list goes on, and the list is never written down.
 ghost use mathlib.Core.Path.{_≡_};
-ghost use mathlib.Core.Bool.{false};
+ghost use mathlib.Core.Bool.{true, false};
 ghost use Prim.Native.Nat.{_+_, _<_, _≤_};
 ghost use lib.Dec.{eqb};
 ghost use lib.ListN.{getD, length};
 ghost use Rattle.laws.specs.Tests.{if_then_else_};
-ghost use Rattle.trials.specs.TrialRest.{pairOn, listStart};
+ghost use Rattle.trials.specs.TrialRest.{trialOf, pairOn, listStart};
+ghost use Rattle.trials.specs.Edits.{onOne, onTwo};
+ghost use Rattle.trials.specs.Rewalks.{editOf};
 ghost use Rattle.trials.specs.Listing.{nextTask, PairTells, TipTells, TipFits, PairsOf, PairStep, PairAnswer, TipsOf, SomeTip, TipSteps, TipAnswer, PlanTables, CursorFits, ListAnswer};
 use crate::edits::Edit;
 use day::fields::Layout;
@@ -89,6 +91,32 @@ fn no_tip(next: TipPlace) -> TipListed
     }
 }
 
+// A trial of a pair.
+fn found_pair(edit: Edit, one: usize, other: usize, next: PairPlace) -> PairListed
+    ensures { λ r. ⌜ (r .found ≡ true) × (trialOf (r .trial) ≡ onTwo (editOf edit) one other) × (r .next ≡ next) ⌝ }
+{
+    PairListed {
+        found: true,
+        trial: Trial { edit, one, other },
+        next,
+    }
+}
+
+// A trial of a tip of the vehicle with this number.
+fn found_tip(edit: Edit, number: usize, next: TipPlace) -> TipListed
+    ensures { λ r. ⌜ (r .found ≡ true) × (trialOf (r .trial) ≡ onOne (editOf edit) number) × (r .next ≡ next) ⌝ }
+{
+    TipListed {
+        found: true,
+        trial: Trial {
+            edit,
+            one: number,
+            other: number,
+        },
+        next,
+    }
+}
+
 // A number of a table of bytes.
 fn byte_at(table: &[u8], i: usize) -> usize
     requires { ⌜ i < length (now table) ⌝ }
@@ -118,40 +146,17 @@ fn pair_trial(p: PairPlace, stop: u32, other: u32, one: usize, two: usize) -> Pa
         if second {
             return no_pair(next);
         }
-        return PairListed {
-            found: true,
-            trial: Trial {
-                edit: Edit::Swap { stop, other },
-                one,
-                other: two,
-            },
-            next,
-        };
+        return found_pair(Edit::Swap { stop, other }, one, two, next);
     }
     if second {
-        return PairListed {
-            found: true,
-            trial: Trial {
-                edit: Edit::After { stop, moved: other },
-                one,
-                other: one,
-            },
-            next,
-        };
+        return found_pair(Edit::After { stop, moved: other }, one, one, next);
     }
-    PairListed {
-        found: true,
-        trial: Trial {
-            edit: Edit::Before { stop, moved: other },
-            one,
-            other: one,
-        },
-        next: PairPlace {
-            stop: p.stop,
-            rank: p.rank,
-            second: true,
-        },
-    }
+    let half = PairPlace {
+        stop: p.stop,
+        rank: p.rank,
+        second: true,
+    };
+    found_pair(Edit::Before { stop, moved: other }, one, one, half)
 }
 
 // The trial at a place, if there is one; else the place behind it.
@@ -235,38 +240,28 @@ fn tip_trial(most: usize, q: TipPlace, y: usize) -> TipListed
     let task = q.task;
     let number = vehicle + 1;
     if q.tip == 0 {
-        return TipListed {
-            found: true,
-            trial: Trial {
-                edit: Edit::Remove { at: task },
-                one: number,
-                other: number,
-            },
-            next: TipPlace {
-                vehicle,
-                task,
-                tip: 1,
-            },
+        let next = TipPlace {
+            vehicle,
+            task,
+            tip: 1,
         };
+        return found_tip(Edit::Remove { at: task }, number, next);
     }
     let x = other_tip(q.tip, y);
     if x <= most {
-        return TipListed {
-            found: true,
-            trial: Trial {
-                edit: Edit::Replace {
-                    at: task,
-                    tip: x as u32,
-                },
-                one: number,
-                other: number,
-            },
-            next: TipPlace {
-                vehicle,
-                task,
-                tip: x + 1,
-            },
+        let next = TipPlace {
+            vehicle,
+            task,
+            tip: x + 1,
         };
+        return found_tip(
+            Edit::Replace {
+                at: task,
+                tip: x as u32,
+            },
+            number,
+            next,
+        );
     }
     no_tip(next_task(q))
 }
