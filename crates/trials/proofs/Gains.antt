@@ -118,4 +118,4 @@ module _ (day : List ℕ) (m : Trial) (rounds : List Round) where
   unfolding touches
   driven-pair v u l k e f n =
       rw (e, f) (driven-two day (v + 1) (u + 1) 0 rounds (λ q. n (omega arith)) ∙ ap (λ (x : ℕ). x + drivenBy day (λ j. eqb j (u + 1)) 0 rounds) (driven-first day v rounds l)
-          ∙ ap (λ (x : ℕ). distanceFrom day 0 (getD rounds v []) + x) (driven-first day u rounds k))
+      ∙ ap (λ (x : ℕ). distanceFrom day 0 (getD rounds v []) + x) (driven-first day u rounds k))

@@ -17,7 +17,8 @@ use Rattle.checker.specs.Plan.{Round, planWords, Known}
 use Rattle.trials.specs.Edits.{Trial}
 use Rattle.trials.specs.Listing.{PairsOf, PairAnswer, TipsOf, TipAnswer, PlanTables, CursorFits, ListAnswer}
 use Rattle.trials.specs.Rewalks.{editOf, EditKnown, EditSmall}
-use Rattle.trials.specs.Tables.{TableOf, Surveyed}
+use Rattle.trials.specs.Survey.{Surveyed}
+use Rattle.trials.specs.Tables.{TableOf}
 use Rattle.trials.specs.TrialList.{stopTrials, trialList}
 use Rattle.trials.specs.TrialRest.{trialOf, pairRest, tipRest, restOf, listStart}
 use Rattle.trials.specs.declared.edits.Edit as Code
@@ -30,7 +31,8 @@ use Rattle.trials.specs.declared.listing.Trial as Made
 use Rattle.trials.proofs.EditLaws.{Named}
 use Rattle.trials.proofs.Listed.{listed-all}
 use Rattle.trials.proofs.PairRests.{all-stops}
-use Rattle.trials.proofs.Shapes.{Shaped, shaped-few, Valid, moved-before, moved-after, swapped, removed, replaced}
+use Rattle.trials.specs.Shapes.{Shaped, Valid, moved-before, moved-after, swapped, removed, replaced}
+use Rattle.trials.proofs.Shapes.{shaped-few}
 use Rattle.trials.proofs.TipRests.{all-vehicles, end-at}
 
 -- the first cursor
@@ -72,7 +74,7 @@ module _ (z : Layout) (K : ℕ) (table starts vehicles plan : List ℕ) (count :
         close = s .close;
         tableIs = s .tableIs;
         routed = s .surveyed .routed;
-        size = s .surveyed .sizes .1;
+        size = s .surveyed .vehiclesSize;
       }
 
   pub tips-of : PlanTables z K table starts vehicles plan count → TipsOf z starts plan count
@@ -87,7 +89,7 @@ module _ (z : Layout) (K : ℕ) (table starts vehicles plan : List ℕ) (count :
         few = omega (arith, s .surveyed .counted, s .few);
         counted = s .surveyed .counted;
         starting = s .surveyed .starting;
-        size = s .surveyed .sizes .0;
+        size = s .surveyed .startsSize;
         text = s .text;
       }
 

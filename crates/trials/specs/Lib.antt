@@ -8,6 +8,7 @@ pub mod Neighbours
 pub mod Rewalks
 pub mod Search
 pub mod Shapes
+pub mod Survey
 pub mod Tables
 pub mod TrialList
 pub mod TrialRest

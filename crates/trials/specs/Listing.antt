@@ -11,7 +11,8 @@ use Rattle.day.specs.Layout.{LayoutOf}
 use Rattle.day.specs.declared.fields.Layout.{Layout}
 use Rattle.checker.specs.Plan.{Round, roundsWords, planWords, Known}
 use Rattle.trials.specs.Edits.{Trial}
-use Rattle.trials.specs.Tables.{TableOf, Surveyed}
+use Rattle.trials.specs.Survey.{Surveyed}
+use Rattle.trials.specs.Tables.{TableOf}
 use Rattle.trials.specs.TrialList.{vehicleOf}
 use Rattle.trials.specs.TrialRest.{trialOf, fromHalf, pairRest, tipFrom, tipRest, restOf}
 use Rattle.trials.specs.declared.listing.Cursor.{Cursor}

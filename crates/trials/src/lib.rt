@@ -3,5 +3,7 @@ pub mod cabs;
 pub mod candidate;
 pub mod edits;
 pub mod listing;
+pub mod neighbours;
+pub mod survey;
 pub mod tries;
 pub mod vehicle;
