@@ -27,6 +27,7 @@ pub mod TaskPlaces
 pub mod TipRests
 pub mod TrialCases
 pub mod TrialRoom
+pub mod TryLaws
 pub mod WalkLaws
 pub mod Walking
 pub mod WrittenLaws
