@@ -55,6 +55,14 @@ module _ (day : List ℕ) (m : Trial) where
       let b = joined-both (retried day m (suc from) tasks) (triedFrom day m (suc from) rounds) q e in
       rw (b .whole) (omega (arith, gain (suc from) rounds (b .others) (b .othersAre), one-gain (suc from) tasks (b .first) (b .firstIs)))
 
+  -- as many vehicles
+  pub tried-length : (from : ℕ) (rounds q : List Round) → triedFrom day m from rounds ≡ some q → length q ≡ length rounds
+  unfolding triedFrom
+  tried-length from [] q e = ap length (sym (Option·some-injective _ _ e))
+  tried-length from (tasks ∷ rounds) q e =
+      let b = joined-both (retried day m (suc from) tasks) (triedFrom day m (suc from) rounds) q e in
+      ap length (b .whole) ∙ ap suc (tried-length (suc from) rounds (b .others) (b .othersAre))
+
   -- each vehicle is what the trial makes of it
   pub tried-at : (from v : ℕ) (rounds q : List Round) → triedFrom day m from rounds ≡ some q → v < length rounds
       → retried day m (from + v + 1) (getD rounds v []) ≡ some (getD q v [])

@@ -22,6 +22,7 @@ pub mod RoundLists
 pub mod Searching
 pub mod ShapeKept
 pub mod Shapes
+pub mod ShorterLaws
 pub mod SurveyLaws
 pub mod TaskPlaces
 pub mod TipRests

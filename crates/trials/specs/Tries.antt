@@ -35,10 +35,9 @@ pub record Measured (day plan starts distances : List ℕ) (m : Trial) (rounds :
   pub driven : (v : ℕ) → v < length rounds → getD distances v 0 ≡ distanceFrom day 0 (getD rounds v [])
   pub measures : length distances ≡ 256
 
-pub record SomeMeasured (day plan starts distances : List ℕ) (m : Trial) (count : ℕ) : Type 0 where
+pub record SomeMeasured (day plan starts distances : List ℕ) (m : Trial) : Type 0 where
   pub rounds : List Round
   pub measured : Measured day plan starts distances m rounds
-  pub counted : count ≡ length rounds
 
 -- no lawful, shorter plan comes of the trial, whatever vehicles have these words
 abbrev pub NoneKept : List ℕ → List ℕ → List ℕ → List ℕ → Trial → Type 0

@@ -43,3 +43,41 @@ pub struct Tried {
     pub words: usize,
     pub distance: u32,
 }
+
+// A distance with room for a sum.
+fn wide(distance: u32) -> u64
+    ensures { λ r. ⌜ (r ≡ distance) × (r < 4294967296) ⌝ }
+{
+    distance as u64
+}
+
+// Whether the touched vehicles, walked again, drive less than before. Where they do not, or the trial fails, no lawful, shorter plan comes of it.
+fn is_shorter(
+    day: &[u32],
+    z: Layout,
+    e: Edit,
+    one: usize,
+    other: usize,
+    plan: &[u32],
+    starts: &[u32],
+    distances: &[u32],
+    work: &mut [u32],
+) -> bool
+    requires { ⌜ LayoutOf (now day) z × IsAccepted (now day) × EditSmall e × EditKnown (now day) e × SomeMeasured (now day) (now plan) (now starts) (now distances) (trialOf e one other) × (5 * z .stops ≤ length (now work)) ⌝ }
+    ensures { λ r. ⌜ (r ≡ false → NoneKept (now (day .entry)) (now (plan .entry)) (now (starts .entry)) (now (distances .entry)) (trialOf e one other)) ⌝ }
+{
+    let v = one - 1;
+    let first = retry(day, z, e, one, other, plan, starts, v, work);
+    if first.stuck {
+        return false;
+    }
+    if one == other {
+        return first.distance < distances[v];
+    }
+    let u = other - 1;
+    let second = retry(day, z, e, one, other, plan, starts, u, work);
+    if second.stuck {
+        return false;
+    }
+    wide(first.distance) + wide(second.distance) < wide(distances[v]) + wide(distances[u])
+}
