@@ -1,11 +1,12 @@
 -- A trial while it is made, as the code has it. It serves the contracts of this crate's own functions. Assumes nothing.
-use Prim.Native.Nat.{ℕ, _+_, _<_}
+use Prim.Native.Nat.{ℕ, _+_, _≤_, _<_}
 use mathlib.Core.Path.{_≡_}
 use mathlib.Core.Bool.{true, false}
-use mathlib.Core.List.{List, []}
+use mathlib.Core.List.{List, [], _∷_}
 use mathlib.Core.Option.{none, some}
-use lib.ListN.{length, getD}
-use Rattle.laws.specs.Buffer.{Wrote}
+use lib.ListN.{length, getD, take}
+use Rattle.laws.specs.Answers.{given}
+use Rattle.checker.specs.Check.{checkWords}
 use Rattle.checker.specs.Lawful.{distanceFrom}
 use Rattle.checker.specs.Plan.{Round, planWords}
 use Rattle.planner.specs.Build.{greedyLefts}
@@ -39,19 +40,40 @@ pub record SomeMeasured (day plan starts distances : List ℕ) (m : Trial) : Typ
   pub rounds : List Round
   pub measured : Measured day plan starts distances m rounds
 
+-- how many vehicles it has, and how far they drive
+pub record Made (day plan starts distances : List ℕ) (m : Trial) (count distance : ℕ) (rounds : List Round) : Type 0 where
+  pub measured : Measured day plan starts distances m rounds
+  pub counted : count ≡ length rounds
+  pub drives : distance ≡ distanceOf day rounds
+
+pub record SomeMade (day plan starts distances : List ℕ) (m : Trial) (count distance : ℕ) : Type 0 where
+  pub rounds : List Round
+  pub made : Made day plan starts distances m count distance rounds
+
 -- no lawful, shorter plan comes of the trial, whatever vehicles have these words
 abbrev pub NoneKept : List ℕ → List ℕ → List ℕ → List ℕ → Trial → Type 0
 NoneKept day plan starts distances m = (rounds : List Round) → Measured day plan starts distances m rounds → attempt day (greedyLefts day) rounds m ≡ none
 
 -- the plan that is kept stands at the front of the working buffer
-pub record Kept (day : List ℕ) (m : Trial) (rounds : List Round) (p part : List ℕ) (r : Tried) : Type 0 where
+pub record Kept (day : List ℕ) (m : Trial) (rounds : List Round) (part : List ℕ) (r : Tried) : Type 0 where
   pub q : List Round
   pub is : attempt day (greedyLefts day) rounds m ≡ some q
-  pub text : Wrote (planWords q (greedyLefts day)) p part (r .words)
+  pub fits : r .words ≤ length part
+  pub text : take (r .words) part ≡ planWords q (greedyLefts day)
   pub distance : r .distance ≡ distanceOf day q
 
--- what a trial of a plan of some distance comes to
-pub record TriedAs (day : List ℕ) (m : Trial) (rounds : List Round) (p part : List ℕ) (r : Tried) : Type 0 where
-  pub size : length part ≡ length p
+-- what a trial of a plan comes to
+pub record TriedAs (day : List ℕ) (m : Trial) (rounds : List Round) (part : List ℕ) (r : Tried) : Type 0 where
   pub none : r .kept ≡ false → attempt day (greedyLefts day) rounds m ≡ none
-  pub some : r .kept ≡ true → Kept day m rounds p part r
+  pub some : r .kept ≡ true → Kept day m rounds part r
+
+-- what the check says of a plan, set against a distance
+pub record LawfulBy (day plan : List ℕ) (distance : ℕ) : Type 0 where
+  pub vehicles : ℕ
+  pub served : ℕ
+  pub answer : checkWords day plan ≡ given (distance ∷ vehicles ∷ served ∷ [])
+
+pub record Judged (day plan : List ℕ) (distance : ℕ) (r : Tried) : Type 0 where
+  pub some : r .kept ≡ true → LawfulBy day plan (r .distance)
+  pub shorter : r .kept ≡ true → r .distance < distance
+  pub none : r .kept ≡ false → (d : ℕ) → LawfulBy day plan d → distance ≤ d

@@ -1,16 +1,15 @@
 // One trial of the plan held.
 ghost use mathlib.Core.Path.{_≡_};
-ghost use mathlib.Core.Bool.{false};
+ghost use mathlib.Core.Bool.{true, false};
 ghost use mathlib.Core.List.{List};
 ghost use Prim.Native.Nat.{_≤_, _<_, _*_};
 ghost use lib.ListN.{length};
 ghost use Rattle.day.specs.Accepted.{IsAccepted};
 ghost use Rattle.day.specs.Layout.{LayoutOf};
 ghost use Rattle.checker.specs.Plan.{Round};
-ghost use Rattle.trials.specs.Attempts.{distanceOf};
 ghost use Rattle.trials.specs.Candidates.{trialOf};
 ghost use Rattle.trials.specs.Rewalks.{EditKnown, EditSmall};
-ghost use Rattle.trials.specs.Tries.{SomeTouched, Retries, Measured, SomeMeasured, NoneKept, TriedAs};
+ghost use Rattle.trials.specs.Tries.{SomeTouched, Retries, SomeMeasured, NoneKept, TriedAs, Judged, Made, SomeMade};
 use crate::candidate::write_candidate;
 use crate::edits::Edit;
 use crate::vehicle::Walked;
@@ -80,4 +79,72 @@ fn is_shorter(
         return false;
     }
     wide(first.distance) + wide(second.distance) < wide(distances[v]) + wide(distances[u])
+}
+
+// No plan is kept.
+fn not_kept() -> Tried
+    ensures { λ r. ⌜ r .kept ≡ false ⌝ }
+{
+    Tried {
+        kept: false,
+        words: 0,
+        distance: 0,
+    }
+}
+
+// A plan is kept where it is lawful and drives less.
+fn judge_candidate(day: &[u32], z: Layout, distance: u32, plan: &[u32]) -> Tried
+    requires { ⌜ LayoutOf (now day) z ⌝ }
+    ensures judged { λ r. ⌜ Judged (now (day .entry)) (now (plan .entry)) distance r ⌝ }
+    ensures words { λ r. ⌜ (r .kept ≡ true → r .words ≡ length (now (plan .entry))) ⌝ }
+{
+    let answer = checker::check_accepted(day, z, plan);
+    match answer {
+        checker::Answer::Lawful {
+            distance: driven,
+            vehicles: _,
+            served: _,
+        } => {
+            if driven < distance {
+                return Tried {
+                    kept: true,
+                    words: plan.len(),
+                    distance: driven,
+                };
+            }
+            not_kept()
+        }
+        checker::Answer::Refused {
+            number: _,
+            place: _,
+        } => not_kept(),
+    }
+}
+
+// The trial: where a plan is kept, its words stand at the front of the working buffer.
+pub fn make_trial(
+    day: &[u32],
+    z: Layout,
+    e: Edit,
+    one: usize,
+    other: usize,
+    plan: &[u32],
+    starts: &[u32],
+    distances: &[u32],
+    count: usize,
+    distance: u32,
+    work: &mut [u32],
+) -> Tried
+    requires { ⌜ LayoutOf (now day) z × IsAccepted (now day) × EditSmall e × EditKnown (now day) e × SomeMade (now day) (now plan) (now starts) (now distances) (trialOf e one other) count distance × (5 * z .stops ≤ length (now work)) ⌝ }
+    ensures { λ r. ⌜ ((rounds : List Round) → Made (now (day .entry)) (now (plan .entry)) (now (starts .entry)) (now (distances .entry)) (trialOf e one other) count distance rounds → TriedAs (now (day .entry)) (trialOf e one other) rounds (now (work .exit)) r) ⌝ }
+{
+    if is_shorter(day, z, e, one, other, plan, starts, distances, work) {
+        let c = write_candidate(day, z, e, one, other, plan, starts, count, work);
+        if c.stuck {
+            return not_kept();
+        }
+        let words = c.words;
+        return judge_candidate(day, z, distance, &work[0..words]);
+    }
+    not_kept()
 }
