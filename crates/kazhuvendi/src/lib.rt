@@ -10,7 +10,7 @@ ghost use Rattle.day.specs.Day.{judgeDay};
 ghost use Rattle.checker.specs.Check.{checkPlan};
 ghost use Rattle.checker.specs.SameRounds.{sameRounds};
 ghost use Rattle.checker.specs.VehiclePlace.{vehiclePlace};
-ghost use Rattle.planner.specs.Built.{buildAnswer, buildBuffer};
+ghost use Rattle.builder.specs.Built.{buildAnswer, buildBuffer};
 
 // All six places of an answer.
 fn write_six(out: &mut [u64; 6], a: u64, b: u64, c: u64, d: u64, e: u64, f: u64)
@@ -117,9 +117,9 @@ pub extern "C" fn kz_build(day: &[u32], plan: &mut [u32], out: &mut [u64; 6])
     ensures answer { λ r. ⌜ now (out .exit) ≡ inSix (buildAnswer (now (day .entry)) (length (now (plan .entry)))) ⌝ }
     ensures buffer { λ r. ⌜ now (plan .exit) ≡ buildBuffer (now (day .entry)) (now (plan .entry)) ⌝ }
 {
-    let answer = planner::build(day, plan);
+    let answer = builder::build(day, plan);
     match answer {
-        planner::PlanAnswer::Planned {
+        builder::PlanAnswer::Planned {
             distance,
             trials,
             settled,
@@ -134,7 +134,7 @@ pub extern "C" fn kz_build(day: &[u32], plan: &mut [u32], out: &mut [u64; 6])
             left_out as u64,
             words as u64,
         ),
-        planner::PlanAnswer::Refused { number, place } => {
+        builder::PlanAnswer::Refused { number, place } => {
             write_six(out, number as u64, place as u64, 0, 0, 0, 0)
         }
     }

@@ -17,14 +17,14 @@ use Rattle.checker.specs.Plan.{Task, serve, empty, lunch, Round, taskWord, stop
 use Rattle.checker.specs.PlanWords.{vehicleWord, stopWord, tipWord, restWord}
 use Rattle.checker.specs.Trip.{visited, restedAt}
 use Rattle.checker.specs.declared.walk.Trip.{Trip}
-use Rattle.planner.specs.Build.{Truck, fresh, doing, resting}
-use Rattle.planner.specs.Home.{due, restIfDue}
-use Rattle.planner.specs.Tips.{nearestTip}
+use Rattle.builder.specs.Build.{Truck, fresh, doing, resting}
+use Rattle.builder.specs.Home.{due, restIfDue}
+use Rattle.builder.specs.Tips.{nearestTip}
 use Rattle.trials.specs.Walk.{inserting}
-use Rattle.planner.specs.States.{SmallTrip}
-use Rattle.planner.proofs.Decided.{bit-most, known}
-use Rattle.planner.proofs.GreedyRoom.{Paid, paid-rest, paid-serve, paid-empty, tasks-counted}
-use Rattle.planner.proofs.VehicleStops.{stops-append}
+use Rattle.builder.specs.States.{SmallTrip}
+use Rattle.builder.proofs.Decided.{bit-most, known}
+use Rattle.builder.proofs.GreedyRoom.{Paid, paid-rest, paid-serve, paid-empty, tasks-counted}
+use Rattle.builder.proofs.VehicleStops.{stops-append}
 use Rattle.trials.specs.Cabs.{Modest, Standing, Stands, failed, onRoad, SomeStanding, Drives}
 use Rattle.trials.specs.declared.cabs.Cab.{Cab}
 

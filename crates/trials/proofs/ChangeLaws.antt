@@ -11,7 +11,7 @@ use Rattle.laws.specs.Tests.{if_then_else_}
 use Rattle.day.specs.Fields.{stops, tips}
 use Rattle.checker.specs.Plan.{Task, serve, empty, lunch, taskWord, Known}
 use Rattle.checker.specs.PlanWords.{stopWord, tipWord, restWord}
-use Rattle.planner.proofs.Decided.{known}
+use Rattle.builder.proofs.Decided.{known}
 use Rattle.trials.specs.Edits.{Edit, before, after, swap, remove, replace, changeStop, changeTip, change}
 use Rattle.trials.specs.Rewalks.{Means, nothing, aStop, aTip, Becomes}
 

@@ -12,9 +12,9 @@ use Rattle.laws.specs.Lists.{Every, times}
 use Rattle.laws.specs.Tests.{if_then_else_}
 use Rattle.laws.proofs.Fresh.{every-append}
 use Rattle.checker.specs.Plan.{Task, serve, empty, lunch, Round, stopsOn, Known}
-use Rattle.planner.proofs.Decided.{known}
-use Rattle.planner.proofs.GreedyForm.{times-append}
-use Rattle.planner.proofs.VehicleStops.{stops-append}
+use Rattle.builder.proofs.Decided.{known}
+use Rattle.builder.proofs.GreedyForm.{times-append}
+use Rattle.builder.proofs.VehicleStops.{stops-append}
 use Rattle.trials.specs.Edits.{Edit, before, after, swap, remove, replace, changeStop, changeTip, change, changed}
 
 -- which stop stands where a stop stood: an interchange renames two, any other edit none

@@ -13,7 +13,7 @@ use borrow.Author.Tests.{eqb-true, eqb-false, eq-eqb, ne-eqb}
 use Rattle.laws.specs.Lists.{Every, times}
 use Rattle.laws.specs.Tests.{if_then_else_}
 use Rattle.checker.specs.Plan.{serve, empty, Round, stopsOn, Known}
-use Rattle.planner.proofs.Decided.{known}
+use Rattle.builder.proofs.Decided.{known}
 use Rattle.trials.specs.Edits.{Edit, before, after, swap, remove, replace, changeStop}
 use Rattle.trials.proofs.EditLaws.{renamed, Named, Suits, times-all, length-all, changed-known, move-same, move-count}
 

@@ -13,7 +13,7 @@ use Rattle.laws.specs.Lists.{total}
 use Rattle.laws.specs.Tests.{if_then_else_}
 use Rattle.checker.specs.Lawful.{distanceFrom}
 use Rattle.checker.specs.Plan.{Round}
-use Rattle.planner.proofs.Decided.{known, bit-most}
+use Rattle.builder.proofs.Decided.{known, bit-most}
 use Rattle.trials.specs.Attempts.{retried, joined, triedFrom, distanceOf}
 use Rattle.trials.specs.Edits.{Trial, touches}
 

@@ -18,8 +18,8 @@ use Rattle.day.specs.Accepted.{IsAccepted}
 use Rattle.checker.specs.Check.{checkWords, checkPlan}
 use Rattle.checker.specs.Lawful.{distanceFrom, totals}
 use Rattle.checker.specs.Plan.{Round, planWords}
-use Rattle.planner.specs.Build.{greedyLefts}
-use Rattle.planner.proofs.Decided.{known}
+use Rattle.builder.specs.Build.{greedyLefts}
+use Rattle.builder.proofs.Decided.{known}
 use Rattle.trials.specs.Attempts.{tried, distanceOf, isLawful, keptIf, attempt}
 use Rattle.trials.specs.Candidates.{Candidate, CandidateAs}
 use Rattle.trials.specs.Edits.{Trial}

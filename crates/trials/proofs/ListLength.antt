@@ -15,8 +15,8 @@ use Rattle.laws.specs.Lists.{Every, total}
 use Rattle.laws.specs.Tests.{if_then_else_}
 use Rattle.day.specs.Fields.{stops, tips}
 use Rattle.checker.specs.Plan.{serve, empty, lunch, Round, Known}
-use Rattle.planner.proofs.Decided.{known}
-use Rattle.planner.proofs.GreedyRoom.{emptiesIn, rounds-tips}
+use Rattle.builder.proofs.Decided.{known}
+use Rattle.builder.proofs.GreedyRoom.{emptiesIn, rounds-tips}
 use Rattle.trials.specs.Edits.{onOne, onTwo, before, after, swap}
 use Rattle.trials.specs.Neighbours.{neighbours}
 use Rattle.trials.specs.TrialList.{each, rising, vehicleOf, pairTrials, stopTrials, otherTip, taskTrials, roundTrials, tipTrials, trialList}

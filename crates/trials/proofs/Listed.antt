@@ -15,7 +15,7 @@ use Rattle.laws.proofs.Fresh.{every-append}
 use Rattle.laws.proofs.Tests.{both-true}
 use Rattle.day.specs.Fields.{stops, tips}
 use Rattle.checker.specs.Plan.{Task, serve, empty, lunch, Round, Known}
-use Rattle.planner.proofs.Decided.{known}
+use Rattle.builder.proofs.Decided.{known}
 use Rattle.trials.specs.Edits.{Trial}
 use Rattle.trials.specs.Neighbours.{compatible, neighbours}
 use Rattle.trials.specs.TrialList.{each, rising, vehicleOf, pairTrials, stopTrials, otherTip, taskTrials, roundTrials, tipTrials, trialList}

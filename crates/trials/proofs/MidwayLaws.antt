@@ -17,9 +17,9 @@ use Rattle.checker.specs.Plan.{Task, lunch, Round, stopsOn, taskWord, roundWord
 use Rattle.checker.specs.PlanWords.{vehicleWord, backWord}
 use Rattle.checker.specs.Trip.{leaving}
 use Rattle.checker.specs.declared.walk.Trip.{Trip}
-use Rattle.planner.specs.Build.{Truck, fresh}
-use Rattle.planner.proofs.GreedyRoom.{paid-fresh}
-use Rattle.planner.proofs.VehicleStops.{stops-append}
+use Rattle.builder.specs.Build.{Truck, fresh}
+use Rattle.builder.proofs.GreedyRoom.{paid-fresh}
+use Rattle.builder.proofs.VehicleStops.{stops-append}
 use Rattle.trials.specs.Cabs.{Modest, Standing, Stands, failed, onRoad, SomeStanding, Drives}
 use Rattle.trials.specs.Edits.{Edit, change, changed}
 use Rattle.trials.specs.Rewalks.{SomeTask, WalksTask, Walkable, SomeWalkable, Midway, WalksOn, Again, WalkedAs}

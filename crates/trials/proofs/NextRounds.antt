@@ -13,8 +13,8 @@ use Rattle.day.specs.Accepted.{IsAccepted}
 use Rattle.day.proofs.Ranges.{accepted-ranges}
 use Rattle.day.specs.Fields.{stops}
 use Rattle.checker.specs.Plan.{Round, roundWords, roundsWords, planWords, stopsOn, stopsOnAll, Known}
-use Rattle.planner.specs.Build.{greedyLefts}
-use Rattle.planner.proofs.GreedyRoom.{Room, round-length, plan-length}
+use Rattle.builder.specs.Build.{greedyLefts}
+use Rattle.builder.proofs.GreedyRoom.{Room, round-length, plan-length}
 use Rattle.trials.specs.Attempts.{retried}
 use Rattle.trials.specs.Candidates.{Roundable, SomeRoundable, RoundAs, Trying, SomeNext}
 use Rattle.trials.specs.Edits.{Edit, Trial, touches, changed}

@@ -16,7 +16,7 @@ use Rattle.laws.specs.Lists.{Every}
 use Rattle.day.specs.Fields.{stops}
 use Rattle.day.specs.declared.fields.Layout.{Layout}
 use Rattle.checker.specs.Plan.{Round}
-use Rattle.planner.proofs.Decided.{known}
+use Rattle.builder.proofs.Decided.{known}
 use Rattle.trials.specs.Edits.{before, after, swap, Trial, onOne, onTwo}
 use Rattle.trials.specs.Listing.{Goes, nextRank, halfway, nextStop, PairTells, no-trial, last-trial, first-trial, PairsOf, pairsLeft, PairStep, PairAnswer}
 use Rattle.trials.specs.Neighbours.{neighbours}

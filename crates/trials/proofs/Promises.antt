@@ -19,10 +19,10 @@ use Rattle.day.specs.Fields.{stops, tips}
 use Rattle.day.proofs.Ranges.{accepted-ranges}
 use Rattle.checker.specs.Check.{checkPlan}
 use Rattle.checker.specs.Plan.{Round, planWords, stopsOnAll, Formed}
-use Rattle.planner.specs.Build.{greedyRounds, greedyLefts, greedyPlan}
-use Rattle.planner.proofs.GreedyForm.{times-append, greedy-rising, greedy-once, greedy-others}
-use Rattle.planner.proofs.GreedyLawful.{greedy-answer}
-use Rattle.planner.proofs.LeftOut.{left-out-justified}
+use Rattle.builder.specs.Build.{greedyRounds, greedyLefts, greedyPlan}
+use Rattle.builder.proofs.GreedyForm.{times-append, greedy-rising, greedy-once, greedy-others}
+use Rattle.builder.proofs.GreedyLawful.{greedy-answer}
+use Rattle.builder.proofs.LeftOut.{left-out-justified}
 use Rattle.trials.specs.Attempts.{tried, distanceOf, isLawful, keptIf, attempt, searched}
 use Rattle.trials.specs.Demands.{plannedRounds, Promised, DemandThree}
 use Rattle.trials.specs.Edits.{Trial}

@@ -11,8 +11,8 @@ use Rattle.day.specs.Layout.{LayoutOf}
 use Rattle.day.specs.declared.fields.Layout.{Layout}
 use Rattle.checker.specs.Plan.{Task, serve, empty, Round, stopsOn, taskWord, Known}
 use Rattle.checker.specs.PlanWords.{stopWord, tipWord}
-use Rattle.planner.specs.Build.{Truck, resting}
-use Rattle.planner.proofs.VehicleStops.{stops-append}
+use Rattle.builder.specs.Build.{Truck, resting}
+use Rattle.builder.proofs.VehicleStops.{stops-append}
 use Rattle.trials.specs.Cabs.{Standing, Stands, failed, onRoad, SomeStanding, Drives}
 use Rattle.trials.specs.Edits.{Edit, change}
 use Rattle.trials.specs.Rewalks.{Means, nothing, aStop, aTip, Becomes, SomeWord, WalksWord, SomeTask, WalksTask}

@@ -13,9 +13,9 @@ use lib.ListN.{length, length-append}
 use Rattle.laws.specs.Lists.{Every, times}
 use Rattle.laws.specs.Tests.{if_then_else_}
 use Rattle.checker.specs.Plan.{Round, stopsOn, stopsOnAll, Known}
-use Rattle.planner.proofs.Decided.{known}
-use Rattle.planner.proofs.GreedyForm.{times-append}
-use Rattle.planner.proofs.GreedyRoom.{Room}
+use Rattle.builder.proofs.Decided.{known}
+use Rattle.builder.proofs.GreedyForm.{times-append}
+use Rattle.builder.proofs.GreedyRoom.{Room}
 use Rattle.trials.specs.Attempts.{retried, joined, triedFrom, tried}
 use Rattle.trials.specs.Edits.{changed, Trial, touches}
 use Rattle.trials.specs.TrialList.{trialList}

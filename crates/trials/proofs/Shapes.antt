@@ -15,10 +15,10 @@ use Rattle.laws.specs.Tests.{if_then_else_}
 use Rattle.day.specs.Fields.{stops}
 use Rattle.checker.specs.Plan.{serve, empty, Round, stopsOn, stopsOnAll, planWords, Known}
 use Rattle.checker.proofs.PlanChecks.{busy-rounds}
-use Rattle.planner.specs.Build.{greedyRounds, greedyLefts}
-use Rattle.planner.proofs.Decided.{known}
-use Rattle.planner.proofs.GreedyForm.{times-append, greedy-known, greedy-busy, greedy-once, greedy-named}
-use Rattle.planner.proofs.GreedyRoom.{Room, rounds-words, plan-length, greedy-rooms}
+use Rattle.builder.specs.Build.{greedyRounds, greedyLefts}
+use Rattle.builder.proofs.Decided.{known}
+use Rattle.builder.proofs.GreedyForm.{times-append, greedy-known, greedy-busy, greedy-once, greedy-named}
+use Rattle.builder.proofs.GreedyRoom.{Room, rounds-words, plan-length, greedy-rooms}
 use Rattle.trials.specs.Edits.{before, after, swap, remove, replace, Trial, onOne, onTwo}
 use Rattle.trials.specs.Shapes.{Shaped, EachFrom, StandsOn, On, Valid, moved-before, moved-after, swapped, removed, replaced}
 use Rattle.trials.specs.TrialList.{vehicleFrom}

@@ -12,8 +12,8 @@ use borrow.Author.Tests.{le-ltb, eq-eqb, ltb-false}
 use Rattle.laws.specs.Tests.{if_then_else_}
 use Rattle.checker.specs.Lawful.{distanceFrom}
 use Rattle.checker.specs.Plan.{Round}
-use Rattle.planner.specs.Build.{greedyLefts}
-use Rattle.planner.proofs.Decided.{known}
+use Rattle.builder.specs.Build.{greedyLefts}
+use Rattle.builder.proofs.Decided.{known}
 use Rattle.trials.specs.Attempts.{retried, tried, triedFrom, distanceOf, isLawful, keptIf, attempt}
 use Rattle.trials.specs.Candidates.{Trying}
 use Rattle.trials.specs.Edits.{Trial, touches, changed}

@@ -18,7 +18,7 @@ use Rattle.day.specs.Fields.{stops, tips}
 use Rattle.day.specs.declared.fields.Layout.{Layout}
 use Rattle.checker.specs.Plan.{Task, serve, empty, lunch, Round, taskWord, roundsWords, planWords, Known}
 use Rattle.checker.specs.PlanWords.{leftWord}
-use Rattle.planner.proofs.Decided.{known}
+use Rattle.builder.proofs.Decided.{known}
 use Rattle.trials.specs.Edits.{remove, replace, Trial, onOne}
 use Rattle.trials.specs.Listing.{Goes, atTip, nextTask, nextVehicle, TipTells, no-tip, a-tip, TipFits, TipsOf, tipsLeft, TipStep, TipSteps, TipAnswer}
 use Rattle.trials.specs.TrialList.{rising, otherTip, taskTrials, roundTrials, tipTrials}

@@ -6,7 +6,7 @@ use Rattle.checker.specs.DayM.{dayM}
 use Rattle.checker.specs.Plan.{serve, empty, lunch, stopsOn}
 use Rattle.checker.specs.Lawful.{distanceFrom}
 use Rattle.laws.specs.Lists.{total}
-use Rattle.planner.proofs.BuildCases.{built}
+use Rattle.builder.proofs.BuildCases.{built}
 use Rattle.trials.specs.Attempts.{retried, joined, triedFrom, distanceOf, isLawful, keptIf, attempt, searched}
 use Rattle.trials.specs.Edits.{changeStop, changeTip, change, changed, touches}
 use Rattle.trials.specs.Neighbours.{compatible, neighbourKey, behind, nextNeighbour, neighboursAfter, neighbours}

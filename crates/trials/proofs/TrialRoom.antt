@@ -9,9 +9,9 @@ use lib.ListN.{length, length-append}
 use Rattle.laws.specs.Lists.{Every}
 use Rattle.day.specs.Fields.{stops}
 use Rattle.checker.specs.Plan.{Round, roundsWords, stopsOn, stopsOnAll}
-use Rattle.planner.specs.Build.{greedyLefts}
-use Rattle.planner.proofs.GreedyForm.{greedy-named}
-use Rattle.planner.proofs.GreedyRoom.{Room, rounds-words}
+use Rattle.builder.specs.Build.{greedyLefts}
+use Rattle.builder.proofs.GreedyForm.{greedy-named}
+use Rattle.builder.proofs.GreedyRoom.{Room, rounds-words}
 use Rattle.trials.proofs.ShapeKept.{AllRemade}
 use Rattle.trials.specs.Shapes.{Shaped}
 

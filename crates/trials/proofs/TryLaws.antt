@@ -15,7 +15,7 @@ use Rattle.day.proofs.Ranges.{accepted-ranges}
 use Rattle.day.specs.Fields.{stops}
 use Rattle.checker.specs.Lawful.{distanceFrom}
 use Rattle.checker.specs.Plan.{Round, roundWords, stopsOn}
-use Rattle.planner.specs.Build.{greedyLefts}
+use Rattle.builder.specs.Build.{greedyLefts}
 use Rattle.trials.specs.Attempts.{retried, tried, triedFrom, distanceOf, isLawful, keptIf, attempt}
 use Rattle.trials.specs.Candidates.{Trying, Roundable}
 use Rattle.trials.specs.Edits.{Trial, touches, changed}

@@ -11,8 +11,8 @@ use borrow.Author.Tests.{lt-ltb, le-ltb, ltb-true}
 use Rattle.laws.proofs.Tests.{both-true}
 use Rattle.day.specs.Fields.{stopPlace, loadLimit, quantity}
 use Rattle.checker.specs.Plan.{serve, empty}
-use Rattle.planner.specs.Build.{Truck, doing, resting}
-use Rattle.planner.specs.Tips.{nearestTip}
+use Rattle.builder.specs.Build.{Truck, doing, resting}
+use Rattle.builder.specs.Tips.{nearestTip}
 use Rattle.trials.specs.Cabs.{Standing, Stands, failed, onRoad, SomeStanding, Drives}
 use Rattle.trials.specs.Walk.{inserting, emptiedFirst, exceeds, servingThen, walkTask, walkHome}
 use Rattle.trials.specs.declared.cabs.Cab.{Cab}

@@ -17,13 +17,13 @@ use Rattle.laws.proofs.Tests.{both-true, only-second}
 use Rattle.day.specs.Fields.{stopPlace, legDistance, quantity, loadLimit}
 use Rattle.checker.specs.Lawful.{distanceFrom}
 use Rattle.checker.specs.Plan.{Task, serve, empty, lunch, Round, stopsOn, Known}
-use Rattle.planner.specs.Build.{Truck, fresh, doing, resting}
-use Rattle.planner.specs.Tips.{nearestTip}
-use Rattle.planner.proofs.Decided.{known, known-option}
-use Rattle.planner.proofs.Driving.{resting-keeps}
-use Rattle.planner.proofs.GreedyRoom.{Paid, Room, paid-fresh, paid-rest, paid-serve, paid-empty, paid-room}
-use Rattle.planner.proofs.NextTasks.{nearest-open}
-use Rattle.planner.proofs.VehicleStops.{stops-append, visits-task}
+use Rattle.builder.specs.Build.{Truck, fresh, doing, resting}
+use Rattle.builder.specs.Tips.{nearestTip}
+use Rattle.builder.proofs.Decided.{known, known-option}
+use Rattle.builder.proofs.Driving.{resting-keeps}
+use Rattle.builder.proofs.GreedyRoom.{Paid, Room, paid-fresh, paid-rest, paid-serve, paid-empty, paid-room}
+use Rattle.builder.proofs.NextTasks.{nearest-open}
+use Rattle.builder.proofs.VehicleStops.{stops-append, visits-task}
 use Rattle.trials.specs.Walk.{inserting, emptiedFirst, exceeds, servingThen, walkTask, walkNext, walkOn, walkHome, doneBy, walkedAgain}
 
 -- a vehicle on its way that has walked these tasks

@@ -14,9 +14,9 @@ use Rattle.laws.proofs.Buffer.{wrote-none, wrote-lend, wrote-same, rest-whole}
 use Rattle.day.specs.Fields.{stops}
 use Rattle.checker.specs.Plan.{Round, roundWords, roundsWords, planWords, stopsOn, stopsOnAll, Known}
 use Rattle.checker.specs.PlanWords.{leftWord}
-use Rattle.planner.specs.Build.{greedyLefts}
-use Rattle.planner.proofs.GreedyForm.{greedy-named}
-use Rattle.planner.proofs.GreedyRoom.{Room, rounds-words, plan-length}
+use Rattle.builder.specs.Build.{greedyLefts}
+use Rattle.builder.proofs.GreedyForm.{greedy-named}
+use Rattle.builder.proofs.GreedyRoom.{Room, rounds-words, plan-length}
 use Rattle.trials.specs.Attempts.{retried, triedFrom, tried}
 use Rattle.trials.specs.Candidates.{RoundDone, RoundAs, Trying, Written, RoundsAs, Candidate, CandidateAs}
 use Rattle.trials.specs.Edits.{Trial}

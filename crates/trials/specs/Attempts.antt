@@ -10,7 +10,7 @@ use Rattle.laws.specs.Tests.{if_then_else_}
 use Rattle.checker.specs.Check.{checkWords}
 use Rattle.checker.specs.Lawful.{distanceFrom}
 use Rattle.checker.specs.Plan.{Round, planWords}
-use Rattle.planner.specs.Build.{greedyRounds, greedyLefts}
+use Rattle.builder.specs.Build.{greedyRounds, greedyLefts}
 use Rattle.trials.specs.Edits.{Trial, changed, touches}
 use Rattle.trials.specs.Search.{Result, improve, lists}
 use Rattle.trials.specs.TrialList.{trialList}

@@ -10,8 +10,8 @@ use Rattle.laws.specs.Buffer.{Wrote}
 use Rattle.day.specs.Fields.{places}
 use Rattle.checker.specs.Plan.{Round, serve, empty, taskWord, stopsOn}
 use Rattle.checker.specs.PlanWords.{Word, vehicle, stop, tip, rest, back, left, stray, vehicleWord, wordOf}
-use Rattle.planner.proofs.GreedyRoom.{Paid}
-use Rattle.planner.specs.Build.{Truck}
+use Rattle.builder.proofs.GreedyRoom.{Paid}
+use Rattle.builder.specs.Build.{Truck}
 use Rattle.trials.specs.declared.cabs.Cab.{Cab}
 
 -- the numbers of a vehicle are small, by the tasks that it has done

@@ -10,7 +10,7 @@ use Rattle.laws.specs.Lists.{Every}
 use Rattle.laws.specs.Tests.{if_then_else_}
 use Rattle.day.specs.Fields.{stops}
 use Rattle.checker.specs.Plan.{Round, roundWords, roundsWords, planWords, stopsOn, Known}
-use Rattle.planner.specs.Build.{greedyLefts}
+use Rattle.builder.specs.Build.{greedyLefts}
 use Rattle.trials.specs.Attempts.{retried, triedFrom, tried}
 use Rattle.trials.specs.Edits.{Edit, Trial, changed}
 use Rattle.trials.specs.Rewalks.{editOf}

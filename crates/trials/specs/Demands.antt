@@ -13,7 +13,7 @@ use Rattle.day.specs.Fields.{stops, tips}
 use Rattle.checker.specs.Check.{checkPlan}
 use Rattle.checker.specs.Lawful.{Lawful, totals}
 use Rattle.checker.specs.Plan.{Round, planWords, stopsOnAll}
-use Rattle.planner.specs.Build.{greedyRounds, greedyLefts, couldTakeFirst}
+use Rattle.builder.specs.Build.{greedyRounds, greedyLefts, couldTakeFirst}
 use Rattle.trials.specs.Attempts.{distanceOf, attempt, searched}
 use Rattle.trials.specs.Edits.{Trial}
 use Rattle.trials.specs.Search.{Held, lists, sum}

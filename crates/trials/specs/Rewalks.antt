@@ -12,7 +12,7 @@ use Rattle.day.specs.Fields.{tips, stops}
 use Rattle.checker.specs.Lawful.{distanceFrom}
 use Rattle.checker.specs.Plan.{Task, serve, empty, Round, taskWord, roundWords, stopsOn, Known}
 use Rattle.checker.specs.PlanWords.{stopWord, tipWord}
-use Rattle.planner.specs.Build.{Truck, fresh}
+use Rattle.builder.specs.Build.{Truck, fresh}
 use Rattle.trials.specs.Cabs.{Stands}
 use Rattle.trials.specs.Edits.{Edit, before, after, swap, remove, replace, change, changed}
 use Rattle.trials.specs.Walk.{walkOn, walkedAgain}

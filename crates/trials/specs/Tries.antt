@@ -9,7 +9,7 @@ use Rattle.laws.specs.Answers.{given}
 use Rattle.checker.specs.Check.{checkWords}
 use Rattle.checker.specs.Lawful.{distanceFrom}
 use Rattle.checker.specs.Plan.{Round, planWords}
-use Rattle.planner.specs.Build.{greedyLefts}
+use Rattle.builder.specs.Build.{greedyLefts}
 use Rattle.trials.specs.Attempts.{distanceOf, attempt}
 use Rattle.trials.specs.Candidates.{Trying}
 use Rattle.trials.specs.Edits.{Trial, touches, changed}

@@ -7,8 +7,8 @@ use lib.Dec.{ltb, eqb}
 use Rattle.laws.specs.Tests.{if_then_else_}
 use Rattle.day.specs.Fields.{stopPlace, loadLimit, quantity}
 use Rattle.checker.specs.Plan.{Task, serve, empty, lunch, Round}
-use Rattle.planner.specs.Build.{Truck, fresh, doing, resting}
-use Rattle.planner.specs.Tips.{nearestTip}
+use Rattle.builder.specs.Build.{Truck, fresh, doing, resting}
+use Rattle.builder.specs.Tips.{nearestTip}
 
 -- "n(r,T) is inserted, and the trial fails if there is none"; "rest if due after each inserted tip"
 unfoldable pub inserting : List ℕ → Truck → ℕ → Option Truck

@@ -8,17 +8,17 @@ ghost use Rattle.day.specs.Accepted.{IsAccepted};
 ghost use Rattle.day.specs.Fields.{stopPlace, loadLimit, quantity};
 ghost use Rattle.day.specs.Layout.{LayoutOf};
 ghost use Rattle.checker.specs.Plan.{serve, empty};
-ghost use Rattle.planner.specs.Build.{doing, resting};
-ghost use Rattle.planner.specs.Tips.{nearestTip};
+ghost use Rattle.builder.specs.Build.{doing, resting};
+ghost use Rattle.builder.specs.Tips.{nearestTip};
 ghost use Rattle.trials.specs.Cabs.{SomeStanding, Drives};
 ghost use Rattle.trials.specs.Walk.{inserting, exceeds, walkTask, walkHome};
 use checker::walk::Trip;
 use day::fields::Layout;
-use planner::home::is_due;
-use planner::home::rest_if_due;
-use planner::home::visit;
-use planner::home::visit_stop;
-use planner::tips::nearest_tip;
+use builder::home::is_due;
+use builder::home::rest_if_due;
+use builder::home::visit;
+use builder::home::visit_stop;
+use builder::tips::nearest_tip;
 
 // Where and when the vehicle is, its load, how many words it has, and whether the trial has failed.
 pub struct Cab {

@@ -1,7 +1,7 @@
 use native.Mathlib.Omega.{arith}
 use mathlib.Core.Path.{_∙_, sym, ap, refl}
 use Rattle.trials.proofs.CabLaws.{standing-space, standing-trip, empty-drives}
-use Rattle.planner.proofs.ChoiceLaws.{weaker-trip}
+use Rattle.builder.proofs.ChoiceLaws.{weaker-trip}
 use borrow.Author.Needs.{needs}
 use Rattle.trials.proofs.cabs.empty_cab.Statement.{statement}
 use Rattle.trials.proofs.cabs.empty_cab.Tie as tie
@@ -9,7 +9,7 @@ use Rattle.trials.proofs.cabs.empty_cab.Reads as reads
 use Rattle.trials.proofs.cabs.empty_cab.Lts as lts
 use Rattle.day.proofs.fields.tip_service.Reads as tip-service-reads
 use Rattle.day.proofs.fields.tip_window.Reads as tip-window-reads
-use Rattle.planner.proofs.home.visit.Reads as visit-reads
+use Rattle.builder.proofs.home.visit.Reads as visit-reads
 
 -- src/cabs.rt:57:9
 tip-window-requires : tie.Need-tip-window-requires

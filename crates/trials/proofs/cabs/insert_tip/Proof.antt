@@ -6,7 +6,7 @@ use Rattle.trials.proofs.cabs.insert_tip.Statement.{statement}
 use Rattle.trials.proofs.cabs.insert_tip.Tie as tie
 use Rattle.trials.proofs.cabs.insert_tip.Reads as reads
 use Rattle.trials.proofs.cabs.insert_tip.Lts as lts
-use Rattle.planner.proofs.tips.nearest_tip.Reads as nearest-tip-reads
+use Rattle.builder.proofs.tips.nearest_tip.Reads as nearest-tip-reads
 use Rattle.trials.proofs.cabs.empty_cab.Reads as empty-cab-reads
 use Rattle.trials.proofs.cabs.rest_cab.Reads as rest-cab-reads
 

@@ -6,8 +6,8 @@ use Rattle.trials.proofs.cabs.rest_cab.Statement.{statement}
 use Rattle.trials.proofs.cabs.rest_cab.Tie as tie
 use Rattle.trials.proofs.cabs.rest_cab.Reads as reads
 use Rattle.trials.proofs.cabs.rest_cab.Lts as lts
-use Rattle.planner.proofs.home.is_due.Reads as is-due-reads
-use Rattle.planner.proofs.home.rest_if_due.Reads as rest-if-due-reads
+use Rattle.builder.proofs.home.is_due.Reads as is-due-reads
+use Rattle.builder.proofs.home.rest_if_due.Reads as rest-if-due-reads
 
 -- src/cabs.rt:37:8
 is-due-requires : tie.Need-is-due-requires

@@ -1,14 +1,14 @@
 use native.Mathlib.Omega.{arith}
 use mathlib.Core.Path.{_∙_, sym, ap, refl}
 use Rattle.trials.proofs.CabLaws.{standing-space, standing-trip, standing-load, serve-drives}
-use Rattle.planner.proofs.ChoiceLaws.{weaker-trip}
+use Rattle.builder.proofs.ChoiceLaws.{weaker-trip}
 use borrow.Author.Needs.{needs}
 use Rattle.trials.proofs.cabs.serve_cab.Statement.{statement}
 use Rattle.trials.proofs.cabs.serve_cab.Tie as tie
 use Rattle.trials.proofs.cabs.serve_cab.Reads as reads
 use Rattle.trials.proofs.cabs.serve_cab.Lts as lts
 use Rattle.day.proofs.fields.stop_quantity.Reads as stop-quantity-reads
-use Rattle.planner.proofs.home.visit_stop.Reads as visit-stop-reads
+use Rattle.builder.proofs.home.visit_stop.Reads as visit-stop-reads
 
 -- src/cabs.rt:75:29
 cast-part : tie.Need-cast-part

@@ -1,6 +1,6 @@
 use native.Mathlib.Omega.{arith}
 use mathlib.Core.Path.{refl}
-use Rattle.planner.proofs.BuiltPlans.{room-is}
+use Rattle.builder.proofs.BuiltPlans.{room-is}
 use Rattle.trials.proofs.NextRounds.{few-vehicles, plan-short}
 use Rattle.trials.proofs.WrittenLaws.{room-left, ends-inside, lefts-long, lefts-room, candidate-fails, candidate-ends}
 use borrow.Author.Needs.{needs}

@@ -5,7 +5,7 @@ use mathlib.Core.List.{List}
 use native.Mathlib.Omega.{arith}
 use lib.ListN.{length}
 use Rattle.checker.specs.Plan.{Round}
-use Rattle.planner.proofs.BuiltPlans.{room-is}
+use Rattle.builder.proofs.BuiltPlans.{room-is}
 use Rattle.trials.specs.Candidates.{trialOf, Trying, Written}
 use Rattle.trials.proofs.NextRounds.{few-vehicles}
 use Rattle.trials.proofs.WrittenLaws.{below, written-start, room-left, next-room, written-next, written-fails, written-end}

@@ -1,6 +1,6 @@
 use native.Mathlib.Omega.{arith}
 use mathlib.Core.Path.{refl}
-use Rattle.planner.proofs.BuiltPlans.{room-is}
+use Rattle.builder.proofs.BuiltPlans.{room-is}
 use Rattle.trials.proofs.NextRounds.{few-vehicles, plan-short, bounds}
 use Rattle.trials.proofs.TryLaws.{bounds-long, retry-walkable}
 use borrow.Author.Needs.{needs}

@@ -1,0 +1,42 @@
+-- `builder::build` meets its contract.
+use borrow.Author.Needs.{needs}
+use Rattle.builder.proofs.BuiltPlans.{is-accepted, accepted-long, accepted-answer, accepted-buffer, refused-answer, refused-buffer}
+use Rattle.builder.proofs.build.Statement.{statement}
+use Rattle.builder.proofs.build.Tie as tie
+
+judge-requires : tie.Need-judge-requires
+judge-requires c κs = search needs
+
+enum-told : tie.Need-enum-told
+enum-told c = search needs
+
+layout-of-requires : tie.Need-layout-of-requires
+layout-of-requires c κs = search accepted-long
+
+build-accepted-requires : tie.Need-build-accepted-requires
+build-accepted-requires c κs = (search needs, search is-accepted)
+
+enum-known-number : tie.Need-enum-known-number
+enum-known-number c = search needs
+
+same-length : tie.Need-same-length
+same-length c = search needs
+
+returns : tie.Need-returns
+returns c = (search accepted-answer, search accepted-buffer)
+
+returns-2 : tie.Need-returns-2
+returns-2 c = (search refused-answer, search refused-buffer)
+
+pub build-spec : {M : Type 1} → statement M
+build-spec =
+    tie.close
+    (tie.spec
+    judge-requires
+    enum-told
+    layout-of-requires
+    build-accepted-requires
+    enum-known-number
+    same-length
+    returns
+    returns-2)

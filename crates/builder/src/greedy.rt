@@ -1,0 +1,67 @@
+// The greedy plan, written into the plan's buffer and answered.
+ghost use mathlib.Core.Path.{_≡_};
+ghost use Prim.Native.Nat.{_*_, _≤_};
+ghost use lib.ListN.{length};
+ghost use Rattle.day.specs.Accepted.{IsAccepted};
+ghost use Rattle.day.specs.Layout.{LayoutOf};
+ghost use Rattle.builder.specs.Build.{greedyLefts, greedyPlan};
+ghost use Rattle.builder.specs.Built.{planValues, planned, builtAnswer, builtBuffer};
+use crate::PlanAnswer;
+use crate::fleet::write_vehicles;
+use crate::lefts::fill_zeros;
+use crate::lefts::write_lefts;
+use day::fields::Layout;
+
+// How many words a plan has, and how many stops it leaves out.
+pub struct Size {
+    pub words: usize,
+    pub lefts: usize,
+}
+
+// The vehicles, the stops left out, and zeros to the end of the five words for each stop.
+fn write_plan(day: &[u32], z: Layout, plan: &mut [u32]) -> Size
+    requires { ⌜ LayoutOf (now day) z × (z .stops ≤ 240) × (5 * z .stops ≤ length (now plan)) ⌝ }
+    ensures size { λ r. ⌜ (r .words ≡ length (greedyPlan (now (day .entry)))) × (r .lefts ≡ length (greedyLefts (now (day .entry)))) ⌝ }
+    ensures text { λ r. ⌜ now (plan .exit) ≡ planned (now (day .entry)) (greedyPlan (now (day .entry))) (now (plan .entry)) ⌝ }
+{
+    let w = write_vehicles(day, z, plan);
+    let left = w.left;
+    let end = write_lefts(left, plan, w.words);
+    fill_zeros(plan, end, 5 * z.stops);
+    Size {
+        words: end,
+        lefts: marks::remaining(left) as usize,
+    }
+}
+
+// The answer on an accepted day.
+pub fn build_accepted(day: &[u32], z: Layout, plan: &mut [u32]) -> PlanAnswer
+    requires { ⌜ LayoutOf (now day) z × IsAccepted (now day) ⌝ }
+    ensures answer { λ r. ⌜ planValues r ≡ builtAnswer (now (day .entry)) (length (now (plan .entry))) ⌝ }
+    ensures buffer { λ r. ⌜ now (plan .exit) ≡ builtBuffer (now (day .entry)) (now (plan .entry)) ⌝ }
+{
+    let need = 5 * z.stops;
+    if plan.len() < need {
+        return PlanAnswer::Refused {
+            number: 14,
+            place: need,
+        };
+    }
+    let size = write_plan(day, z, plan);
+    let words = size.words;
+    let answer = checker::check_accepted(day, z, &plan[0..words]);
+    match answer {
+        checker::Answer::Lawful {
+            distance,
+            vehicles: _,
+            served: _,
+        } => PlanAnswer::Planned {
+            distance,
+            trials: 0,
+            settled: false,
+            left_out: size.lefts,
+            words,
+        },
+        checker::Answer::Refused { number, place } => PlanAnswer::Refused { number, place },
+    }
+}
