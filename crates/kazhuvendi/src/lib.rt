@@ -117,7 +117,7 @@ pub extern "C" fn kz_build(day: &[u32], plan: &mut [u32], out: &mut [u64; 6])
     ensures answer { λ r. ⌜ now (out .exit) ≡ inSix (buildAnswer (now (day .entry)) (length (now (plan .entry)))) ⌝ }
     ensures buffer { λ r. ⌜ now (plan .exit) ≡ buildBuffer (now (day .entry)) (now (plan .entry)) ⌝ }
 {
-    let answer = builder::build(day, plan);
+    let answer = planner::build(day, plan);
     match answer {
         builder::PlanAnswer::Planned {
             distance,

@@ -1,8 +1,8 @@
--- `builder::build` meets its contract.
+-- `planner::build` meets its contract.
 use borrow.Author.Needs.{needs}
 use Rattle.builder.proofs.BuiltPlans.{is-accepted, accepted-long, accepted-answer, accepted-buffer, refused-answer, refused-buffer}
-use Rattle.builder.proofs.build.Statement.{statement}
-use Rattle.builder.proofs.build.Tie as tie
+use Rattle.planner.proofs.build.Statement.{statement}
+use Rattle.planner.proofs.build.Tie as tie
 
 judge-requires : tie.Need-judge-requires
 judge-requires c κs = search needs
