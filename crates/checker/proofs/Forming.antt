@@ -1,6 +1,6 @@
 -- Laws of a word's form: which word a number is, whether it has the form where it stands, and its step then. Assumes nothing.
 use Prim.Native.Nat.{ℕ, _+_, _/_, _%_, _<_, _≤_}
-use mathlib.Core.Path.{_≡_, refl, sym, _∙_}
+use mathlib.Core.Path.{_≡_, refl, sym, ap, _∙_}
 use mathlib.Core.Bool.{Bool, true, false, not, _&&_}
 use mathlib.Core.List.{List}
 use native.Mathlib.Omega.{arith}
@@ -11,11 +11,12 @@ use Rattle.laws.proofs.Tests.{both-true}
 use Rattle.day.specs.Layout.{LayoutOf}
 use Rattle.day.specs.declared.fields.Layout.{Layout}
 use Rattle.checker.specs.Check.{within, wellFormed}
-use Rattle.checker.specs.PlanWords.{Word, vehicle, stop, tip, rest, back, left, stray, restWord, backWord, wordOf}
+use Rattle.checker.specs.PlanWords.{Word, vehicle, stop, tip, rest, back, left, stray, stopWord, tipWord, restWord, backWord, wordOf}
 use Rattle.checker.specs.Steps.{isMetIn, formedFault, faultBy, StepOf}
 use Rattle.checker.specs.declared.steps.State.{State}
 use Rattle.checker.specs.declared.steps.Step.{Step}
 use Rattle.checker.proofs.Stepping.{step-fault}
+use Rattle.checker.proofs.WordForms.{stop-form, tip-form}
 
 -- a number from 1 to the most
 pub within-low : (most k : ℕ) → k < 1 → false ≡ within most k
@@ -152,3 +153,17 @@ module _ (day met : List ℕ) (s : State) (w : ℕ) (r : Step) where
   pub as-stray : wordOf w ≡ stray → r .fault ≡ 7 → StepOf (faultBy day met s (wordOf w)) day s (wordOf w) r
   unfolding wellFormed
   as-stray e f = rw e (misformed day met s stray r false refl refl f)
+
+-- a word in the range of the stops' words, or of the tips', by its distance from the first
+module _ (day : List ℕ) (z : Layout) (l : LayoutOf day z) (w r : ℕ) where
+  pub stop-ranged : (r + 2952790017) % 4294967296 ≡ w → r < z .stops → wordOf w ≡ stop (r + 1)
+  stop-ranged e h = ap wordOf whole ∙ stop-form (r + 1) (omega (arith, l .stopsAre))
+    where
+      whole : w ≡ stopWord (r + 1)
+      whole = omega (arith, l .stopsAre)
+
+  pub tip-ranged : (r + 3221225473) % 4294967296 ≡ w → r < z .tips → wordOf w ≡ tip (r + 1)
+  tip-ranged e h = ap wordOf whole ∙ tip-form (r + 1) (omega (arith, l .tipsAre))
+    where
+      whole : w ≡ tipWord (r + 1)
+      whole = omega (arith, l .tipsAre)

@@ -4,6 +4,7 @@ pub mod Cases
 pub mod Clear
 pub mod Driving
 pub mod Forming
+pub mod GoingThrough
 pub mod LawfulIff
 pub mod Loading
 pub mod Loads

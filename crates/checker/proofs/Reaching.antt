@@ -136,6 +136,9 @@ module _ (day plan : List ℕ) (i : ℕ) (s : State) (bytes : List ℕ) (so-far 
       passed : Passes day (walkOf s (metBy plan i)) wordHere
       passed = fault-passes day _ wordHere (sym (same-fault bytes (metBy plan i) (so-far .marks) day s wordHere) ∙ no-fault)
 
+      pub reached-passed : Next day s wordHere r × Passes day (walkOf s (metBy plan i)) wordHere
+      reached-passed = (next, passed)
+
       pub stop-byte : r .stop < 256
       stop-byte = rw (next .stopIs) (stop-small _ _ (apart (getD plan i 0)))
 

@@ -45,6 +45,13 @@ vehicle-read w e = ap wordOf whole ∙ vehicle-form (w % 256) (omega arith)
     whole : w ≡ vehicleWord (w % 256)
     whole = omega arith
 
+-- a word with the high bits of a stop left out
+pub left-read : (w : ℕ) → w / 256 ≡ 15728640 → wordOf w ≡ left (w % 256)
+left-read w e = ap wordOf whole ∙ left-form (w % 256) (omega arith)
+  where
+    whole : w ≡ leftWord (w % 256)
+    whole = omega arith
+
 pub rest-form : wordOf restWord ≡ rest
 unfolding wordOf
 rest-form = refl

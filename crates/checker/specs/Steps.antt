@@ -9,11 +9,14 @@ use lib.ListN.{length, getD, drop, replicate}
 use Rattle.laws.specs.Answers.{given, refused}
 use Rattle.laws.specs.Lists.{mem, unmet}
 use Rattle.laws.specs.Tests.{if_then_else_, neb}
-use Rattle.day.specs.Fields.{stops, places}
+use Rattle.day.specs.Fields.{stops, places, loadLimit, dayLimit, stopLimit}
 use Rattle.checker.specs.Cargo.{cargoFault, cargoAfter}
 use Rattle.checker.specs.Check.{wellFormed, metAfter, tallyAfter, Walk, start, checkFrom}
 use Rattle.checker.specs.PlanWords.{Word, vehicle, stop, tip, rest, back, left, stray, wordOf}
 use Rattle.checker.specs.Trip.{tripFault, tripAfter}
+use Rattle.checker.specs.declared.cargo.Limits.{Limits}
+use Rattle.checker.specs.declared.parts.Part.{Part}
+use Rattle.checker.specs.declared.parts.Told.{Told}
 use Rattle.checker.specs.declared.steps.State.{State}
 use Rattle.checker.specs.declared.steps.Step.{Step}
 use Rattle.checker.specs.declared.trip.Driven.{Driven}
@@ -117,6 +120,12 @@ pub record TallyWithin (i : ℕ) (y : Tally) : Type 0 where
   pub left : y .left ≤ i
   pub distance : y .distance ≤ 65535 * i
 
+-- the limits of a day
+pub record LimitsOf (day : List ℕ) (l : Limits) : Type 0 where
+  pub loadIs : l .load ≡ loadLimit day
+  pub kgIs : l .kg ≡ dayLimit day
+  pub visitsIs : l .visits ≡ stopLimit day
+
 -- the state after so many words
 pub record Within (day : List ℕ) (i : ℕ) (s : State) : Type 0 where
   pub cargoSmall : CargoWithin (s .cargo)
@@ -147,3 +156,23 @@ pub record Reached (day plan : List ℕ) (i : ℕ) (s : State) (met : List ℕ) 
   pub bytes : length met ≡ 256
   pub marks : (k : ℕ) → 0 < k → k < 256 → isMet met k ≡ mem k (metBy plan i)
   pub count : unmet (stops day) (metBy plan i) + (s .tally .served + s .tally .left) ≡ stops day
+
+-- a vehicle that is out: the plan as it was when the vehicle left, but for the stops that the vehicle served since
+abbrev pub outWith : Tally → Cargo → Trip → State
+outWith y c t =
+    record {
+      tally = record { inside = true; vehicles = y .vehicles; served = y .served + c .visits; left = y .left; last = y .last; distance = y .distance };
+      cargo = c;
+      trip = t;
+    }
+
+-- a part of the plan is behind, with no word at fault
+pub record PartTo (day plan met : List ℕ) (from : ℕ) (r : Part) : Type 0 where
+  pub more : from < r .end
+  pub most : r .end ≤ length plan
+  pub reached : Reached day plan (r .end) (r .state) met
+
+-- all words are behind, with none at fault
+pub record ToldAll (day plan : List ℕ) (r : Told) : Type 0 where
+  pub small : TallyWithin 4096 (r .tally)
+  pub same : endOf (stops day) (length plan) (r .tally) ≡ checkFrom day plan 0 (start day)

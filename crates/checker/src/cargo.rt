@@ -4,7 +4,7 @@ ghost use mathlib.Core.Path.{_≡_};
 ghost use Prim.Native.Nat.{_<_};
 ghost use Rattle.day.specs.Layout.{LayoutOf};
 ghost use Rattle.checker.specs.Cargo.{empty, loaded, emptied, overLimits};
-ghost use Rattle.checker.specs.Steps.{CargoWithin};
+ghost use Rattle.checker.specs.Steps.{CargoWithin, LimitsOf};
 use crate::walk::Cargo;
 
 // Nothing, as a vehicle starts.
@@ -52,16 +52,35 @@ pub fn tip_out(full: Cargo) -> Cargo
     }
 }
 
-// Over the load, the day's kg or the day's stops.
-pub fn is_over(day: &[u32], z: day::fields::Layout, c: Cargo) -> bool
+// The most that a vehicle may carry at once, in a day, and the most stops.
+pub struct Limits {
+    pub load: u32,
+    pub kg: u32,
+    pub visits: u32,
+}
+
+// The limits of a day, read once.
+pub fn limits_of(day: &[u32], z: day::fields::Layout) -> Limits
     requires { ⌜ LayoutOf (now day) z ⌝ }
+    ensures { λ r. ⌜ LimitsOf (now (day .entry)) r ⌝ }
+{
+    Limits {
+        load: day::fields::load_limit(day, z),
+        kg: day::fields::day_limit(day, z),
+        visits: day::fields::stop_limit(day, z),
+    }
+}
+
+// Over the load, the day's kg or the day's stops.
+pub fn is_over(day: &[u32], limits: Limits, c: Cargo) -> bool
+    requires { ⌜ LimitsOf (now day) limits ⌝ }
     ensures { λ r. ⌜ r ≡ overLimits (now (day .entry)) c ⌝ }
 {
-    if day::fields::load_limit(day, z) < c.load {
+    if limits.load < c.load {
         return true;
     }
-    if day::fields::day_limit(day, z) < c.kg {
+    if limits.kg < c.kg {
         return true;
     }
-    day::fields::stop_limit(day, z) < c.visits
+    limits.visits < c.visits
 }

@@ -1,5 +1,6 @@
 // A plan against a day: lawful, or refused at its first word at fault.
 pub mod cargo;
+pub mod parts;
 pub mod rounds;
 pub mod run;
 pub mod steps;

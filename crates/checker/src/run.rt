@@ -6,9 +6,12 @@ ghost use lib.ListN.{length};
 ghost use Rattle.day.specs.Layout.{LayoutOf};
 ghost use Rattle.checker.specs.Answers.{answerValues};
 ghost use Rattle.checker.specs.Check.{start, checkFrom};
-ghost use Rattle.checker.specs.Steps.{noneMet, TallyWithin, walkOf, endOf};
+ghost use Rattle.checker.specs.Steps.{LimitsOf, noneMet, TallyWithin, walkOf, endOf};
 use crate::Answer;
+use crate::cargo::Limits;
+use crate::cargo::limits_of;
 use crate::cargo::nothing;
+use crate::parts::all_parts;
 use crate::steps::State;
 use crate::tally::none_told;
 use crate::trip::leave;
@@ -16,7 +19,7 @@ use crate::walk::Tally;
 use crate::words::word_step;
 
 // Before the first word.
-fn first_state(day: &[u32], z: day::fields::Layout) -> State
+pub fn first_state(day: &[u32], z: day::fields::Layout) -> State
     requires { ⌜ LayoutOf (now day) z ⌝ }
     ensures { λ r. ⌜ walkOf r [] ≡ start (now (day .entry)) ⌝ }
 {
@@ -28,7 +31,7 @@ fn first_state(day: &[u32], z: day::fields::Layout) -> State
 }
 
 // No stop is met.
-fn no_stops() -> [u8; 256]
+pub fn no_stops() -> [u8; 256]
     ensures { λ r. ⌜ r ≡ noneMet ⌝ }
 {
     [0u8; 256]
@@ -58,16 +61,16 @@ fn finish(y: Tally, stops: usize, end: usize) -> Answer
     }
 }
 
-// The answer on a plan of at most 4,096 words. A word that names no stop marks number 0, which no stop has.
-pub fn check_words(day: &[u32], z: day::fields::Layout, plan: &[u32]) -> Answer
-    requires { ⌜ LayoutOf (now day) z × (length (now plan) ≤ 4096) ⌝ }
+// The answer word by word. A word that names no stop marks number 0, which no stop has.
+fn check_each(day: &[u32], z: day::fields::Layout, limits: Limits, plan: &[u32]) -> Answer
+    requires { ⌜ LayoutOf (now day) z × LimitsOf (now day) limits × (length (now plan) ≤ 4096) ⌝ }
     ensures { λ r. ⌜ answerValues r ≡ checkFrom (now (day .entry)) (now (plan .entry)) 0 (start (now (day .entry))) ⌝ }
 {
     let mut s = first_state(day, z);
     let mut met = no_stops();
     let mut i: usize = 0;
     while i < plan.len() {
-        let step = word_step(day, z, s, &met, plan[i]);
+        let step = word_step(day, z, limits, s, &met, plan[i]);
         if step.fault != 0 {
             return Answer::Refused {
                 number: step.fault,
@@ -80,4 +83,17 @@ pub fn check_words(day: &[u32], z: day::fields::Layout, plan: &[u32]) -> Answer
         i += 1;
     }
     finish(s.tally, z.stops, i)
+}
+
+// The answer on a plan of at most 4,096 words. Where the walk over the parts ends without an answer, each word is looked at.
+pub fn check_words(day: &[u32], z: day::fields::Layout, plan: &[u32]) -> Answer
+    requires { ⌜ LayoutOf (now day) z × (length (now plan) ≤ 4096) ⌝ }
+    ensures { λ r. ⌜ answerValues r ≡ checkFrom (now (day .entry)) (now (plan .entry)) 0 (start (now (day .entry))) ⌝ }
+{
+    let limits = limits_of(day, z);
+    let told = all_parts(day, z, limits, plan);
+    if told.all {
+        return finish(told.tally, z.stops, plan.len());
+    }
+    check_each(day, z, limits, plan)
 }

@@ -4,7 +4,8 @@ ghost use mathlib.Core.Bool.{true};
 ghost use Prim.Native.Nat.{_<_, _≤_};
 ghost use Rattle.day.specs.Layout.{LayoutOf};
 ghost use Rattle.checker.specs.PlanWords.{vehicle, stop, tip, rest, back, left};
-ghost use Rattle.checker.specs.Steps.{formedFault, StepOf, Within};
+ghost use Rattle.checker.specs.Steps.{formedFault, LimitsOf, StepOf, Within};
+use crate::cargo::Limits;
 use crate::cargo::is_over;
 use crate::cargo::load_on;
 use crate::cargo::nothing;
@@ -57,12 +58,12 @@ pub fn at_fault(number: u32) -> Step
 }
 
 // B, a stop is served.
-pub fn serve(day: &[u32], z: day::fields::Layout, s: State, k: usize) -> Step
-    requires { ⌜ LayoutOf (now day) z × Within (now day) 4096 s × (0 < k) × (k ≤ z .stops) ⌝ }
+pub fn serve(day: &[u32], z: day::fields::Layout, limits: Limits, s: State, k: usize) -> Step
+    requires { ⌜ LayoutOf (now day) z × LimitsOf (now day) limits × Within (now day) 4096 s × (0 < k) × (k ≤ z .stops) ⌝ }
     ensures { λ r. ⌜ StepOf (formedFault (now (day .entry)) s (stop k)) (now (day .entry)) s (stop k) r ⌝ }
 {
     let cargo = load_on(s.cargo, day::fields::stop_quantity(day, z, k));
-    if is_over(day, z, cargo) {
+    if is_over(day, limits, cargo) {
         return at_fault(9);
     }
     let drive = visit_stop(day, z, s.trip, k);

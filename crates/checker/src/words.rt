@@ -4,7 +4,8 @@ ghost use mathlib.Core.Bool.{_&&_};
 ghost use Rattle.day.specs.Layout.{LayoutOf};
 ghost use Rattle.checker.specs.Check.{within};
 ghost use Rattle.checker.specs.PlanWords.{vehicle, stop, tip, rest, back, left, wordOf};
-ghost use Rattle.checker.specs.Steps.{faultBy, StepOf, Within};
+ghost use Rattle.checker.specs.Steps.{faultBy, LimitsOf, StepOf, Within};
+use crate::cargo::Limits;
 use crate::steps::State;
 use crate::steps::Step;
 use crate::steps::at_fault;
@@ -45,8 +46,15 @@ fn is_within(most: usize, k: usize) -> bool
     k <= most
 }
 
-fn stop_word(day: &[u32], z: day::fields::Layout, s: State, met: &[u8; 256], k: usize) -> Step
-    requires { ⌜ LayoutOf (now day) z × Within (now day) 4096 s ⌝ }
+fn stop_word(
+    day: &[u32],
+    z: day::fields::Layout,
+    limits: Limits,
+    s: State,
+    met: &[u8; 256],
+    k: usize,
+) -> Step
+    requires { ⌜ LayoutOf (now day) z × LimitsOf (now day) limits × Within (now day) 4096 s ⌝ }
     ensures { λ r. ⌜ StepOf (faultBy (now (day .entry)) (now (met .entry)) s (stop k)) (now (day .entry)) s (stop k) r ⌝ }
 {
     if !both(s.tally.inside, is_within(z.stops, k)) {
@@ -55,7 +63,7 @@ fn stop_word(day: &[u32], z: day::fields::Layout, s: State, met: &[u8; 256], k: 
     if met[k] != 0 {
         return at_fault(8);
     }
-    serve(day, z, s, k)
+    serve(day, z, limits, s, k)
 }
 
 fn tip_word(day: &[u32], z: day::fields::Layout, s: State, met: &[u8; 256], k: usize) -> Step
@@ -88,7 +96,7 @@ fn back_word(day: &[u32], z: day::fields::Layout, s: State, met: &[u8; 256]) -> 
     come_back(day, z, s)
 }
 
-fn vehicle_word(day: &[u32], z: day::fields::Layout, s: State, met: &[u8; 256], k: u32) -> Step
+pub fn vehicle_word(day: &[u32], z: day::fields::Layout, s: State, met: &[u8; 256], k: u32) -> Step
     requires { ⌜ LayoutOf (now day) z × Within (now day) 4096 s ⌝ }
     ensures { λ r. ⌜ StepOf (faultBy (now (day .entry)) (now (met .entry)) s (vehicle k)) (now (day .entry)) s (vehicle k) r ⌝ }
 {
@@ -99,7 +107,7 @@ fn vehicle_word(day: &[u32], z: day::fields::Layout, s: State, met: &[u8; 256], 
     set_out(day, z, s, k)
 }
 
-fn left_word(day: &[u32], z: day::fields::Layout, s: State, met: &[u8; 256], k: u32) -> Step
+pub fn left_word(day: &[u32], z: day::fields::Layout, s: State, met: &[u8; 256], k: u32) -> Step
     requires { ⌜ LayoutOf (now day) z × Within (now day) 4096 s ⌝ }
     ensures { λ r. ⌜ StepOf (faultBy (now (day .entry)) (now (met .entry)) s (left k)) (now (day .entry)) s (left k) r ⌝ }
 {
@@ -115,14 +123,21 @@ fn left_word(day: &[u32], z: day::fields::Layout, s: State, met: &[u8; 256], k: 
 }
 
 // The step of a word, the frequent kinds first.
-pub fn word_step(day: &[u32], z: day::fields::Layout, s: State, met: &[u8; 256], w: u32) -> Step
-    requires { ⌜ LayoutOf (now day) z × Within (now day) 4096 s ⌝ }
+pub fn word_step(
+    day: &[u32],
+    z: day::fields::Layout,
+    limits: Limits,
+    s: State,
+    met: &[u8; 256],
+    w: u32,
+) -> Step
+    requires { ⌜ LayoutOf (now day) z × LimitsOf (now day) limits × Within (now day) 4096 s ⌝ }
     ensures { λ r. ⌜ StepOf (faultBy (now (day .entry)) (now (met .entry)) s (wordOf w)) (now (day .entry)) s (wordOf w) r ⌝ }
 {
     let kind = w / 256;
     let k = w % 256;
     if kind == STOP {
-        return stop_word(day, z, s, met, k as usize);
+        return stop_word(day, z, limits, s, met, k as usize);
     }
     if kind == TIP {
         return tip_word(day, z, s, met, k as usize);
@@ -138,6 +153,36 @@ pub fn word_step(day: &[u32], z: day::fields::Layout, s: State, met: &[u8; 256],
     }
     if kind == LEFT {
         return left_word(day, z, s, met, k);
+    }
+    at_fault(7)
+}
+
+// The step of a word of a vehicle that is out, the frequent kinds first: kind and number are one range of words. Another word's step
+// is at fault here, whatever it is.
+pub fn task_step(
+    day: &[u32],
+    z: day::fields::Layout,
+    limits: Limits,
+    s: State,
+    met: &[u8; 256],
+    w: u32,
+) -> Step
+    requires { ⌜ LayoutOf (now day) z × LimitsOf (now day) limits × Within (now day) 4096 s ⌝ }
+    ensures { λ r. ⌜ (r .fault ≡ 0 → StepOf (faultBy (now (day .entry)) (now (met .entry)) s (wordOf w)) (now (day .entry)) s (wordOf w) r) ⌝ }
+{
+    let stop = std::num::wrapping_sub_u32(w, 0xB0000001) as usize;
+    if stop < z.stops {
+        return stop_word(day, z, limits, s, met, stop + 1);
+    }
+    let tip = std::num::wrapping_sub_u32(w, 0xC0000001) as usize;
+    if tip < z.tips {
+        return tip_word(day, z, s, met, tip + 1);
+    }
+    if w == REST {
+        return rest_word(day, z, s, met);
+    }
+    if w == BACK {
+        return back_word(day, z, s, met);
     }
     at_fault(7)
 }

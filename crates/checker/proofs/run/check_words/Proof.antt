@@ -1,73 +1,34 @@
--- `checker::run::check_words` meets its contract: what is left to check after i words is answered as the whole plan is.
-use Prim.Native.Nat.{_≤_, _-_}
+-- `checker::run::check_words` meets its contract: a plan that was gone through has its answer at the end, any other word by word.
 use borrow.Author.Needs.{needs}
-use lib.ListN.{length}
-use Rattle.checker.proofs.Reaching.{reached-start, reached-small, reached-tally, reached-fault, stop-byte, reached-next, reached-end}
-use Rattle.checker.specs.Steps.{Reached}
+use Rattle.checker.proofs.GoingThrough.{told-small, told-answer}
 use Rattle.checker.proofs.run.check_words.Statement.{statement}
 use Rattle.checker.proofs.run.check_words.Tie as tie
 
-abbrev Inv-loop : tie.InvT-loop
-Inv-loop day z plan s₀ met₀ i₀ s met i = (i ≤ length plan) × Reached day plan i s met
+limits-of-requires : tie.Need-limits-of-requires
+limits-of-requires c κs = search needs
 
-abbrev μ-loop : tie.MeasureT-loop
-μ-loop day z plan s₀ met₀ i₀ s met i = length plan - i
+all-parts-requires : tie.Need-all-parts-requires
+all-parts-requires c κs = search needs
 
-first-state-requires : tie.Need-first-state-requires Inv-loop μ-loop
-first-state-requires c κs = search needs
+finish-requires : tie.Need-finish-requires
+finish-requires c κs = told-small _ _ _ (c .before .all-parts .ensures) (c .if1 .taken)
 
-no-stops-requires : tie.Need-no-stops-requires Inv-loop μ-loop
-no-stops-requires c κs = search needs
+returns : tie.Need-returns
+returns c = search told-answer
 
-loop-holds : tie.Need-loop-holds Inv-loop μ-loop
-loop-holds c = (search needs, search reached-start)
+check-each-requires : tie.Need-check-each-requires
+check-each-requires c κs = search needs
 
-mul-word-step : tie.Need-mul-word-step Inv-loop μ-loop
-mul-word-step c = search needs
-
-shared-slice-read-word-step : tie.Need-shared-slice-read-word-step Inv-loop μ-loop
-shared-slice-read-word-step c = search needs
-
-word-step-requires : tie.Need-word-step-requires Inv-loop μ-loop
-word-step-requires c κs = (search needs, search reached-small)
-
-returns : tie.Need-returns Inv-loop μ-loop
-returns c = search reached-fault
-
-array-write-met : tie.Need-array-write-met Inv-loop μ-loop
-array-write-met c = search stop-byte
-
-add-i : tie.Need-add-i Inv-loop μ-loop
-add-i c = search needs
-
-loop-less : tie.Need-loop-less Inv-loop μ-loop
-loop-less c = search needs
-
-loop-again : tie.Need-loop-again Inv-loop μ-loop
-loop-again c = (search needs, search reached-next)
-
-finish-requires : tie.Need-finish-requires Inv-loop μ-loop
-finish-requires c κs = search reached-tally
-
-returns-2 : tie.Need-returns-2 Inv-loop μ-loop
-returns-2 c = search reached-end
+returns-2 : tie.Need-returns-2
+returns-2 c = search needs
 
 pub check-words-spec : {M : Type 1} → statement M
 check-words-spec =
     tie.close
     (tie.spec
-    Inv-loop
-    μ-loop
-    first-state-requires
-    no-stops-requires
-    loop-holds
-    mul-word-step
-    shared-slice-read-word-step
-    word-step-requires
-    returns
-    array-write-met
-    add-i
-    loop-less
-    loop-again
+    limits-of-requires
+    all-parts-requires
     finish-requires
+    returns
+    check-each-requires
     returns-2)

@@ -26,7 +26,7 @@ returns-2 : tie.Need-returns-2
 returns-2 c = search (met-again, stop-formed, stop-met)
 
 serve-requires : tie.Need-serve-requires
-serve-requires c κs = (search needs, search needs, search known-some, search known-most)
+serve-requires c κs = (search needs, search needs, search needs, search known-some, search known-most)
 
 returns-3 : tie.Need-returns-3
 returns-3 c = search (goes-on, stop-formed, stop-unmet)

@@ -1,0 +1,73 @@
+-- `checker::run::check_each` meets its contract: what is left to check after i words is answered as the whole plan is.
+use Prim.Native.Nat.{_≤_, _-_}
+use borrow.Author.Needs.{needs}
+use lib.ListN.{length}
+use Rattle.checker.proofs.Reaching.{reached-start, reached-small, reached-tally, reached-fault, stop-byte, reached-next, reached-end}
+use Rattle.checker.specs.Steps.{Reached}
+use Rattle.checker.proofs.run.check_each.Statement.{statement}
+use Rattle.checker.proofs.run.check_each.Tie as tie
+
+abbrev Inv-loop : tie.InvT-loop
+Inv-loop day z limits plan s₀ met₀ i₀ s met i = (i ≤ length plan) × Reached day plan i s met
+
+abbrev μ-loop : tie.MeasureT-loop
+μ-loop day z limits plan s₀ met₀ i₀ s met i = length plan - i
+
+first-state-requires : tie.Need-first-state-requires Inv-loop μ-loop
+first-state-requires c κs = search needs
+
+no-stops-requires : tie.Need-no-stops-requires Inv-loop μ-loop
+no-stops-requires c κs = search needs
+
+loop-holds : tie.Need-loop-holds Inv-loop μ-loop
+loop-holds c = (search needs, search reached-start)
+
+mul-word-step : tie.Need-mul-word-step Inv-loop μ-loop
+mul-word-step c = search needs
+
+shared-slice-read-word-step : tie.Need-shared-slice-read-word-step Inv-loop μ-loop
+shared-slice-read-word-step c = search needs
+
+word-step-requires : tie.Need-word-step-requires Inv-loop μ-loop
+word-step-requires c κs = (search needs, search needs, search reached-small)
+
+returns : tie.Need-returns Inv-loop μ-loop
+returns c = search reached-fault
+
+array-write-met : tie.Need-array-write-met Inv-loop μ-loop
+array-write-met c = search stop-byte
+
+add-i : tie.Need-add-i Inv-loop μ-loop
+add-i c = search needs
+
+loop-less : tie.Need-loop-less Inv-loop μ-loop
+loop-less c = search needs
+
+loop-again : tie.Need-loop-again Inv-loop μ-loop
+loop-again c = (search needs, search reached-next)
+
+finish-requires : tie.Need-finish-requires Inv-loop μ-loop
+finish-requires c κs = search reached-tally
+
+returns-2 : tie.Need-returns-2 Inv-loop μ-loop
+returns-2 c = search reached-end
+
+pub check-each-spec : {M : Type 1} → statement M
+check-each-spec =
+    tie.close
+    (tie.spec
+    Inv-loop
+    μ-loop
+    first-state-requires
+    no-stops-requires
+    loop-holds
+    mul-word-step
+    shared-slice-read-word-step
+    word-step-requires
+    returns
+    array-write-met
+    add-i
+    loop-less
+    loop-again
+    finish-requires
+    returns-2)
