@@ -1,11 +1,12 @@
 -- The readers over a day's layout, and byte reading: one law for each of them.
 -- Assumes nothing.
 use Prim.Native.Nat.{ℕ, _+_, _-_, _*_, _/_, _%_, _<_, _≤_}
-use mathlib.Core.Path.{_≡_, refl, ap}
+use mathlib.Core.Path.{_≡_, refl, ap, _∙_}
 use mathlib.Core.List.{List, [], _∷_}
 use native.Mathlib.Numerals.{add-one}
 use native.Mathlib.Omega.{arith}
-use lib.ListN.{length, getD, set}
+use lib.ListN.{length, getD, set, take, drop}
+use lib.Seq.{getD-take, getD-drop}
 use borrow.Author.Tests.{le-leb, lt-leb, ne-eqb}
 use Rattle.laws.specs.Answers.{given, refused}
 use Rattle.laws.specs.Buffer.{over, Wrote}
@@ -69,6 +70,15 @@ module _ (day : List ℕ) (z : Layout) where
   leg-read p q h e =
       let word = rw (h .legsAre, h .placesAre) at e in
       record { takes = ap minutesOf word; spans = ap distanceOf word }
+
+  -- the same, read from the legs alone
+  pub leg-cut : (p q : ℕ) {w : ℕ} → LayoutOf day z → p < z .places → q < z .places
+      → w ≡ getD (take (length day - z .legs) (drop (z .legs) day)) (p * z .places + q) 0
+      → LegOf day p q (record { minutes = w / 65536 % 4096; distance = w % 65536 })
+  leg-cut p q h hp hq e =
+      let at : z .legs + (p * z .places + q) ≡ z .legs + p * z .places + q = omega arith in
+      let below : p * z .places + q < length day - z .legs = omega (arith, leg-at p q h hp hq) in
+      leg-read p q h (e ∙ getD-take _ _ _ 0 below ∙ getD-drop _ day _ 0 ∙ ap (λ (i : ℕ). getD day i 0) at)
 
 -- one word more
 pub words-start : (bytes words : List ℕ) → Wrote (byteWords bytes 0) words words 0
