@@ -20,9 +20,7 @@ use Rattle.checker.specs.declared.steps.Step.{Step}
 use Rattle.checker.specs.declared.walk.Cargo.{Cargo}
 use Rattle.checker.specs.declared.walk.Tally.{Tally}
 use Rattle.checker.specs.declared.walk.Trip.{Trip}
-use Rattle.checker.proofs.Passing.{Passes}
 use Rattle.checker.proofs.Reaching.{stop-byte, reached-next, reached-passed, reached-small, reached-tally, reached-end}
-use Rattle.checker.proofs.WordForms.{vehicle-read}
 
 -- a tally with so many stops served
 abbrev servedTo : Tally → ℕ → Tally

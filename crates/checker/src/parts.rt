@@ -9,7 +9,6 @@ ghost use Rattle.checker.specs.Cargo.{empty};
 ghost use Rattle.checker.specs.Steps.{LimitsOf, outWith, PartTo, Reached, ToldAll};
 ghost use Rattle.checker.specs.Trip.{leaving};
 use crate::cargo::Limits;
-use crate::cargo::limits_of;
 use crate::cargo::nothing;
 use crate::cargo::same_cargo;
 use crate::run::first_state;

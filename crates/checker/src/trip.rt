@@ -78,7 +78,7 @@ fn visit(
     requires { ⌜ LayoutOf (now day) z × TripWithin (now day) 4096 t × (place < z .places) × WindowOf (now day) place hours × (minutes ≡ service (now day) place) ⌝ }
     ensures { λ r. ⌜ DrivenTo (visitFault (now (day .entry)) t place) (visited (now (day .entry)) t place) r ⌝ }
 {
-    let leg = day::fields::leg_between(day, z, t.place, place);
+    let leg = day::fields::leg_from_legs(day, z, t.place, place);
     let start = later(t.minute + leg.minutes, hours.opening);
     if hours.closing < start {
         return at_fault(11);
@@ -154,7 +154,7 @@ pub fn back(day: &[u32], z: day::fields::Layout, t: Trip) -> Driven
     requires { ⌜ LayoutOf (now day) z × TripWithin (now day) 4096 t ⌝ }
     ensures { λ r. ⌜ DrivenTo (backFault (now (day .entry)) t) (driven (now (day .entry)) t 0 (arrival (now (day .entry)) t 0)) r ⌝ }
 {
-    let leg = day::fields::leg_between(day, z, t.place, 0);
+    let leg = day::fields::leg_from_legs(day, z, t.place, 0);
     let minute = t.minute + leg.minutes;
     if day::fields::depot_window(day, z).closing < minute {
         return at_fault(11);

@@ -137,8 +137,21 @@ pub fn stop_quantity(day: &[u32], z: Layout, k: usize) -> u32
     number_at(day, 6 + 2 * z.tips + 3 * k)
 }
 
-// The leg from place p to place q. The legs are cut off first: where they begin is then reckoned once for many legs.
+// The leg from place p to place q.
 pub fn leg_between(day: &[u32], z: Layout, p: usize, q: usize) -> Leg
+    requires { ⌜ LayoutOf (now day) z × (p < z .places) × (q < z .places) ⌝ }
+    ensures { λ r. ⌜ LegOf (now (day .entry)) p q r ⌝ }
+{
+    let w = day[z.legs + p * z.places + q];
+    Leg {
+        minutes: w / 65536 % 4096,
+        distance: w % 65536,
+    }
+}
+
+// The same leg, read from the legs alone. Quicker for a walk that reads a leg at each word: where the legs begin is reckoned once and
+// kept. Slower where the loop has no room to keep it, as when stops are weighed against each other.
+pub fn leg_from_legs(day: &[u32], z: Layout, p: usize, q: usize) -> Leg
     requires { ⌜ LayoutOf (now day) z × (p < z .places) × (q < z .places) ⌝ }
     ensures { λ r. ⌜ LegOf (now (day .entry)) p q r ⌝ }
 {

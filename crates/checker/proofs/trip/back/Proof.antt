@@ -4,8 +4,8 @@ use Rattle.checker.proofs.Driving.{back-late, back-unrested, back-kept}
 use Rattle.checker.proofs.trip.back.Statement.{statement}
 use Rattle.checker.proofs.trip.back.Tie as tie
 
-leg-between-requires : tie.Need-leg-between-requires
-leg-between-requires c κs = search needs
+leg-from-legs-requires : tie.Need-leg-from-legs-requires
+leg-from-legs-requires c κs = search needs
 
 add-minute : tie.Need-add-minute
 add-minute c = search needs
@@ -38,7 +38,7 @@ pub back-spec : {M : Type 1} → statement M
 back-spec =
     tie.close
     (tie.spec
-    leg-between-requires
+    leg-from-legs-requires
     add-minute
     depot-window-requires
     at-fault-requires

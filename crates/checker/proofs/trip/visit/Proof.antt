@@ -4,8 +4,8 @@ use Rattle.checker.proofs.Driving.{visit-late, visit-kept}
 use Rattle.checker.proofs.trip.visit.Statement.{statement}
 use Rattle.checker.proofs.trip.visit.Tie as tie
 
-leg-between-requires : tie.Need-leg-between-requires
-leg-between-requires c κs = search needs
+leg-from-legs-requires : tie.Need-leg-from-legs-requires
+leg-from-legs-requires c κs = search needs
 
 add-later : tie.Need-add-later
 add-later c = search needs
@@ -32,7 +32,7 @@ pub visit-spec : {M : Type 1} → statement M
 visit-spec =
     tie.close
     (tie.spec
-    leg-between-requires
+    leg-from-legs-requires
     add-later
     later-requires
     at-fault-requires
