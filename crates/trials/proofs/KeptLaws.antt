@@ -117,7 +117,7 @@ pub candidate-fits : {day : List ℕ} {m : Trial} {rounds : List Round} {p part 
 candidate-fits a g = words-fit (a .written g .text)
 
 -- a part from the front
-front-part : (n : ℕ) (xs : List ℕ) → take (n - 0) (drop 0 xs) ≡ take n xs
+pub front-part : (n : ℕ) (xs : List ℕ) → take (n - 0) (drop 0 xs) ≡ take n xs
 front-part n xs = let e : n - 0 ≡ n = omega arith in ap (λ (k : ℕ). take k xs) e
 
 -- what the trial comes to

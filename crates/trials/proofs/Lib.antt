@@ -20,11 +20,13 @@ pub mod Promises
 pub mod RewalkLaws
 pub mod RideLaws
 pub mod RoundLists
+pub mod SearchSteps
 pub mod Searching
 pub mod ShapeKept
 pub mod Shapes
 pub mod ShorterLaws
 pub mod SurveyLaws
+pub mod TakeOverLaws
 pub mod TaskPlaces
 pub mod TipRests
 pub mod TrialCases

@@ -44,7 +44,7 @@ whole-list day K rounds =
 
 module _ (z : Layout) (K : ℕ) (table starts vehicles plan : List ℕ) (count : ℕ) where
   -- the tables of a plan that trials find and leave
-  pub plan-tables : (day : List ℕ) (rounds : List Round) (lefts distances : List ℕ) → LayoutOf day z → IsAccepted day → K ≤ 50 → Shaped day rounds
+  unfoldable pub plan-tables : (day : List ℕ) (rounds : List Round) (lefts distances : List ℕ) → LayoutOf day z → IsAccepted day → K ≤ 50 → Shaped day rounds
       → TableOf day K table → Surveyed day rounds starts vehicles distances count → plan ≡ planWords rounds lefts → PlanTables z K table starts vehicles plan count
   plan-tables day rounds lefts distances layout accepted close shaped tableIs surveyed text =
       let most = accepted-ranges day accepted .stopsMost in

@@ -7,6 +7,7 @@ pub mod Listing
 pub mod Neighbours
 pub mod Rewalks
 pub mod Search
+pub mod Searches
 pub mod Shapes
 pub mod Survey
 pub mod Tables

@@ -12,13 +12,13 @@ ghost use Rattle.builder.specs.Build.{doing, resting};
 ghost use Rattle.builder.specs.Tips.{nearestTip};
 ghost use Rattle.trials.specs.Cabs.{SomeStanding, Drives};
 ghost use Rattle.trials.specs.Walk.{inserting, exceeds, walkTask, walkHome};
-use checker::walk::Trip;
-use day::fields::Layout;
 use builder::home::is_due;
 use builder::home::rest_if_due;
 use builder::home::visit;
 use builder::home::visit_stop;
 use builder::tips::nearest_tip;
+use checker::walk::Trip;
+use day::fields::Layout;
 
 // Where and when the vehicle is, its load, how many words it has, and whether the trial has failed.
 pub struct Cab {

@@ -4,6 +4,7 @@ pub mod candidate;
 pub mod edits;
 pub mod listing;
 pub mod neighbours;
+pub mod search;
 pub mod survey;
 pub mod tries;
 pub mod vehicle;

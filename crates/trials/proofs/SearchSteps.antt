@@ -1,0 +1,215 @@
+-- One step of the search: the list is at its end, the budget is gone, a trial gives no plan, or its plan is kept. Assumes nothing.
+use Prim.Native.Nat.{ℕ, _+_, _-_, _*_, _≤_, _<_}
+use mathlib.Core.Path.{_≡_, refl, sym, ap, _∙_, subst}
+use mathlib.Core.Bool.{Bool, true, false, true≢false, not}
+use mathlib.Core.Logic.{inl, inr}
+use mathlib.Core.List.{List, [], _∷_}
+use mathlib.Core.Option.{Option, none, some}
+use native.Mathlib.Omega.{arith}
+use lib.ListN.{length, length-append, take, drop}
+use borrow.Author.Tests.{not-true, not-false}
+use Rattle.laws.specs.Lists.{Every}
+use Rattle.laws.specs.Tests.{if_then_else_}
+use Rattle.builder.proofs.Decided.{known}
+use Rattle.day.specs.Accepted.{IsAccepted}
+use Rattle.day.specs.Layout.{LayoutOf}
+use Rattle.day.specs.declared.fields.Layout.{Layout}
+use Rattle.day.proofs.Ranges.{accepted-ranges}
+use Rattle.checker.specs.Plan.{Round, roundWords, roundsWords, planWords}
+use Rattle.builder.proofs.GreedyRoom.{round-length}
+use Rattle.builder.specs.Build.{greedyRounds, greedyLefts}
+use Rattle.trials.specs.Attempts.{distanceOf, attempt}
+use Rattle.trials.specs.Candidates.{Trying}
+use Rattle.trials.specs.Edits.{Trial}
+use Rattle.trials.specs.Listing.{PlanTables, CursorFits, ListAnswer}
+use Rattle.trials.specs.Search.{Result, run, improve}
+use Rattle.trials.specs.Searches.{PlanAt, SomePlanAt, TakenOver, TakesOver, fromGreedy, Going, Searching, AfterTrial}
+use Rattle.trials.specs.Shapes.{Shaped, Valid}
+use Rattle.trials.specs.Survey.{Surveyed}
+use Rattle.trials.specs.Tables.{TableOf}
+use Rattle.trials.specs.TrialList.{trialList}
+use Rattle.trials.specs.TrialRest.{restOf, listStart, trialOf}
+use Rattle.trials.specs.Tries.{Measured, Made, SomeMade, TriedAs}
+use Rattle.trials.specs.declared.listing.Cursor.{Cursor}
+use Rattle.trials.specs.declared.listing.Listed.{Listed}
+use Rattle.trials.specs.declared.search.Search.{Search}
+use Rattle.trials.specs.declared.tries.Tried.{Tried}
+use Rattle.trials.proofs.ListRests.{whole-list, plan-tables, start-valid, next-valid, valid-names, Names}
+use Rattle.trials.proofs.Searching.{run-nil, loop-none, loop-some, loop-spent}
+use Rattle.trials.proofs.ShapeKept.{valid-shaped}
+use Rattle.trials.proofs.TakeOverLaws.{slice-is}
+use Rattle.trials.proofs.Promises.{attempt-kept}
+
+-- the tables of the plan held
+module _ {day : List ℕ} {z : Layout} {K budget : ℕ} {table plan starts vehicles distances : List ℕ} {s : Search}
+    (layout : LayoutOf day z) (ok : IsAccepted day) (close : K ≤ 50) (t : TableOf day K table) (h : Searching day K budget plan starts vehicles distances s) where
+  pub held-tables : PlanTables z K table starts vehicles (take (s .words - 0) (drop 0 plan)) (s .count)
+  held-tables =
+      plan-tables z K table starts vehicles (take (s .words - 0) (drop 0 plan)) (s .count) day (h .rounds) (greedyLefts day) distances layout ok close
+      (h .held .planAt .shaped) t (h .held .surveyed) (slice-is (h .held .planAt))
+
+  -- the search ends
+  pub ends-settled : (r : Search) → s .ended ≡ false → {l : Listed} → ListAnswer z K table starts vehicles (take (s .words - 0) (drop 0 plan)) (s .count) (s .cursor) l → l .found ≡ false
+      → r .words ≡ s .words → r .count ≡ s .count → r .distance ≡ s .distance → r .made ≡ s .made → r .ended ≡ true → r .settled ≡ true
+      → Searching day K budget plan starts vehicles distances r
+  unfolding plan-tables held-tables
+  ends-settled r g a f w c d m e q =
+      let rest = a .tells held-tables .none f .0 in
+      let same = (h .going g) .same in
+      record {
+        rounds = h .rounds;
+        held = subst (λ (n : ℕ). TakenOver day plan n (h .rounds) starts vehicles distances (r .count)) (sym w)
+            (subst (λ (n : ℕ). TakenOver day plan (s .words) (h .rounds) starts vehicles distances n) (sym c) (h .held));
+        drives = d ∙ h .drives;
+        within = omega (arith, m, h .within);
+        going = λ n. absurd (true≢false (sym e ∙ n));
+        done = λ _. rw (m, q) (sym (run-nil (trialList day K) (attempt day (greedyLefts day)) (budget - s .made) (h .rounds) (s .made)) ∙ rw rest at same);
+      }
+
+  pub ends-spent : (r : Search) → s .ended ≡ false → {l : Listed} → ListAnswer z K table starts vehicles (take (s .words - 0) (drop 0 plan)) (s .count) (s .cursor) l → l .found ≡ true
+      → s .made ≡ budget → r .words ≡ s .words → r .count ≡ s .count → r .distance ≡ s .distance → r .made ≡ s .made → r .ended ≡ true → r .settled ≡ false
+      → Searching day K budget plan starts vehicles distances r
+  unfolding plan-tables held-tables
+  ends-spent r g {l} a f b w c d m e q =
+      let rest = a .tells held-tables .some f in
+      let same = (h .going g) .same in
+      record {
+        rounds = h .rounds;
+        held = subst (λ (n : ℕ). TakenOver day plan n (h .rounds) starts vehicles distances (r .count)) (sym w)
+            (subst (λ (n : ℕ). TakenOver day plan (s .words) (h .rounds) starts vehicles distances n) (sym c) (h .held));
+        drives = d ∙ h .drives;
+        within = omega (arith, m, h .within);
+        going = λ n. absurd (true≢false (sym e ∙ n));
+        done = λ _. rw (m, q) (sym (loop-spent (trialList day K) (attempt day (greedyLefts day)) budget (h .rounds) (trialOf (l .trial)) (restOf day K (h .rounds) (l .next)) (s .made) b)
+            ∙ rw rest at same);
+      }
+
+  -- the next trial may be made
+  module _ {l : Listed} (g : s .ended ≡ false) (a : ListAnswer z K table starts vehicles (take (s .words - 0) (drop 0 plan)) (s .count) (s .cursor) l) (f : l .found ≡ true) where
+    next-is : restOf day K (h .rounds) (s .cursor) ≡ trialOf (l .trial) ∷ restOf day K (h .rounds) (l .next)
+    unfolding plan-tables held-tables
+    next-is = a .tells held-tables .some f
+
+    next-may : Valid day (h .rounds) (trialOf (l .trial)) × Every (Valid day (h .rounds)) (restOf day K (h .rounds) (l .next))
+    next-may = next-valid day (h .rounds) K (s .cursor) (l .next) (l .trial) next-is ((h .going g) .valid)
+
+    pub trial-names : Names day (h .rounds) (l .trial)
+    trial-names = valid-names day (h .rounds) (l .trial) (accepted-ranges day ok .stopsMost) (next-may .0)
+
+    trial-made : Made day (take (s .words - 0) (drop 0 plan)) starts distances (trialOf (l .trial)) (s .count) (s .distance) (h .rounds)
+    trial-made =
+        let v = h .held .surveyed in
+        record {
+          measured = record {
+            trying = record { shaped = h .held .planAt .shaped; valid = next-may .0; are = slice-is (h .held .planAt); starting = v .starting; table = v .startsSize };
+            driven = v .driven;
+            measures = v .distancesSize;
+          };
+          counted = v .counted;
+          drives = h .drives;
+        }
+
+    pub some-made : SomeMade day (take (s .words - 0) (drop 0 plan)) starts distances (trialOf (l .trial)) (s .count) (s .distance)
+    some-made = record { rounds = h .rounds; made = trial-made }
+
+    pub after-made : {work : List ℕ} (r : Tried) → (s .made ≡ budget → ⊥)
+        → ((rounds : List Round) → Made day (take (s .words - 0) (drop 0 plan)) starts distances (trialOf (l .trial)) (s .count) (s .distance) rounds
+        → TriedAs day (trialOf (l .trial)) rounds work r)
+        → AfterTrial day K budget work plan starts vehicles distances s (l .next) r
+    after-made r b y =
+        record {
+          rounds = h .rounds;
+          held = h .held;
+          drives = h .drives;
+          left = omega (arith, b, h .within);
+          m = trialOf (l .trial);
+          ms = next-is;
+          valid = next-may .1;
+          mayBe = next-may .0;
+          fits = a .fits;
+          triedAs = y (h .rounds) trial-made;
+          same = (h .going g) .same;
+        }
+
+-- the list can begin with any plan
+pub start-cursor : {day starts vehicles distances : List ℕ} {count : ℕ} (rounds : List Round) → Surveyed day rounds starts vehicles distances count → CursorFits starts count listStart
+unfolding roundsWords
+start-cursor [] v = record { first = omega arith; tipFits = λ l. absurd (omega (arith, v .counted)) }
+start-cursor (tasks ∷ rounds) v =
+    record {
+      first = omega arith;
+      tipFits = λ l. omega (arith, v .starting 0 (omega arith), v .starting (0 + 1) (omega arith), round-length 1 tasks, length-append (roundWords 1 tasks) []);
+    }
+
+-- a trial was made
+module _ {day : List ℕ} {K budget : ℕ} {work plan starts vehicles distances : List ℕ} {s : Search} {next : Cursor} {tried : Tried}
+    (h : AfterTrial day K budget work plan starts vehicles distances s next tried) where
+  -- no plan is kept, and the list goes on
+  pub goes-on : (r : Search) → tried .kept ≡ false → r .words ≡ s .words → r .count ≡ s .count → r .distance ≡ s .distance → r .made ≡ s .made + 1 → r .cursor ≡ next → r .ended ≡ false
+      → Searching day K budget plan starts vehicles distances r
+  goes-on r k w c d m n e =
+      let turn =
+      loop-none (trialList day K) (attempt day (greedyLefts day)) budget (h .rounds) (h .m) (restOf day K (h .rounds) next) (s .made) (h .left) (h .triedAs .none k) in
+      record {
+        rounds = h .rounds;
+        held = subst (λ (x : ℕ). TakenOver day plan x (h .rounds) starts vehicles distances (r .count)) (sym w)
+            (subst (λ (x : ℕ). TakenOver day plan (s .words) (h .rounds) starts vehicles distances x) (sym c) (h .held));
+        drives = d ∙ h .drives;
+        within = omega (arith, m, h .left);
+        going = λ _. record {
+          fits = rw (c, n) (h .fits);
+          valid = rw n (h .valid);
+          same = rw (m, n) (sym turn ∙ rw (h .ms) at (h .same));
+        };
+        done = λ y. absurd (true≢false (sym y ∙ e));
+      }
+
+  -- the trial's plan, which is kept
+  pub kept-plan : tried .kept ≡ true → SomePlanAt day work (tried .words)
+  kept-plan k =
+      let a = h .triedAs .some k in
+      let given = attempt-kept day (greedyLefts day) (h .rounds) (h .m) (a .q) (a .is) .given in
+      record {
+        rounds = a .q;
+        planAt = record { shaped = valid-shaped day (h .rounds) (a .q) (h .m) (h .held .planAt .shaped) (h .mayBe) given; fits = a .fits; text = a .text };
+      }
+
+  pub keeps-plan : {now begins owners drives : List ℕ} (r : Search) (k : tried .kept ≡ true) → IsAccepted day
+      → TakesOver day work (tried .words) now begins owners drives (r .count)
+      → r .words ≡ tried .words → r .distance ≡ tried .distance → r .made ≡ s .made + 1 → r .cursor ≡ listStart → r .ended ≡ false
+      → Searching day K budget now begins owners drives r
+  unfolding kept-plan
+  keeps-plan {now} {begins} {owners} {drives} r k ok f w d m n e =
+      let a = h .triedAs .some k in
+      let p = kept-plan k in
+      let over = f (a .q) (p .planAt) in
+      let turn =
+      loop-some (trialList day K) (attempt day (greedyLefts day)) budget (h .rounds) (a .q) (h .m) (restOf day K (h .rounds) next) (s .made) (h .left) (a .is) in
+      record {
+        rounds = a .q;
+        held = subst (λ (x : ℕ). TakenOver day now x (a .q) begins owners drives (r .count)) (sym w) over;
+        drives = d ∙ a .distance;
+        within = omega (arith, m, h .left);
+        going = λ _. record {
+          fits = rw n (start-cursor (a .q) (over .surveyed));
+          valid = rw n (start-valid day (a .q) K (p .planAt .shaped));
+          same = rw (m, n, whole-list day K (a .q)) (sym turn ∙ rw (h .ms) at (h .same));
+        };
+        done = λ y. absurd (true≢false (sym y ∙ e));
+      }
+
+-- whether the search goes on
+pub is-on : {ended going : Bool} → going ≡ not ended → going ≡ true → ended ≡ false
+is-on {ended} e y = not-true ended (sym e ∙ y)
+
+pub is-off : {ended going : Bool} → going ≡ not ended → going ≡ false → ended ≡ true
+is-off {ended} e n = not-false ended (sym e ∙ n)
+
+-- each step makes a trial or ends the search
+pub fewer-left : {day : List ℕ} {K budget : ℕ} {plan starts vehicles distances : List ℕ} (s r : Search) → s .ended ≡ false
+    → Searching day K budget plan starts vehicles distances r → (r .ended ≡ false → s .made < r .made)
+    → (if r .ended then 0 else budget - r .made + 1) < (if s .ended then 0 else budget - s .made + 1)
+fewer-left {budget = budget} s r g h l = elim (known (r .ended)) [
+  | inl y ↦ rw (g, y) (omega arith)
+  | inr n ↦ rw (g, n) (omega (arith, l n, h .within))
+]

@@ -1,0 +1,76 @@
+-- The search while it goes on, as the code has it. It serves the contracts of this crate's own functions. Assumes nothing.
+use Prim.Native.Nat.{ℕ, _-_, _≤_, _<_}
+use mathlib.Core.Path.{_≡_}
+use mathlib.Core.Bool.{true, false}
+use mathlib.Core.List.{List, _∷_}
+use lib.ListN.{length, take}
+use Rattle.laws.specs.Lists.{Every}
+use Rattle.checker.specs.Plan.{Round, planWords}
+use Rattle.builder.specs.Build.{greedyRounds, greedyLefts}
+use Rattle.trials.specs.Attempts.{distanceOf, attempt}
+use Rattle.trials.specs.Edits.{Trial}
+use Rattle.trials.specs.Listing.{CursorFits}
+use Rattle.trials.specs.Search.{Result, run, improve}
+use Rattle.trials.specs.Shapes.{Shaped, Valid}
+use Rattle.trials.specs.Survey.{Surveyed}
+use Rattle.trials.specs.TrialList.{trialList}
+use Rattle.trials.specs.TrialRest.{restOf}
+use Rattle.trials.specs.Tries.{TriedAs}
+use Rattle.trials.specs.declared.listing.Cursor.{Cursor}
+use Rattle.trials.specs.declared.search.Search.{Search}
+use Rattle.trials.specs.declared.tries.Tried.{Tried}
+
+-- a plan of these words is one that trials work on
+pub record PlanAt (day buffer : List ℕ) (words : ℕ) (rounds : List Round) : Type 0 where
+  pub shaped : Shaped day rounds
+  pub fits : words ≤ length buffer
+  pub text : take words buffer ≡ planWords rounds (greedyLefts day)
+
+pub record SomePlanAt (day buffer : List ℕ) (words : ℕ) : Type 0 where
+  pub rounds : List Round
+  pub planAt : PlanAt day buffer words rounds
+
+-- the plan is taken over, and its tables are made
+pub record TakenOver (day plan : List ℕ) (words : ℕ) (rounds : List Round) (starts vehicles distances : List ℕ) (count : ℕ) : Type 0 where
+  pub planAt : PlanAt day plan words rounds
+  pub surveyed : Surveyed day rounds starts vehicles distances count
+
+-- so it is, whatever vehicles have these words
+abbrev pub TakesOver : List ℕ → List ℕ → ℕ → List ℕ → List ℕ → List ℕ → List ℕ → ℕ → Type 0
+TakesOver day buffer words plan starts vehicles distances count =
+    (rounds : List Round) → PlanAt day buffer words rounds → TakenOver day plan words rounds starts vehicles distances count
+
+-- document 01's search with one neighbourhood
+abbrev pub fromGreedy : List ℕ → ℕ → ℕ → Result (List Round)
+fromGreedy day K budget = improve (trialList day K) (attempt day (greedyLefts day)) budget (greedyRounds day)
+
+-- trials are still to be made of the plan held
+pub record Going (day : List ℕ) (K budget : ℕ) (starts : List ℕ) (rounds : List Round) (s : Search) : Type 0 where
+  pub fits : CursorFits starts (s .count) (s .cursor)
+  pub valid : Every (Valid day rounds) (restOf day K rounds (s .cursor))
+  pub same :
+      run (trialList day K) (attempt day (greedyLefts day)) (budget - s .made) rounds (restOf day K rounds (s .cursor)) (s .made) ≡ fromGreedy day K budget
+
+-- the search, going on or ended
+pub record Searching (day : List ℕ) (K budget : ℕ) (plan starts vehicles distances : List ℕ) (s : Search) : Type 0 where
+  pub rounds : List Round
+  pub held : TakenOver day plan (s .words) rounds starts vehicles distances (s .count)
+  pub drives : s .distance ≡ distanceOf day rounds
+  pub within : s .made ≤ budget
+  pub going : s .ended ≡ false → Going day K budget starts rounds s
+  pub done : s .ended ≡ true → record { plan = rounds; trials = s .made; settled = s .settled } ≡ fromGreedy day K budget
+
+-- a trial of the plan held was made, and the list goes on behind it
+pub record AfterTrial (day : List ℕ) (K budget : ℕ) (work plan starts vehicles distances : List ℕ) (s : Search) (next : Cursor) (tried : Tried) : Type 0 where
+  pub rounds : List Round
+  pub held : TakenOver day plan (s .words) rounds starts vehicles distances (s .count)
+  pub drives : s .distance ≡ distanceOf day rounds
+  pub left : s .made < budget
+  pub m : Trial
+  pub ms : restOf day K rounds (s .cursor) ≡ m ∷ restOf day K rounds next
+  pub valid : Every (Valid day rounds) (restOf day K rounds next)
+  pub mayBe : Valid day rounds m
+  pub fits : CursorFits starts (s .count) next
+  pub triedAs : TriedAs day m rounds work tried
+  pub same :
+      run (trialList day K) (attempt day (greedyLefts day)) (budget - s .made) rounds (restOf day K rounds (s .cursor)) (s .made) ≡ fromGreedy day K budget
