@@ -5,6 +5,7 @@ pub mod CopyLaws
 pub mod EditLaws
 pub mod EditSuits
 pub mod Gains
+pub mod ImproveLaws
 pub mod KeptLaws
 pub mod KeyLaws
 pub mod ListLength

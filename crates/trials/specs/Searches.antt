@@ -2,8 +2,8 @@
 use Prim.Native.Nat.{ℕ, _-_, _≤_, _<_}
 use mathlib.Core.Path.{_≡_}
 use mathlib.Core.Bool.{true, false}
-use mathlib.Core.List.{List, _∷_}
-use lib.ListN.{length, take}
+use mathlib.Core.List.{List, _∷_, _++_}
+use lib.ListN.{length, take, replicate}
 use Rattle.laws.specs.Lists.{Every}
 use Rattle.checker.specs.Plan.{Round, planWords}
 use Rattle.builder.specs.Build.{greedyRounds, greedyLefts}
@@ -74,3 +74,15 @@ pub record AfterTrial (day : List ℕ) (K budget : ℕ) (work plan starts vehicl
   pub triedAs : TriedAs day m rounds work tried
   pub same :
       run (trialList day K) (attempt day (greedyLefts day)) (budget - s .made) rounds (restOf day K rounds (s .cursor)) (s .made) ≡ fromGreedy day K budget
+
+-- the greedy plan is held, and no trial is made yet
+abbrev pub BeginsAll : List ℕ → List ℕ → List ℕ → List ℕ → List ℕ → Search → Type 0
+BeginsAll day plan starts vehicles distances s = (K budget : ℕ) → Searching day K budget plan starts vehicles distances s
+
+-- the plan that the search hands over fills the buffer, with zeros behind it
+pub record Improved (day : List ℕ) (K budget : ℕ) (plan : List ℕ) (r : Search) : Type 0 where
+  pub rounds : List Round
+  pub is : record { plan = rounds; trials = r .made; settled = r .settled } ≡ fromGreedy day K budget
+  pub count : r .words ≡ length (planWords rounds (greedyLefts day))
+  pub distance : r .distance ≡ distanceOf day rounds
+  pub text : plan ≡ planWords rounds (greedyLefts day) ++ replicate (length plan - r .words) 0

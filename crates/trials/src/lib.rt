@@ -2,6 +2,7 @@
 pub mod cabs;
 pub mod candidate;
 pub mod edits;
+pub mod improve;
 pub mod listing;
 pub mod neighbours;
 pub mod search;

@@ -1,0 +1,56 @@
+-- The search from the greedy plan to the plan that is handed over. Assumes nothing.
+use Prim.Native.Nat.{ℕ, _-_, _*_, _≤_}
+use mathlib.Core.Path.{_≡_, refl, sym, ap, _∙_, subst}
+use mathlib.Core.Bool.{true, false, true≢false}
+use mathlib.Core.List.{List, [], _∷_, _++_, append-nil}
+use native.Mathlib.Omega.{arith}
+use lib.ListN.{length, take, drop, replicate}
+use lib.Seq.{drop-length}
+use Rattle.day.specs.Accepted.{IsAccepted}
+use Rattle.checker.specs.Plan.{Round, planWords}
+use Rattle.builder.specs.Build.{greedyRounds, greedyLefts}
+use Rattle.trials.specs.Attempts.{distanceOf, attempt}
+use Rattle.trials.specs.Searches.{PlanAt, TakenOver, fromGreedy, Searching, Improved}
+use Rattle.trials.specs.Survey.{SurveysAll}
+use Rattle.trials.specs.TrialList.{trialList}
+use Rattle.trials.specs.TrialRest.{listStart}
+use Rattle.trials.specs.declared.search.Search.{Search}
+use Rattle.trials.proofs.ListRests.{whole-list, start-valid}
+use Rattle.trials.proofs.SearchSteps.{start-cursor}
+use Rattle.trials.proofs.Searching.{loop-start}
+use Rattle.trials.proofs.TakeOverLaws.{plan-words, taken-over}
+
+-- the greedy plan is held
+pub begins : {day plan starts vehicles distances : List ℕ} (s : Search) → IsAccepted day → PlanAt day plan (s .words) (greedyRounds day)
+    → SurveysAll day (take (s .words - 0) (drop 0 plan)) starts vehicles distances (s .count) → s .distance ≡ distanceOf day (greedyRounds day)
+    → s .made ≡ 0 → s .cursor ≡ listStart → s .ended ≡ false → (K budget : ℕ) → Searching day K budget plan starts vehicles distances s
+begins {day} s ok p f d m n e K budget =
+    let over = taken-over ok p f in
+    record {
+      rounds = greedyRounds day;
+      held = over;
+      drives = d;
+      within = omega (arith, m);
+      going = λ _. record {
+        fits = rw n (start-cursor (greedyRounds day) (over .surveyed));
+        valid = rw n (start-valid day (greedyRounds day) K (p .shaped));
+        same = rw (m, n, whole-list day K (greedyRounds day)) (loop-start (trialList day K) (attempt day (greedyLefts day)) budget (greedyRounds day));
+      };
+      done = λ y. absurd (true≢false (sym y ∙ e));
+    }
+
+-- the plan is handed over
+pub improved : {day : List ℕ} {K budget : ℕ} {plan now starts vehicles distances : List ℕ} {s : Search} → Searching day K budget plan starts vehicles distances s → s .ended ≡ true
+    → now ≡ (take (s .words) plan ++ replicate (length plan - s .words) 0) ++ drop (length plan) plan → length now ≡ length plan → Improved day K budget now s
+improved {day} {plan = plan} {now = now} {s = s} h e x n =
+    record {
+      rounds = h .rounds;
+      is = h .done e;
+      count = plan-words (h .held .planAt);
+      distance = h .drives;
+      text =
+          x ∙ ap (λ (ws : List ℕ). (take (s .words) plan ++ replicate (length plan - s .words) 0) ++ ws) (drop-length plan)
+          ∙ append-nil (take (s .words) plan ++ replicate (length plan - s .words) 0)
+          ∙ ap (λ (ws : List ℕ). ws ++ replicate (length plan - s .words) 0) (h .held .planAt .text)
+          ∙ ap (λ (k : ℕ). planWords (h .rounds) (greedyLefts day) ++ replicate (k - s .words) 0) (sym n);
+    }
