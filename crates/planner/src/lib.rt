@@ -1,7 +1,11 @@
 // The calls that plan a day: any day, any lent buffers.
+pub mod accepted;
+
 ghost use mathlib.Core.Path.{_≡_};
 ghost use lib.ListN.{length};
 ghost use Rattle.builder.specs.Built.{planValues, buildAnswer, buildBuffer};
+ghost use Rattle.planner.specs.Planned.{planAnswer, planBuffer};
+use crate::accepted::plan_accepted;
 use builder::PlanAnswer;
 use builder::greedy::build_accepted;
 
@@ -15,5 +19,26 @@ pub fn build(day: &[u32], plan: &mut [u32]) -> PlanAnswer
             build_accepted(day, day::fields::layout_of(day), plan)
         }
         day::DayAnswer::Refused { number, place } => PlanAnswer::Refused { number, place },
+    }
+}
+
+// The plan of any day, worked over by trials: neighbourhoods of k stops, as many trials as the budget, buffers of any length.
+pub fn plan(day: &[u32], k: u64, budget: u64, plan: &mut [u32], work: &mut [u32]) -> PlanAnswer
+    ensures answer { λ r. ⌜ planValues r ≡ planAnswer (now (day .entry)) k budget (length (now (plan .entry))) (length (now (work .entry))) ⌝ }
+    ensures buffer { λ r. ⌜ now (plan .exit) ≡ planBuffer (now (day .entry)) k budget (length (now (work .entry))) (now (plan .entry)) ⌝ }
+{
+    match day::judge(day) {
+        day::DayAnswer::Accepted { stops: _, tips: _ } => {
+            plan_accepted(day, day::fields::layout_of(day), k, budget, plan, work)
+        }
+        day::DayAnswer::Refused {
+            number,
+            place: word,
+        } => {
+            PlanAnswer::Refused {
+                number,
+                place: word,
+            }
+        }
     }
 }

@@ -1,0 +1,97 @@
+// Planning with trials on an accepted day.
+ghost use mathlib.Core.Path.{_≡_};
+ghost use Prim.Native.Nat.{_≤_, _<_, _*_};
+ghost use lib.ListN.{length};
+ghost use Rattle.day.specs.Accepted.{IsAccepted};
+ghost use Rattle.day.specs.Layout.{LayoutOf};
+ghost use Rattle.builder.specs.Built.{planValues};
+ghost use Rattle.planner.specs.Planned.{fewNeighbours, longEnough, WorkedOver, plannedAnswer, plannedBuffer};
+use builder::PlanAnswer;
+use builder::greedy::build_accepted;
+use day::fields::Layout;
+use trials::improve::improve;
+
+// The greedy plan, worked over in buffers that are long enough.
+fn work_over(
+    day: &[u32],
+    z: Layout,
+    k: usize,
+    budget: u64,
+    plan: &mut [u32],
+    work: &mut [u32],
+) -> PlanAnswer
+    requires { ⌜ LayoutOf (now day) z × IsAccepted (now day) × (k ≤ 50) × (5 * z .stops ≤ length (now plan)) × (5 * z .stops ≤ length (now work)) ⌝ }
+    ensures { λ r. ⌜ WorkedOver (now (day .entry)) k budget (now (plan .entry)) (now (plan .exit)) (planValues r) ⌝ }
+{
+    let answer = build_accepted(day, z, plan);
+    match answer {
+        PlanAnswer::Planned {
+            distance,
+            trials: _,
+            settled: _,
+            left_out,
+            words,
+        } => {
+            let need = 5 * z.stops;
+            let last = improve(day, z, k, budget, words, distance, &mut plan[0..need], work);
+            PlanAnswer::Planned {
+                distance: last.distance,
+                trials: last.made,
+                settled: last.settled,
+                left_out,
+                words: last.words,
+            }
+        }
+        PlanAnswer::Refused { number, place } => PlanAnswer::Refused { number, place },
+    }
+}
+
+// Whether K is one of 1..50.
+fn is_few(k: u64) -> bool
+    ensures { λ r. ⌜ r ≡ fewNeighbours k ⌝ }
+{
+    if k < 1 {
+        return false;
+    }
+    k <= 50
+}
+
+// Whether both buffers have the words that are needed.
+fn are_long(day: &[u32], z: Layout, room: usize, spare: usize) -> bool
+    requires { ⌜ LayoutOf (now day) z × (z .stops ≤ 240) ⌝ }
+    ensures { λ r. ⌜ r ≡ longEnough (now (day .entry)) room spare ⌝ }
+{
+    let need = 5 * z.stops;
+    if room < need {
+        return false;
+    }
+    need <= spare
+}
+
+// The answer on an accepted day.
+pub fn plan_accepted(
+    day: &[u32],
+    z: Layout,
+    k: u64,
+    budget: u64,
+    plan: &mut [u32],
+    work: &mut [u32],
+) -> PlanAnswer
+    requires { ⌜ LayoutOf (now day) z × IsAccepted (now day) ⌝ }
+    ensures answer { λ r. ⌜ planValues r ≡ plannedAnswer (now (day .entry)) k budget (length (now (plan .entry))) (length (now (work .entry))) ⌝ }
+    ensures buffer { λ r. ⌜ now (plan .exit) ≡ plannedBuffer (now (day .entry)) k budget (length (now (work .entry))) (now (plan .entry)) ⌝ }
+{
+    if is_few(k) {
+        if are_long(day, z, plan.len(), work.len()) {
+            return work_over(day, z, k as usize, budget, plan, work);
+        }
+        return PlanAnswer::Refused {
+            number: 14,
+            place: 5 * z.stops,
+        };
+    }
+    PlanAnswer::Refused {
+        number: 13,
+        place: k as usize,
+    }
+}
