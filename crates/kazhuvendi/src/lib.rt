@@ -10,7 +10,8 @@ ghost use Rattle.day.specs.Day.{judgeDay};
 ghost use Rattle.checker.specs.Check.{checkPlan};
 ghost use Rattle.checker.specs.SameRounds.{sameRounds};
 ghost use Rattle.checker.specs.VehiclePlace.{vehiclePlace};
-ghost use Rattle.builder.specs.Built.{buildAnswer, buildBuffer};
+ghost use Rattle.builder.specs.Built.{planValues, buildAnswer, buildBuffer};
+ghost use Rattle.planner.specs.Planned.{planAnswer, planBuffer};
 
 // All six places of an answer.
 fn write_six(out: &mut [u64; 6], a: u64, b: u64, c: u64, d: u64, e: u64, f: u64)
@@ -112,12 +113,10 @@ pub extern "C" fn kz_same_rounds(day: &[u32], first: &[u32], second: &[u32], out
     }
 }
 
-#[no_mangle]
-pub extern "C" fn kz_build(day: &[u32], plan: &mut [u32], out: &mut [u64; 6])
-    ensures answer { λ r. ⌜ now (out .exit) ≡ inSix (buildAnswer (now (day .entry)) (length (now (plan .entry)))) ⌝ }
-    ensures buffer { λ r. ⌜ now (plan .exit) ≡ buildBuffer (now (day .entry)) (now (plan .entry)) ⌝ }
+// The answer on a plan that was made.
+fn write_plan_answer(answer: builder::PlanAnswer, out: &mut [u64; 6])
+    ensures { λ r. ⌜ now (out .exit) ≡ inSix (planValues answer) ⌝ }
 {
-    let answer = planner::build(day, plan);
     match answer {
         builder::PlanAnswer::Planned {
             distance,
@@ -138,4 +137,29 @@ pub extern "C" fn kz_build(day: &[u32], plan: &mut [u32], out: &mut [u64; 6])
             write_six(out, number as u64, place as u64, 0, 0, 0, 0)
         }
     }
+}
+
+#[no_mangle]
+pub extern "C" fn kz_build(day: &[u32], plan: &mut [u32], out: &mut [u64; 6])
+    ensures answer { λ r. ⌜ now (out .exit) ≡ inSix (buildAnswer (now (day .entry)) (length (now (plan .entry)))) ⌝ }
+    ensures buffer { λ r. ⌜ now (plan .exit) ≡ buildBuffer (now (day .entry)) (now (plan .entry)) ⌝ }
+{
+    let answer = planner::build(day, plan);
+    write_plan_answer(answer, out)
+}
+
+#[no_mangle]
+pub extern "C" fn kz_plan(
+    day: &[u32],
+    k: u64,
+    budget: u64,
+    plan: &mut [u32],
+    work: &mut [u32],
+    out: &mut [u64; 6],
+)
+    ensures answer { λ r. ⌜ now (out .exit) ≡ inSix (planAnswer (now (day .entry)) k budget (length (now (plan .entry))) (length (now (work .entry)))) ⌝ }
+    ensures buffer { λ r. ⌜ now (plan .exit) ≡ planBuffer (now (day .entry)) k budget (length (now (work .entry))) (now (plan .entry)) ⌝ }
+{
+    let answer = planner::plan(day, k, budget, plan, work);
+    write_plan_answer(answer, out)
 }
