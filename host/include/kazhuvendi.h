@@ -42,14 +42,15 @@
  *   12   a vehicle's second rest, a rest that starts too late, or a vehicle
  *        that has not rested and comes back after the rest window; place: the
  *        index of that word
- *   14   the lent buffer is too short; place: the words needed, which are one
+ *   13   the neighbours asked for are not 1 to 50; place: their number
+ *   14   a lent buffer is too short; place: the words needed, which are one
  *        for each 4 bytes that are read, or 5 for each stop that is planned
  *   15   the plan has no such vehicle; place: the number asked for
  *
  * Where several apply the first of this order is given: 1; word 0: 2, 3;
  * then 4; each later word of the day in turn: 2, 5; then 6; each word of the
- * plan in turn: 7 to 12, rising; the plan's end: 7, 8; then 14, 15. Reading
- * bytes gives 1 and 14 alone, in this order.
+ * plan in turn: 7 to 12, rising; the plan's end: 7, 8; then 13, 14, 15.
+ * Reading bytes gives 1 and 14 alone, in this order.
  */
 #ifndef KAZHUVENDI_H
 #define KAZHUVENDI_H
@@ -119,6 +120,26 @@ void kz_same_rounds(const uint32_t *day, size_t n, const uint32_t *first, size_t
  *   out[5]   the words of the plan
  */
 void kz_build(const uint32_t *day, size_t n, uint32_t *plan, size_t room, uint64_t out[6]);
+
+/*
+ * Judges a day of n words, builds its greedy plan and makes it shorter by
+ * trials, of which it makes `budget` at most: stops are moved beside one of
+ * their k nearest neighbours or change places with it, tips are removed and
+ * replaced. A trial is kept where the plan is then lawful and its distance
+ * lower. The plan is written into the beginning of a buffer of `room` words, of
+ * which it needs 5 for each stop of the day. From the plan's end to there the
+ * buffer is then zero; beyond it stays as it was. The working buffer of
+ * `work_room` words needs as many; what it holds then has no meaning.
+ *
+ *   out[1]   the distance, the sum over the legs driven
+ *   out[2]   the trials made
+ *   out[3]   1 if all trials of the plan were made and none kept, 0 if the
+ *            budget was used up before
+ *   out[4]   the stops left out
+ *   out[5]   the words of the plan
+ */
+void kz_plan(const uint32_t *day, size_t n, uint64_t k, uint64_t budget, uint32_t *plan,
+             size_t room, uint32_t *work, size_t work_room, uint64_t out[6]);
 
 #ifdef __cplusplus
 }

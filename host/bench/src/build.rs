@@ -33,7 +33,7 @@ fn day_of(stops: usize) -> Vec<u32> {
     usual_day(&mut Random::new(1), stops, TIPS).words()
 }
 
-fn build(table: &mut Table, name: &'static str, stops: usize) {
+fn build(table: &mut Table, name: &str, stops: usize) {
     let day = day_of(stops);
     let (mut library, mut plain) = (vec![0; 5 * stops], vec![0; 5 * stops]);
     table.row(
@@ -47,7 +47,7 @@ fn build(table: &mut Table, name: &'static str, stops: usize) {
 
 /// The time of the library's judge is taken off, which plain Rust gets before it too, as for the
 /// check of a plan.
-fn build_alone(table: &mut Table, name: &'static str, stops: usize) {
+fn build_alone(table: &mut Table, name: &str, stops: usize) {
     let day = day_of(stops);
     let (mut library, mut plain) = (vec![0; 5 * stops], vec![0; 5 * stops]);
     let judge = || kazhuvendi::judge(black_box(&day)).is_ok();

@@ -46,7 +46,7 @@ fn full_plan(random: &mut Random, day: &Day) -> Vec<u32> {
     }
 }
 
-fn check(table: &mut Table, name: &'static str, day: &[u32], plan: &[u32]) {
+fn check(table: &mut Table, name: &str, day: &[u32], plan: &[u32]) {
     table.row(
         name,
         day.len() + plan.len(),
@@ -57,7 +57,7 @@ fn check(table: &mut Table, name: &'static str, day: &[u32], plan: &[u32]) {
 
 /// The library has no call that leaves the day out, so the time of its judge is taken off. Plain
 /// Rust gets the same judge before it, so that it too finds the day as the judge has left it.
-fn check_alone(table: &mut Table, name: &'static str, day: &[u32], plans: &[Vec<u32>]) {
+fn check_alone(table: &mut Table, name: &str, day: &[u32], plans: &[Vec<u32>]) {
     let judge = |_: &Vec<u32>| kazhuvendi::judge(black_box(day)).is_ok();
     table.row_less(
         name,

@@ -33,7 +33,7 @@ fn refused_at(day: &[u32], index: usize) -> Vec<u32> {
     day
 }
 
-fn judge(table: &mut Table, name: &'static str, day: &[u32]) {
+fn judge(table: &mut Table, name: &str, day: &[u32]) {
     table.row(name, day.len(), || library_judge(black_box(day)), || plain_judge(black_box(day)));
 }
 
@@ -48,7 +48,7 @@ fn plain_judge(day: &[u32]) -> Judged {
     plain::judge(day).map_err(|refusal| (refusal.number, refusal.place))
 }
 
-fn read(table: &mut Table, name: &'static str, file: &[u8]) {
+fn read(table: &mut Table, name: &str, file: &[u8]) {
     let count = file.len() / 4;
     let (mut library, mut plain) = (vec![0; count], vec![0; count]);
     table.row(

@@ -4,11 +4,17 @@ mod build;
 mod check;
 mod day;
 mod table;
+mod trials;
+
+use table::Table;
 
 fn main() {
-    let mut table = table::Table::default();
-    day::rows(&mut table);
-    check::rows(&mut table);
-    build::rows(&mut table);
-    print!("{table}\n{}{}", check::NOTE, build::NOTE);
+    let mut words = Table::of("word");
+    day::rows(&mut words);
+    check::rows(&mut words);
+    build::rows(&mut words);
+    print!("{words}\n{}{}\n", check::NOTE, build::NOTE);
+    let mut trials = Table::of("trial");
+    trials::rows(&mut trials);
+    print!("{trials}\n{}", trials::NOTE);
 }

@@ -15,6 +15,10 @@ mod compare;
 mod days;
 #[path = "../tests/compare/plans.rs"]
 mod plans;
+#[path = "../tests/compare/trials.rs"]
+mod trials;
+#[path = "../tests/compare/written.rs"]
+mod written;
 
 fn main() -> Result<(), Box<dyn Error>> {
     let mut settings = std::env::args().skip(1);
@@ -28,12 +32,14 @@ fn main() -> Result<(), Box<dyn Error>> {
     let mut tally = compare::Tally::default();
     let mut tallies = plans::Tallies::default();
     let mut built = compare::Tally::default();
+    let mut planned = compare::Tally::default();
     let end = Instant::now() + Duration::from_secs(seconds);
     while Instant::now() < end {
         days::round(&mut random, &mut tally);
         plans::round(&mut random, &mut tallies);
         builds::round(&mut random, &mut built);
+        trials::round(&mut random, &mut planned);
     }
-    println!("days: {tally}\n{tallies}\nbuild: {built}");
+    println!("days: {tally}\n{tallies}\nbuild: {built}\nplan: {planned}");
     Ok(())
 }

@@ -1,4 +1,4 @@
-//! Planning: the greedy build of a day.
+//! Planning: the greedy build of a day, and what planning comes to.
 
 use crate::{raw, Refusal};
 
@@ -9,7 +9,7 @@ pub struct Planned {
     pub distance: u64,
     /// The trials made, of which the greedy build makes none.
     pub trials: u64,
-    /// Whether no trial is left that would be kept. The greedy build does not say so.
+    /// Whether all trials of the plan were made and none was kept. The greedy build does not say so.
     pub settled: bool,
     /// The stops left out.
     pub left_out: usize,
@@ -46,6 +46,11 @@ pub struct Planned {
 pub fn build(day: &[u32], plan: &mut [u32]) -> Result<Planned, Refusal> {
     let mut out = [0; 6];
     raw::build(day, plan, &mut out);
+    planned(out)
+}
+
+/// What the library says of a plan that it wrote.
+pub(crate) fn planned(out: [u64; 6]) -> Result<Planned, Refusal> {
     match out {
         [0, distance, trials, settled, left_out, words] => Ok(Planned {
             distance,

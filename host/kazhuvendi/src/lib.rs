@@ -1,9 +1,10 @@
 //! A proved planner for commercial waste rounds, called from safe Rust.
 //!
 //! A day file is read from bytes into words by [`read_words`] and judged by [`judge`]. A plan of a
-//! day is written by [`build`] and checked by [`check`]; of a lawful plan [`vehicle`] gives one
-//! vehicle's part, and [`same_rounds`] compares two. Each call gives its answer or a [`Refusal`], for any input
-//! whatever, and a refusal changes no buffer. Nothing is allocated: the caller lends the buffers.
+//! day is written by [`build`], or by [`plan`], which goes on to make it shorter, and checked by
+//! [`check`]; of a lawful plan [`vehicle`] gives one vehicle's part, and [`same_rounds`] compares
+//! two. Each call gives its answer or a [`Refusal`], for any input whatever, and a refusal changes
+//! no buffer. Nothing is allocated: the caller lends the buffers.
 //!
 //! ```
 //! let bytes = std::fs::read("../../examples/day-m.day")?;
@@ -23,10 +24,12 @@ mod build;
 mod plan;
 mod raw;
 mod refusal;
+mod trials;
 
 pub use build::{build, Planned};
 pub use plan::{check, same_rounds, vehicle, vehicle_place, Totals};
 pub use refusal::Refusal;
+pub use trials::plan;
 
 /// How large an accepted day is.
 #[derive(Clone, Copy, Debug, PartialEq, Eq)]

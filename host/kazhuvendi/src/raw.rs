@@ -24,6 +24,17 @@ extern "C" {
         out: *mut [u64; 6],
     );
     fn kz_build(day: *const u32, n: usize, plan: *mut u32, room: usize, out: *mut [u64; 6]);
+    fn kz_plan(
+        day: *const u32,
+        n: usize,
+        k: u64,
+        budget: u64,
+        plan: *mut u32,
+        room: usize,
+        work: *mut u32,
+        work_room: usize,
+        out: *mut [u64; 6],
+    );
 }
 
 pub fn read_words(bytes: &[u8], words: &mut [u32], out: &mut [u64; 6]) {
@@ -56,6 +67,20 @@ pub fn same_rounds(day: &[u32], first: &[u32], second: &[u32], out: &mut [u64; 6
 pub fn build(day: &[u32], plan: &mut [u32], out: &mut [u64; 6]) {
     // SAFETY: as above; `plan` and `out` are written.
     unsafe { kz_build(day.as_ptr(), day.len(), plan.as_mut_ptr(), plan.len(), out) }
+}
+
+pub fn plan(
+    day: &[u32],
+    k: u64,
+    budget: u64,
+    plan: &mut [u32],
+    work: &mut [u32],
+    out: &mut [u64; 6],
+) {
+    let (n, room, work_room) = (day.len(), plan.len(), work.len());
+    let (plan, work) = (plan.as_mut_ptr(), work.as_mut_ptr());
+    // SAFETY: as above; `plan`, `work` and `out` are written.
+    unsafe { kz_plan(day.as_ptr(), n, k, budget, plan, room, work, work_room, out) }
 }
 
 #[cfg(test)]
@@ -147,6 +172,26 @@ mod tests {
         assert_eq!(out, [14, 10, 0, 0, 0, 0]);
         let mut out = BEFORE;
         super::build(&DAY_M[..30], &mut [], &mut out);
+        assert_eq!(out, [4, 30, 0, 0, 0, 0]);
+    }
+
+    #[test]
+    fn planning_writes_all_of_out() {
+        let (mut plan, mut work) = ([0; 10], [0; 10]);
+        let mut out = BEFORE;
+        super::plan(&DAY_M, 5, 6, &mut plan, &mut work, &mut out);
+        assert_eq!(out, [0, 35, 6, 1, 0, 7]);
+        let mut out = BEFORE;
+        super::plan(&DAY_M, 5, 5, &mut plan, &mut work, &mut out);
+        assert_eq!(out, [0, 35, 5, 0, 0, 7]);
+        let mut out = BEFORE;
+        super::plan(&DAY_M, u64::MAX, 6, &mut plan, &mut work, &mut out);
+        assert_eq!(out, [13, u64::MAX, 0, 0, 0, 0]);
+        let mut out = BEFORE;
+        super::plan(&DAY_M, 5, 6, &mut plan, &mut work[..9], &mut out);
+        assert_eq!(out, [14, 10, 0, 0, 0, 0]);
+        let mut out = BEFORE;
+        super::plan(&DAY_M[..30], 0, 6, &mut [], &mut [], &mut out);
         assert_eq!(out, [4, 30, 0, 0, 0, 0]);
     }
 }

@@ -4,6 +4,8 @@
 #[path = "compare/builds.rs"]
 mod builds;
 mod compare;
+#[path = "compare/written.rs"]
+mod written;
 
 use builds::{build_alike, round};
 use compare::Tally;

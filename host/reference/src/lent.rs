@@ -40,8 +40,17 @@ impl<T: Copy + Debug + PartialEq + From<u8>> Lent<T> {
     ///
     /// Where that is not so.
     pub fn assert_holds(&self, items: &[T]) {
-        let (start, end) = (self.lent.start, self.lent.end);
         assert!(self.items() == items, "a lent buffer was changed where it should not be");
+        self.assert_canaries();
+    }
+
+    /// Each canary is as it was. The buffer may hold anything.
+    ///
+    /// # Panics
+    ///
+    /// Where that is not so.
+    pub fn assert_canaries(&self) {
+        let (start, end) = (self.lent.start, self.lent.end);
         assert_eq!(self.store[..start], canaries::<T>(0..start), "before a lent buffer");
         assert_eq!(self.store[end..], canaries::<T>(end..end + CANARIES), "behind a lent buffer");
     }

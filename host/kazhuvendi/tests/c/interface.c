@@ -41,6 +41,12 @@ static void print(const char *name, const uint64_t out[6])
     printf("\n");
 }
 
+static void print_words(const uint32_t *words, int count)
+{
+    for (int i = 0; i < count; i++)
+        printf("%" PRIX32 "%s", words[i], i < count - 1 ? " " : "\n");
+}
+
 static void judge(const char *name, const uint32_t *day, size_t n)
 {
     uint64_t out[6] = {99, 99, 99, 99, 99, 99};
@@ -75,8 +81,19 @@ static void build(const char *name, size_t room)
     uint64_t out[6] = {99, 99, 99, 99, 99, 99};
     kz_build(day_m, 31, plan, room, out);
     print(name, out);
-    for (int i = 0; i < 12; i++)
-        printf("%" PRIX32 "%s", plan[i], i < 11 ? " " : "\n");
+    print_words(plan, 12);
+}
+
+/* The working buffer is free, but not what stands behind it. */
+static void plan(const char *name, uint64_t k, uint64_t budget, size_t room, size_t work_room)
+{
+    uint32_t words[12] = {7, 7, 7, 7, 7, 7, 7, 7, 7, 7, 7, 7};
+    uint32_t work[12] = {7, 7, 7, 7, 7, 7, 7, 7, 7, 7, 7, 7};
+    uint64_t out[6] = {99, 99, 99, 99, 99, 99};
+    kz_plan(day_m, 31, k, budget, words, room, work, work_room, out);
+    print(name, out);
+    print_words(words, 12);
+    print_words(work + 10, 2);
 }
 
 static void read_words(const char *name, size_t n, size_t room)
@@ -85,8 +102,7 @@ static void read_words(const char *name, size_t n, size_t room)
     uint64_t out[6] = {99, 99, 99, 99, 99, 99};
     kz_read_words(bytes, n, words, room, out);
     print(name, out);
-    for (int i = 0; i < 9; i++)
-        printf("%" PRIX32 "%s", words[i], i < 8 ? " " : "\n");
+    print_words(words, 9);
 }
 
 int main(void)
@@ -113,12 +129,18 @@ int main(void)
     same_rounds("nothing", NULL, 0);
     build("built", 11);
     build("narrow", 9);
+    plan("planned", 5, 6, 11, 10);
+    plan("stopped", 5, 5, 10, 10);
+    plan("neighbours", 51, 6, 9, 9);
+    plan("tight", 50, 6, 9, 10);
+    plan("working", 50, 6, 10, 9);
     day_m[11] = 0x80000065;
     build("left", 10);
     day_m[5] = 0x6003C01E;
     judge("window", day_m, 31);
     check("day", plan_m, 7);
     build("before", 0);
+    plan("first", 0, 6, 0, 0);
     day_m[4] = 0x40000064;
     judge("kind", day_m, 31);
     day_m[0] = 0x10000002;

@@ -8,6 +8,7 @@ use reference::lent::{random_room, Lent};
 use reference::random::Random;
 
 use crate::compare::{as_refusal, Tally};
+use crate::written::{assert_lawful, words_of_no_meaning, write_plan};
 
 /// A day, accepted or not, and a buffer that is often of just the length that the day needs.
 pub fn round(random: &mut Random, tally: &mut Tally) {
@@ -20,14 +21,13 @@ pub fn round(random: &mut Random, tally: &mut Tally) {
 /// The buffer holds words of no meaning before. After a plan it is zero from the plan's end to 5n
 /// and as before beyond; after a refusal all of it is as before.
 pub fn build_alike(words: &[u32], room: usize, random: &mut Random, tally: &mut Tally) {
-    let mut plan: Vec<u32> = (0..room).map(|_| random.word()).collect();
+    let mut plan = words_of_no_meaning(random, room);
     let lent_day = Lent::new(words, words.len() % 8);
     let mut lent_plan = Lent::new(&plan, random.below(8));
     let answer = kazhuvendi::build(lent_day.items(), lent_plan.items_mut());
     let expected = day::read(words).and_then(|day| {
         let built = build(&day, room)?;
-        plan[..5 * day.stops.len()].fill(0);
-        plan[..built.words.len()].copy_from_slice(&built.words);
+        write_plan(&mut plan, &built.words, day.stops.len());
         Ok(built)
     });
     assert_eq!(answer, expected_answer(&expected), "room {room}, {words:X?}");
@@ -49,14 +49,6 @@ fn expected_answer(expected: &Result<Built, reference::Refusal>) -> Result<Plann
         words: built.words.len(),
     };
     expected.as_ref().map(planned).map_err(|refusal| as_refusal(*refusal))
-}
-
-/// The library's own check has to pass what it built.
-fn assert_lawful(day: &[u32], plan: &[u32], planned: Planned) {
-    let totals = kazhuvendi::check(day, plan).expect("a greedy plan is lawful");
-    assert_eq!(totals.distance, planned.distance);
-    let left_out = plan.iter().filter(|word| **word >> 28 == 0xF).count();
-    assert_eq!(left_out, planned.left_out);
 }
 
 fn note(expected: &Result<Built, reference::Refusal>, tally: &mut Tally) {
