@@ -1,1 +1,3 @@
+pub mod LetteredCases
 pub mod PlanCalls
+pub mod PlanDemands
