@@ -2,22 +2,26 @@
 use Prim.Native.Nat.{ℕ, suc, _+_, _-_, _*_, _≤_, _<_}
 use mathlib.Core.Path.{_≡_, refl, sym, ap, _∙_, subst}
 use mathlib.Core.Bool.{Bool, true, false, true≢false}
-use mathlib.Core.List.{List, [], _∷_, _++_}
+use mathlib.Core.List.{List, [], _∷_, _++_, append-nil, append-assoc}
 use mathlib.Core.Option.{Option, none, some}
 use native.Mathlib.Omega.{arith}
-use lib.ListN.{length, length-append}
+use native.Mathlib.Numerals.{add-one}
+use lib.ListN.{length, getD, drop}
+use lib.Seq.{drop-cons}
+use borrow.Author.Tests.{eq-eqb, ne-eqb}
 use Rattle.day.specs.Fields.{stops, tips}
 use Rattle.day.specs.Layout.{LayoutOf}
 use Rattle.day.specs.declared.fields.Layout.{Layout}
-use Rattle.checker.specs.Plan.{Task, serve, empty, Round, stopsOn, taskWord, Known}
+use Rattle.checker.specs.Plan.{Task, serve, empty, lunch, Round, stopsOn, Known}
 use Rattle.checker.specs.PlanWords.{stopWord, tipWord}
 use Rattle.builder.specs.Build.{Truck, resting}
 use Rattle.builder.proofs.VehicleStops.{stops-append}
 use Rattle.trials.specs.Cabs.{Standing, Stands, failed, onRoad, SomeStanding, Drives}
-use Rattle.trials.specs.Edits.{Edit, change}
-use Rattle.trials.specs.Rewalks.{Means, nothing, aStop, aTip, Becomes, SomeWord, WalksWord, SomeTask, WalksTask}
+use Rattle.trials.specs.Edits.{Edit, change, changed}
+use Rattle.trials.specs.Rewalks.{Means, nothing, aStop, aTip, Becomes, SomeWord, WalksWord, Left, fromTask, fromWaiting, Turned, steps}
 use Rattle.trials.specs.Walk.{walkTask, walkNext, walkOn}
 use Rattle.trials.specs.declared.cabs.Cab.{Cab}
+use Rattle.trials.specs.declared.vehicle.Turn.{Turn}
 use Rattle.trials.proofs.CabLaws.{standing-fewer, on-road}
 use Rattle.trials.proofs.WalkLaws.{Goes, stands-goes, stands-failed}
 use Rattle.trials.proofs.Walking.{failed-on}
@@ -116,45 +120,59 @@ unfolding walkOn
 walk-append day [] ys o = refl
 walk-append day (task ∷ xs) ys o = walk-append day xs ys (walkNext day task o)
 
-becomes-stops : {day : List ℕ} {e : Edit} {t first second : ℕ} {task : Task} (b : Becomes day e t task first second)
-    → length (stopsOn (change e t task)) ≡ length (stopsOn (b .one)) + length (stopsOn (b .two))
-becomes-stops b =
-    ap (λ (ts : Round). length (stopsOn ts)) (sym (b .same)) ∙ ap length (stops-append (b .one) (b .two)) ∙ length-append (stopsOn (b .one)) (stopsOn (b .two))
+-- all from a task on
+left-all : {day : List ℕ} {e : Edit} {tasks rest : Round} {i waiting : ℕ} → Left day e tasks i waiting rest → waiting ≡ 0 → rest ≡ changed e i (drop i tasks)
+left-all (fromTask i) z = refl
+left-all (fromWaiting i waiting two y l b) z = absurd (y z)
 
--- the two words that a task becomes, one behind the other
-module _ {day part : List ℕ} {e : Edit} {t : ℕ} {c : Cab} {w first second : ℕ} where
-  pub first-word : (s : SomeTask day part e t c w) → Becomes day e t (s .task) first second → SomeWord day part c first
-  first-word s b =
+-- a word that waits, and what a task becomes, one word or two
+module _ (day : List ℕ) (e : Edit) (tasks : Round) (t : ℕ) (l : t < length tasks) where
+  abbrev task : Task
+  task = getD tasks t lunch
+
+  next-tasks : changed e t (drop t tasks) ≡ change e t task ++ changed e (t + 1) (drop (t + 1) tasks)
+  unfolding changed
+  next-tasks = rw (add-one, drop-cons tasks t lunch l) refl
+
+  pub turn-single : {rest : Round} {first second : ℕ} (r : Turn) → Left day e tasks t 0 rest → Becomes day e t task first second → second ≡ 0
+      → r .word ≡ first → r .waiting ≡ 0 → r .next ≡ t + 1 → Turned day e tasks rest r
+  turn-single {rest} r h b z w n m =
+      let none = means-none (b .twoIs) z in
       record {
-        number = s .number;
-        most = s .most;
-        more = length (stopsOn (b .two)) + s .more;
-        p = s .p;
-        o = s .o;
-        tasks = b .one;
-        means = b .oneIs;
-        stands = stands-fewer (omega (arith, becomes-stops b)) (s .stands);
+        here = b .one;
+        others = changed e (t + 1) (drop (t + 1) tasks);
+        means = rw w (b .oneIs);
+        left = rw (n, m) (fromTask (t + 1));
+        whole =
+            left-all h refl ∙ next-tasks
+            ∙ ap (λ (ts : Round). ts ++ changed e (t + 1) (drop (t + 1) tasks)) (sym (b .same) ∙ ap (λ (ts : Round). b .one ++ ts) none ∙ append-nil (b .one));
       }
 
-  pub second-word : {mid : List ℕ} {d : Cab} (s : SomeTask day part e t c w) → Becomes day e t (s .task) first second → WalksWord day part c first mid d
-      → SomeWord day mid d second
-  second-word s b f =
+  pub turn-double : {rest : Round} {first second : ℕ} (r : Turn) → Left day e tasks t 0 rest → Becomes day e t task first second → (second ≡ 0 → ⊥)
+      → r .word ≡ first → r .waiting ≡ second → r .next ≡ t → Turned day e tasks rest r
+  turn-double {rest} {first} {second} r h b z w n m =
       record {
-        number = s .number;
-        most = s .most;
-        more = s .more;
-        p = s .p;
-        o = walkOn day (b .one) (s .o);
-        tasks = b .two;
-        means = b .twoIs;
-        stands = f (s .number) (s .most) (length (stopsOn (b .two)) + s .more) (s .p) (s .o) (b .one) (b .oneIs)
-            (stands-fewer (omega (arith, becomes-stops b)) (s .stands));
+        here = b .one;
+        others = b .two ++ changed e (t + 1) (drop (t + 1) tasks);
+        means = rw w (b .oneIs);
+        left = rw (n, m) (fromWaiting t second (b .two) z l (b .twoIs));
+        whole =
+            left-all h refl ∙ next-tasks ∙ ap (λ (ts : Round). ts ++ changed e (t + 1) (drop (t + 1) tasks)) (sym (b .same))
+            ∙ append-assoc (b .one) (b .two) (changed e (t + 1) (drop (t + 1) tasks));
       }
 
-  pub both-words : {mid now : List ℕ} {d r : Cab} → ((task : Task) → w ≡ taskWord task → Known day task → Becomes day e t task first second)
-      → WalksWord day part c first mid d → WalksWord day mid d second now r → WalksTask day part e t c w now r
-  both-words {now = now} {r = r} h f g number most more p o task q n s =
-      let b = h task q n in
-      let one = f number most (length (stopsOn (b .two)) + more) p o (b .one) (b .oneIs) (stands-fewer (omega (arith, becomes-stops b)) s) in
-      let two = g number most more p (walkOn day (b .one) o) (b .two) (b .twoIs) one in
-      subst (λ (x : Option Truck). Stands day number most more p now x r) (sym (walk-append day (b .one) (b .two) o) ∙ ap (λ (ts : Round). walkOn day ts o) (b .same)) two
+pub turn-waiting : {day : List ℕ} {e : Edit} {tasks rest : Round} {t waiting : ℕ} (r : Turn) → Left day e tasks t waiting rest → (waiting ≡ 0 → ⊥)
+    → r .word ≡ waiting → r .waiting ≡ 0 → r .next ≡ t + 1 → Turned day e tasks rest r
+turn-waiting r (fromTask i) z w n m = absurd (z refl)
+turn-waiting {e = e} {tasks = tasks} r (fromWaiting i waiting two y l b) z w n m =
+    record { here = two; others = changed e (i + 1) (drop (i + 1) tasks); means = rw w b; left = rw (n, m) (fromTask (i + 1)); whole = refl }
+
+-- each turn brings the walk on
+pub step-waiting : (t : ℕ) {waiting : ℕ} → (waiting ≡ 0 → ⊥) → (steps t waiting < steps (t + 1) 0) × (t + 1 ≤ t + 1)
+step-waiting t {waiting} z = (rw (ne-eqb waiting 0 z) (omega arith), omega arith)
+
+pub step-single : (t : ℕ) {waiting : ℕ} → waiting ≡ 0 → (steps t waiting < steps (t + 1) 0) × (t + 1 ≤ t + 1)
+step-single t {waiting} z = (rw (eq-eqb waiting 0 z) (omega arith), omega arith)
+
+pub step-double : (t : ℕ) {waiting second : ℕ} → waiting ≡ 0 → (second ≡ 0 → ⊥) → (steps t waiting < steps t second) × (t ≤ t + 1)
+step-double t {waiting} {second} z y = (rw (eq-eqb waiting 0 z, ne-eqb second 0 y) (omega arith), omega arith)

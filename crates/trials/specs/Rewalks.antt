@@ -5,12 +5,14 @@ use mathlib.Core.Path.{_≡_}
 use mathlib.Core.Bool.{true, false}
 use mathlib.Core.List.{List, [], _∷_, _++_, map}
 use mathlib.Core.Option.{Option, none, some}
-use lib.ListN.{length, drop}
+use lib.Dec.{eqb}
+use lib.ListN.{length, getD, drop}
 use Rattle.laws.specs.Buffer.{Wrote}
 use Rattle.laws.specs.Lists.{Every}
+use Rattle.laws.specs.Tests.{if_then_else_}
 use Rattle.day.specs.Fields.{tips, stops}
 use Rattle.checker.specs.Lawful.{distanceFrom}
-use Rattle.checker.specs.Plan.{Task, serve, empty, Round, taskWord, roundWords, stopsOn, Known}
+use Rattle.checker.specs.Plan.{Task, serve, empty, lunch, Round, taskWord, roundWords, stopsOn, Known}
 use Rattle.checker.specs.PlanWords.{stopWord, tipWord}
 use Rattle.builder.specs.Build.{Truck, fresh}
 use Rattle.trials.specs.Cabs.{Stands}
@@ -19,6 +21,7 @@ use Rattle.trials.specs.Walk.{walkOn, walkedAgain}
 use Rattle.trials.specs.declared.cabs.Cab.{Cab}
 use Rattle.trials.specs.declared.edits.Edit as Code
 use Rattle.trials.specs.declared.edits.Edit.the-variants as Edits
+use Rattle.trials.specs.declared.vehicle.Turn.{Turn}
 use Rattle.trials.specs.declared.vehicle.Walked.{Walked}
 
 -- the edit that the code names
@@ -76,23 +79,29 @@ WalksWord day part c w now r =
     (number most more : ℕ) (p : List ℕ) (o : Option Truck) (tasks : Round) → Means day w tasks
     → Stands day number most (length (stopsOn tasks) + more) p part o c → Stands day number most more p now (walkOn day tasks o) r
 
--- a vehicle or a failed trial, with a task before it that is changed
-pub record SomeTask (day part : List ℕ) (e : Edit) (t : ℕ) (c : Cab) (w : ℕ) : Type 0 where
-  pub number : ℕ
-  pub most : ℕ
-  pub more : ℕ
-  pub p : List ℕ
-  pub o : Option Truck
-  pub task : Task
-  pub is : w ≡ taskWord task
-  pub known : Known day task
-  pub stands : Stands day number most (length (stopsOn (change e t task)) + more) p part o c
+-- what is left to walk of the changed tasks: all from number i on, or what waits of task i and all behind it
+pub data Left (day : List ℕ) (e : Edit) (tasks : Round) : ℕ → ℕ → Round → Type 0 where
+  fromTask : (i : ℕ) → Left day e tasks i 0 (changed e i (drop i tasks))
+  fromWaiting : (i waiting : ℕ) (two : Round) → (waiting ≡ 0 → ⊥) → i < length tasks → Means day waiting two
+      → Left day e tasks i waiting (two ++ changed e (i + 1) (drop (i + 1) tasks))
 
--- it has walked what the task becomes
-abbrev pub WalksTask : List ℕ → List ℕ → Edit → ℕ → Cab → ℕ → List ℕ → Cab → Type 0
-WalksTask day part e t c w now r =
-    (number most more : ℕ) (p : List ℕ) (o : Option Truck) (task : Task) → w ≡ taskWord task → Known day task
-    → Stands day number most (length (stopsOn (change e t task)) + more) p part o c → Stands day number most more p now (walkOn day (change e t task) o) r
+-- a word is taken off what is left
+pub record Turned (day : List ℕ) (e : Edit) (tasks : Round) (rest : Round) (r : Turn) : Type 0 where
+  pub here : Round
+  pub others : Round
+  pub means : Means day (r .word) here
+  pub left : Left day e tasks (r .next) (r .waiting) others
+  pub whole : rest ≡ here ++ others
+
+-- how far the walk has come: two steps a task
+abbrev pub steps : ℕ → ℕ → ℕ
+steps i waiting = 2 * i + (if eqb waiting 0 then 0 else 1)
+
+-- so it is for whatever tasks have this word
+abbrev pub TakesTurn : Code.Edit → ℕ → ℕ → ℕ → Turn → Type 0
+TakesTurn e t w waiting r =
+    (day : List ℕ) (tasks rest : Round) → EditKnown day e → Every (Known day) tasks → t < length tasks → w ≡ taskWord (getD tasks t lunch)
+    → Left day (editOf e) tasks t waiting rest → Turned day (editOf e) tasks rest r
 
 -- these are the tasks of a vehicle, and there is room for what they become
 pub record Walkable (day : List ℕ) (e : Edit) (words part : List ℕ) (tasks : Round) : Type 0 where
@@ -106,15 +115,20 @@ pub record SomeWalkable (day : List ℕ) (e : Edit) (words part : List ℕ) : Ty
   pub tasks : Round
   pub walkable : Walkable day e words part tasks
 
--- the first i tasks are walked
-pub record Midway (day : List ℕ) (e : Edit) (number : ℕ) (p part : List ℕ) (tasks : Round) (i : ℕ) (c : Cab) : Type 0 where
+-- a part of the tasks is walked
+pub record Midway (day : List ℕ) (e : Edit) (number : ℕ) (p part : List ℕ) (tasks : Round) (i waiting : ℕ) (c : Cab) : Type 0 where
   pub o : Option Truck
-  pub stands : Stands day number (length (stopsOn (changed e 0 tasks))) (length (stopsOn (changed e i (drop i tasks)))) p part o c
-  pub same : walkOn day (changed e i (drop i tasks)) o ≡ walkOn day (changed e 0 tasks) (some (fresh day []))
+  pub rest : Round
+  pub left : Left day e tasks i waiting rest
+  pub stands : Stands day number (length (stopsOn (changed e 0 tasks))) (length (stopsOn rest)) p part o c
+  pub same : walkOn day rest o ≡ walkOn day (changed e 0 tasks) (some (fresh day []))
 
--- so they are, whatever tasks have these words
-abbrev pub WalksOn : List ℕ → Edit → ℕ → List ℕ → List ℕ → List ℕ → ℕ → Cab → Type 0
-WalksOn day e number words p part i c = (tasks : Round) → Walkable day e words p tasks → Midway day e number p part tasks i c
+-- all of them are, whatever tasks have these words
+pub record Through (day : List ℕ) (e : Edit) (number : ℕ) (p part : List ℕ) (tasks : Round) (c : Cab) : Type 0 where
+  pub stands : Stands day number (length (stopsOn (changed e 0 tasks))) 0 p part (walkOn day (changed e 0 tasks) (some (fresh day []))) c
+
+abbrev pub WalksAll : List ℕ → Edit → ℕ → List ℕ → List ℕ → List ℕ → Cab → Type 0
+WalksAll day e number words p part c = (tasks : Round) → Walkable day e words p tasks → Through day e number p part tasks c
 
 -- the vehicle is walked again: the trial has failed, or its words stand at the front of the part
 pub record Again (day : List ℕ) (number : ℕ) (tasks : Round) (p part : List ℕ) (r : Walked) : Type 0 where

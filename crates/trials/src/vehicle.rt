@@ -1,14 +1,13 @@
 // A vehicle whose words are changed and walked again.
 ghost use mathlib.Core.Path.{_≡_};
 ghost use mathlib.Core.Bool.{true, false};
-ghost use Prim.Native.Nat.{_<_, _≤_};
-ghost use lib.ListN.{length};
+ghost use Prim.Native.Nat.{_+_, _<_, _≤_};
 ghost use Rattle.day.specs.Accepted.{IsAccepted};
 ghost use Rattle.day.specs.Layout.{LayoutOf};
 ghost use Rattle.checker.specs.Trip.{leaving};
 ghost use Rattle.checker.specs.Plan.{Round};
 ghost use Rattle.trials.specs.Edits.{changed};
-ghost use Rattle.trials.specs.Rewalks.{editOf, EditKnown, EditSmall, SomeWord, WalksWord, SomeTask, WalksTask, Walkable, SomeWalkable, WalksOn, WalkedAs};
+ghost use Rattle.trials.specs.Rewalks.{editOf, EditKnown, EditSmall, SomeWord, WalksWord, TakesTurn, steps, Walkable, SomeWalkable, WalksAll, WalkedAs};
 use crate::cabs::Cab;
 use crate::cabs::rest_cab;
 use crate::cabs::walk_home;
@@ -37,14 +36,39 @@ fn walk_word(day: &[u32], z: Layout, c: Cab, w: u32, part: &mut [u32]) -> Cab
     walk_tip(day, z, rested, (w - 3221225472) as usize, part)
 }
 
-// What task number t becomes is walked.
-fn walk_changed(day: &[u32], z: Layout, e: Edit, t: usize, c: Cab, w: u32, part: &mut [u32]) -> Cab
-    requires { ⌜ LayoutOf (now day) z × IsAccepted (now day) × EditSmall e × EditKnown (now day) e × SomeTask (now day) (now part) (editOf e) t c w ⌝ }
-    ensures { λ r. ⌜ WalksTask (now (day .entry)) (now (part .entry)) (editOf e) t c w (now (part .exit)) r ⌝ }
+// The word that is walked next, the one that waits behind it, 0 for none, and the task that is looked at then.
+pub struct Turn {
+    pub word: u32,
+    pub waiting: u32,
+    pub next: usize,
+}
+
+// What is walked next: the word that waits, or else what task number t becomes. So one place in the loop walks a word.
+fn next_turn(e: Edit, t: usize, w: u32, waiting: u32) -> Turn
+    requires { ⌜ EditSmall e × (t < 4611686018427387904) ⌝ }
+    ensures turn { λ r. ⌜ TakesTurn e t w waiting r ⌝ }
+    ensures comes { λ r. ⌜ (steps t waiting < steps (r .next) (r .waiting)) × (r .next ≤ t + 1) ⌝ }
 {
+    if waiting != 0 {
+        return Turn {
+            word: waiting,
+            waiting: 0,
+            next: t + 1,
+        };
+    }
     let change = change_word(e, t, w);
-    let between = walk_word(day, z, c, change.first, part);
-    walk_word(day, z, between, change.second, part)
+    if change.second == 0 {
+        return Turn {
+            word: change.first,
+            waiting: 0,
+            next: t + 1,
+        };
+    }
+    Turn {
+        word: change.first,
+        waiting: change.second,
+        next: t,
+    }
 }
 
 // An empty vehicle at the depot; its A word is written.
@@ -69,14 +93,17 @@ fn fresh_cab(day: &[u32], z: Layout) -> Cab
 // The tasks of a vehicle, changed and walked again behind its A word.
 fn walk_tasks(day: &[u32], z: Layout, e: Edit, number: u32, tasks: &[u32], part: &mut [u32]) -> Cab
     requires { ⌜ LayoutOf (now day) z × IsAccepted (now day) × EditSmall e × EditKnown (now day) e × (number < 256) × SomeWalkable (now day) (editOf e) (now tasks) (now part) ⌝ }
-    ensures { λ r. ⌜ WalksOn (now (day .entry)) (editOf e) number (now (tasks .entry)) (now (part .entry)) (now (part .exit)) (length (now (tasks .entry))) r ⌝ }
+    ensures { λ r. ⌜ WalksAll (now (day .entry)) (editOf e) number (now (tasks .entry)) (now (part .entry)) (now (part .exit)) r ⌝ }
 {
     part[0] = 2684354560 + number;
     let mut c = fresh_cab(day, z);
+    let mut waiting: u32 = 0;
     let mut i: usize = 0;
     while i < tasks.len() {
-        c = walk_changed(day, z, e, i, c, tasks[i], part);
-        i += 1;
+        let turn = next_turn(e, i, tasks[i], waiting);
+        c = walk_word(day, z, c, turn.word, part);
+        waiting = turn.waiting;
+        i = turn.next;
     }
     c
 }
