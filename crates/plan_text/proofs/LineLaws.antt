@@ -1,0 +1,135 @@
+-- Laws of the lines of an answer, and of the text of a day file.
+-- Assumes nothing.
+use Prim.Native.Nat.{ℕ, zero, suc, _+_, _*_, _/_, _%_, _≤_, _<_}
+use mathlib.Core.Path.{_≡_, refl, sym, ap, _∙_}
+use mathlib.Core.Bool.{Bool, true, false, false≢true}
+use mathlib.Core.Logic.{_≢_}
+use mathlib.Core.List.{List, [], _∷_, _++_}
+use native.Mathlib.Omega.{arith}
+use lib.Dec.{eqb, ltb}
+use lib.ListN.{length, take, drop, getD, length-append}
+use lib.Seq.{length-take-le}
+use borrow.Author.Tests.{eq-eqb, ne-eqb, lt-ltb, le-ltb, ltb-false}
+use Rattle.laws.specs.Answers.{given, refused, isGiven}
+use Rattle.laws.specs.Buffer.{over}
+use Rattle.laws.specs.Tests.{if_then_else_, neb}
+use Rattle.laws.proofs.Buffer.{over-front}
+use Rattle.day.specs.Bytes.{byteWord, byteWords, readAnswer, readBuffer}
+use Rattle.plan_text.specs.Lines.{tooLong, refusedLine, plannedLine, wordLines, answerText}
+use Rattle.plan_text.specs.Printed.{dayText, bytesText, printed}
+use Rattle.plan_text.specs.Put.{Put}
+use Rattle.plan_text.proofs.PutLaws.{put-over}
+
+-- a plan, and a refusal
+settled-told : (settled : Bool) → eqb (if settled then 1 else 0) 1 ≡ settled
+settled-told true = refl
+settled-told false = refl
+
+pub planned-text : (distance trials : ℕ) (settled : Bool) (left words : ℕ) (plan : List ℕ)
+    → plannedLine distance trials settled left words ++ wordLines (take words plan)
+    ≡ answerText (given (distance ∷ trials ∷ (if settled then 1 else 0) ∷ left ∷ words ∷ [])) plan
+unfolding answerText
+planned-text distance trials settled left words plan =
+    ap (λ (s : Bool). plannedLine distance trials s left words ++ wordLines (take words plan)) (sym (settled-told settled))
+
+pub refused-text : (number place : ℕ) (plan : List ℕ) → refusedLine number place ≡ answerText (refused number place) plan
+unfolding answerText
+refused-text number place plan = refl
+
+-- a text with room for an answer's line and for the words of a buffer has room for the words of the plan
+pub words-room : (words at : ℕ) (plan text first : List ℕ) → words ≤ length plan → at ≤ 88 → 88 + 9 * length plan ≤ length first → length text ≡ length first
+    → at + 9 * length (take words plan) ≤ length text
+words-room words at plan text first few low room kept = omega (arith, length-take-le words plan few)
+
+-- the words of the bytes
+words-length : (bytes : List ℕ) (n : ℕ) → length (byteWords bytes n) ≡ n
+unfolding byteWords
+words-length bytes zero = refl
+words-length bytes (suc n) = omega (arith, length-append (byteWords bytes n) (byteWord bytes n ∷ []), words-length bytes n)
+
+-- byte reading, in numbers
+module _ (bytes : List ℕ) (room number value : ℕ) (e : number ∷ value ∷ [] ≡ readAnswer bytes room) where
+  told-number : getD (readAnswer bytes room) 0 0 ≡ number
+  told-number = sym (ap (λ (xs : List ℕ). getD xs 0 0) e)
+
+  told-value : getD (readAnswer bytes room) 1 0 ≡ value
+  told-value = sym (ap (λ (xs : List ℕ). getD xs 1 0) e)
+
+  told-given : number ≡ 0 → isGiven (readAnswer bytes room) ≡ true
+  told-given z = ap isGiven (sym e) ∙ eq-eqb number 0 z
+
+  told-refused : number ≢ 0 → isGiven (readAnswer bytes room) ≡ false
+  told-refused n = ap isGiven (sym e) ∙ ne-eqb number 0 n
+
+-- an answer that is given says how many words there are, and they fit
+abbrev readBy : (a b c : Bool) → ℕ → List ℕ
+readBy a b c n = if a then refused 1 n else if b then refused 1 n else if c then refused 14 n else given (n ∷ [])
+
+read-by : (a b c : Bool) (n : ℕ) → isGiven (readBy a b c n) ≡ true → (getD (readBy a b c n) 1 0 ≡ n) × (c ≡ false)
+read-by true b c n h = absurd (false≢true h)
+read-by false true c n h = absurd (false≢true h)
+read-by false false true n h = absurd (false≢true h)
+read-by false false false n h = (refl, refl)
+
+module _ (bytes : List ℕ) (room : ℕ) (h : isGiven (readAnswer bytes room) ≡ true) where
+  read-count : getD (readAnswer bytes room) 1 0 ≡ length bytes / 4
+  unfolding readAnswer
+  read-count = read-by (neb (length bytes % 4) 0) (ltb (length bytes / 4) 7) (ltb room (length bytes / 4)) (length bytes / 4) h .0
+
+  read-fits : length bytes / 4 ≤ room
+  unfolding readAnswer
+  read-fits =
+      ltb-false room (length bytes / 4)
+      (read-by (neb (length bytes % 4) 0) (ltb (length bytes / 4) 7) (ltb room (length bytes / 4)) (length bytes / 4) h .1)
+
+-- the text of a day file from what byte reading says
+module _ (bytes words : List ℕ) (number value : ℕ) (e : number ∷ value ∷ [] ≡ readAnswer bytes (length words)) where
+  value-count : number ≡ 0 → value ≡ length bytes / 4
+  value-count z = sym (told-value bytes (length words) number value e) ∙ read-count bytes (length words) (told-given bytes (length words) number value e z)
+
+  pub file-fits : number ≡ 0 → value ≤ length words
+  file-fits z = omega (arith, value-count z, read-fits bytes (length words) (told-given bytes (length words) number value e z))
+
+  front-words : (now : List ℕ) → number ≡ 0 → now ≡ readBuffer bytes words → take value now ≡ byteWords bytes (length bytes / 4)
+  unfolding readBuffer
+  front-words now z q =
+      ap (take value) (q ∙ rw (told-given bytes (length words) number value e z) refl)
+      ∙ over-front (byteWords bytes (length bytes / 4)) words value (words-length bytes (length bytes / 4) ∙ sym (value-count z))
+
+  pub file-day : (now : List ℕ) → 16384 ≡ length words → number ≡ 0 → now ≡ readBuffer bytes words → dayText (take value now) ≡ bytesText bytes
+  unfolding bytesText
+  file-day now r z q =
+      let yes : isGiven (readAnswer bytes 16384) ≡ true = rw r (told-given bytes (length words) number value e z) in
+      rw yes (ap dayText (front-words now z q))
+
+  pub file-refused : 16384 ≡ length words → number ≢ 0 → refusedLine number value ≡ bytesText bytes
+  unfolding bytesText
+  file-refused r n =
+      let refuses : isGiven (readAnswer bytes 16384) ≡ false = rw r (told-refused bytes (length words) number value e n) in
+      let first : getD (readAnswer bytes 16384) 0 0 ≡ number = rw r (told-number bytes (length words) number value e) in
+      let second : getD (readAnswer bytes 16384) 1 0 ≡ value = rw r (told-value bytes (length words) number value e) in
+      rw (refuses, first, second) refl
+
+-- any bytes
+pub printed-long : (bytes : List ℕ) → 65536 < length bytes → tooLong ≡ printed bytes
+unfolding printed
+printed-long bytes l = rw (lt-ltb 65536 (length bytes) l) refl
+
+pub printed-short : (bytes : List ℕ) → length bytes ≤ 65536 → bytesText bytes ≡ printed bytes
+unfolding printed
+printed-short bytes l = rw (le-ltb 65536 (length bytes) l) refl
+
+-- a text put from the start on
+pub put-printed : {bs vs p q : List ℕ} {n : ℕ} → Put bs p 0 q n → bs ≡ vs
+    → (n ≡ length vs) × ((q ≡ over vs p) × ((n ≤ length q) × (n ≡ length (take n q))))
+unfolding over
+put-printed {bs} {vs} {p} {q} {n} put e = (count, (text, (few, sym (length-take-le n q few))))
+  where
+    count : n ≡ length vs
+    count = omega (arith, put .next, ap length e)
+
+    text : q ≡ over vs p
+    text = put-over put ∙ ap (λ (x : List ℕ). over x p) e
+
+    few : n ≤ length q
+    few = omega (arith, count, ap length text, length-append vs (drop (length vs) p))

@@ -1,0 +1,5 @@
+pub mod Lines
+pub mod Numbers
+pub mod Planned
+pub mod Printed
+pub mod Put

@@ -1,0 +1,83 @@
+// What the program on a day file prints: a plan as lines of text, or why there is none.
+mod lines;
+mod numbers;
+mod planned;
+mod put;
+
+ghost use mathlib.Core.Path.{_≡_};
+ghost use mathlib.Core.List.{[], _∷_};
+ghost use Prim.Native.Nat.{_≤_};
+ghost use lib.ListN.{length, take};
+ghost use Rattle.day.specs.Answers.{wordsValues};
+ghost use Rattle.laws.specs.Buffer.{over};
+ghost use Rattle.plan_text.specs.Printed.{dayText, bytesText, printed};
+ghost use Rattle.plan_text.specs.Put.{Put};
+use crate::lines::put_answer;
+use crate::lines::put_refused;
+use crate::planned::empty_plan;
+use crate::planned::plan_of;
+use crate::put::put_bytes;
+
+// Words enough for 65,536 bytes.
+fn day_words() -> [u32; 16384]
+    ensures { λ r. ⌜ 16384 ≡ length r ⌝ }
+{
+    [0; 16384]
+}
+
+// The text of a day's words.
+fn put_day(text: &mut [u8], day: &[u32]) -> usize
+    requires { ⌜ 16384 ≤ length (now text) ⌝ }
+    ensures { λ r. ⌜ Put (dayText (now (day .entry))) (now (text .entry)) 0 (now (text .exit)) r ⌝ }
+{
+    let mut plan = empty_plan();
+    let answer = plan_of(day, &mut plan);
+    put_answer(text, answer, &plan)
+}
+
+// What byte reading says, in numbers: 0 and how many words, or the refusal's number and place.
+struct Told {
+    number: u32,
+    value: usize,
+}
+
+fn read_told(answer: day::WordsAnswer) -> Told
+    ensures { λ r. ⌜ r .number ∷ r .value ∷ [] ≡ wordsValues answer ⌝ }
+{
+    match answer {
+        day::WordsAnswer::Read { words } => Told {
+            number: 0,
+            value: words,
+        },
+        day::WordsAnswer::Refused { number, place } => Told {
+            number,
+            value: place,
+        },
+    }
+}
+
+// The text of a day file's bytes.
+fn put_file(text: &mut [u8], bytes: &[u8]) -> usize
+    requires { ⌜ 16384 ≤ length (now text) ⌝ }
+    ensures { λ r. ⌜ Put (bytesText (now (bytes .entry))) (now (text .entry)) 0 (now (text .exit)) r ⌝ }
+{
+    let mut words = day_words();
+    let told = read_told(day::read_words(bytes, &mut words));
+    let value = told.value;
+    if told.number == 0 {
+        return put_day(text, &words[..value]);
+    }
+    put_refused(text, told.number, value)
+}
+
+// What the program prints of a day file with these bytes, at the start of the text; how many bytes that is.
+pub fn plan_text(bytes: &[u8], text: &mut [u8; 16384]) -> usize
+    ensures count { λ r. ⌜ r ≡ length (printed (now (bytes .entry))) ⌝ }
+    ensures text { λ r. ⌜ now (text .exit) ≡ over (printed (now (bytes .entry))) (now (text .entry)) ⌝ }
+    ensures within { λ r. ⌜ (r ≤ length (now (text .exit))) × (r ≡ length (take r (now (text .exit)))) ⌝ }
+{
+    if 65536 < bytes.len() {
+        return put_bytes(text, 0, b"too long\n");
+    }
+    put_file(text, bytes)
+}

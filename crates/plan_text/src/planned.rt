@@ -1,0 +1,21 @@
+// The call that plans a day to be printed.
+ghost use mathlib.Core.Path.{_≡_};
+ghost use Rattle.planner.specs.Built.{planValues};
+ghost use Rattle.plan_text.specs.Planned.{emptyPlan, plannedAnswer, plannedBuffer};
+use planner::PlanAnswer;
+
+// Five words for each of 240 stops.
+pub fn empty_plan() -> [u32; 1200]
+    ensures { λ r. ⌜ r ≡ emptyPlan ⌝ }
+{
+    [0; 1200]
+}
+
+// The plan of a day, in an empty buffer.
+pub fn plan_of(day: &[u32], plan: &mut [u32]) -> PlanAnswer
+    requires { ⌜ now plan ≡ emptyPlan ⌝ }
+    ensures answer { λ r. ⌜ planValues r ≡ plannedAnswer (now (day .entry)) ⌝ }
+    ensures buffer { λ r. ⌜ now (plan .exit) ≡ plannedBuffer (now (day .entry)) ⌝ }
+{
+    planner::build(day, plan)
+}
