@@ -37,8 +37,8 @@ unfolding answerText
 refused-text number place plan = refl
 
 -- a text with room for an answer's line and for the words of a buffer has room for the words of the plan
-pub words-room : (words at : ℕ) (plan text first : List ℕ) → words ≤ length plan → at ≤ 88 → 88 + 9 * length plan ≤ length first → length text ≡ length first
-    → at + 9 * length (take words plan) ≤ length text
+pub words-room : (words at : ℕ) (plan text first : List ℕ) → words ≤ length plan → at ≤ 88 → 88 + 9 * length plan ≤ length first
+    → length text ≡ length first → at + 9 * length (take words plan) ≤ length text
 words-room words at plan text first few low room kept = omega (arith, length-take-le words plan few)
 
 -- the words of the bytes
@@ -85,7 +85,9 @@ module _ (bytes : List ℕ) (room : ℕ) (h : isGiven (readAnswer bytes room) �
 -- the text of a day file from what byte reading says
 module _ (bytes words : List ℕ) (number value : ℕ) (e : number ∷ value ∷ [] ≡ readAnswer bytes (length words)) where
   value-count : number ≡ 0 → value ≡ length bytes / 4
-  value-count z = sym (told-value bytes (length words) number value e) ∙ read-count bytes (length words) (told-given bytes (length words) number value e z)
+  value-count z =
+      sym (told-value bytes (length words) number value e)
+      ∙ read-count bytes (length words) (told-given bytes (length words) number value e z)
 
   pub file-fits : number ≡ 0 → value ≤ length words
   file-fits z = omega (arith, value-count z, read-fits bytes (length words) (told-given bytes (length words) number value e z))
@@ -96,7 +98,8 @@ module _ (bytes words : List ℕ) (number value : ℕ) (e : number ∷ value ∷
       ap (take value) (q ∙ rw (told-given bytes (length words) number value e z) refl)
       ∙ over-front (byteWords bytes (length bytes / 4)) words value (words-length bytes (length bytes / 4) ∙ sym (value-count z))
 
-  pub file-day : (now : List ℕ) → 16384 ≡ length words → number ≡ 0 → now ≡ readBuffer bytes words → dayText (take value now) ≡ bytesText bytes
+  pub file-day : (now : List ℕ) → 16384 ≡ length words → number ≡ 0 → now ≡ readBuffer bytes words
+      → dayText (take value now) ≡ bytesText bytes
   unfolding bytesText
   file-day now r z q =
       let yes : isGiven (readAnswer bytes 16384) ≡ true = rw r (told-given bytes (length words) number value e z) in

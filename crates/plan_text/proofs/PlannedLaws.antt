@@ -21,7 +21,8 @@ pub empty-length : length emptyPlan ≡ 1200
 unfolding emptyPlan
 empty-length = length-replicate {A = ℕ} 1200 0
 
-pub planned-answer : (day plan : List ℕ) {answer : List ℕ} → plan ≡ emptyPlan → answer ≡ buildAnswer day (length plan) → answer ≡ plannedAnswer day
+pub planned-answer : (day plan : List ℕ) {answer : List ℕ} → plan ≡ emptyPlan → answer ≡ buildAnswer day (length plan)
+    → answer ≡ plannedAnswer day
 unfolding plannedAnswer
 planned-answer day plan q e = e ∙ ap (buildAnswer day) (ap length q ∙ empty-length)
 
@@ -47,8 +48,8 @@ planned-within day = go (isGiven (judgeDay day)) refl
     go false e h = absurd (false≢true (sym e ∙ h))
 
 -- a text of 16,384 bytes has room for the answer's line and for nine bytes for each word
-pub day-room : (day text plan first : List ℕ) {answer : List ℕ} → 16384 ≤ length text → answer ≡ plannedAnswer day → length plan ≡ length first → first ≡ emptyPlan
-    → (88 + 9 * length plan ≤ length text) × Within answer (length plan)
+pub day-room : (day text plan first : List ℕ) {answer : List ℕ} → 16384 ≤ length text → answer ≡ plannedAnswer day
+    → length plan ≡ length first → first ≡ emptyPlan → (88 + 9 * length plan ≤ length text) × Within answer (length plan)
 day-room day text plan first {answer} room e kept q = (omega (arith, room, size), λ h. omega (arith, size, few h))
   where
     size : length plan ≡ 1200

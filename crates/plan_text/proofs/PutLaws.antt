@@ -18,7 +18,12 @@ pub put-none : (at : ℕ) (p : List ℕ) → Put [] p at p at
 unfolding putAt
 put-none at p = record {
   next = omega arith;
-  text = sym (ap (λ (k : ℕ). take at p ++ [] ++ drop k p) none ∙ ap (λ (b : List ℕ). b ++ drop at p) (append-nil (take at p)) ∙ take-append-drop at p);
+  text =
+      sym (
+      ap (λ (k : ℕ). take at p ++ [] ++ drop k p) none
+      ∙ ap (λ (b : List ℕ). b ++ drop at p) (append-nil (take at p))
+      ∙ take-append-drop at p
+      );
   size = refl;
 }
   where

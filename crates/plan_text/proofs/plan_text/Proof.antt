@@ -1,29 +1,21 @@
+-- `plan_text::plan_text` meets its contract.
 use borrow.Author.Needs.{needs}
 use Rattle.plan_text.proofs.LineLaws.{printed-long, printed-short, put-printed}
 use Rattle.plan_text.proofs.plan_text.Statement.{statement}
 use Rattle.plan_text.proofs.plan_text.Tie as tie
-use Rattle.plan_text.proofs.plan_text.Reads as reads
-use Rattle.plan_text.proofs.plan_text.Lts as lts
-use Rattle.plan_text.proofs.put.put_bytes.Reads as put-bytes-reads
-use Rattle.plan_text.proofs.put_file.Reads as put-file-reads
 
--- src/lib.rt:80:35
 slice-aggregate-put-bytes : tie.Need-slice-aggregate-put-bytes
 slice-aggregate-put-bytes c = search needs
 
--- src/lib.rt:80:9
 put-bytes-requires : tie.Need-put-bytes-requires
 put-bytes-requires c κs = search needs
 
--- src/lib.rt:80:9
 returns : tie.Need-returns
 returns c = put-printed (c .put-bytes .ensures) (printed-long _ (c .before .before .before .if1 .taken))
 
--- src/lib.rt:82:5
 put-file-requires : tie.Need-put-file-requires
 put-file-requires c κs = search needs
 
--- src/lib.rt:74:1
 returns-2 : tie.Need-returns-2
 returns-2 c = put-printed (c .put-file .ensures) (printed-short _ (c .before .before .if1 .left))
 

@@ -1,18 +1,16 @@
-use borrow.Author.Needs.{needs}
+-- `plan_text::numbers::put_words` meets its contract.
 use Prim.Native.Nat.{_+_, _-_, _*_, _≤_}
-use mathlib.Core.Path.{_≡_, ap}
-use native.Mathlib.Omega.{arith}
+use borrow.Author.Needs.{needs}
 use lib.ListN.{length, take}
 use lib.Seq.{take-all}
+use mathlib.Core.Path.{_≡_, ap}
+use native.Mathlib.Omega.{arith}
+use Rattle.plan_text.proofs.DigitLaws.{lines-none, lines-next, line-next}
+use Rattle.plan_text.proofs.PutLaws.{put-none, put-more, put-same}
 use Rattle.plan_text.specs.Lines.{wordLines}
 use Rattle.plan_text.specs.Put.{Put}
-use Rattle.plan_text.proofs.PutLaws.{put-none, put-more, put-same}
-use Rattle.plan_text.proofs.DigitLaws.{lines-none, lines-next, line-next}
 use Rattle.plan_text.proofs.numbers.put_words.Statement.{statement}
 use Rattle.plan_text.proofs.numbers.put_words.Tie as tie
-use Rattle.plan_text.proofs.numbers.put_words.Reads as reads
-use Rattle.plan_text.proofs.numbers.put_words.Lts as lts
-use Rattle.plan_text.proofs.numbers.put_word.Reads as put-word-reads
 
 abbrev Inv-loop : tie.InvT-loop
 Inv-loop text₀ at words next₀ i₀ text next i = Put (wordLines (take i words)) text₀ at text next × (i ≤ length words) × (next ≡ at + 9 * i)
@@ -20,39 +18,43 @@ Inv-loop text₀ at words next₀ i₀ text next i = Put (wordLines (take i word
 abbrev μ-loop : tie.MeasureT-loop
 μ-loop text₀ at words next₀ i₀ text next i = length words - i
 
--- src/numbers.rt:89:5
 loop-holds : tie.Need-loop-holds Inv-loop μ-loop
 loop-holds c = (put-same (put-none _ _) lines-none, omega arith, omega arith)
 
--- src/numbers.rt:90:37
 mul-put-word : tie.Need-mul-put-word Inv-loop μ-loop
 mul-put-word c = search needs
 
--- src/numbers.rt:90:37
 shared-slice-read-put-word : tie.Need-shared-slice-read-put-word Inv-loop μ-loop
 shared-slice-read-put-word c = search needs
 
--- src/numbers.rt:90:9
 put-word-requires : tie.Need-put-word-requires Inv-loop μ-loop
-put-word-requires c κs = let i = c .before .before .before .loop .inv in omega (arith, c .before .before .before .before .before .before .pre, c .before .before .loop-test .taken, i .2, i .0 .size)
+put-word-requires c κs =
+    let at-test = c .before .before in
+    let at-loop = at-test .before in
+    let start = at-loop .before .before .before in
+    let i = at-loop .loop .inv in
+    omega (arith, start .pre, at-test .loop-test .taken, i .2, i .0 .size)
 
--- src/numbers.rt:91:9
 add-i : tie.Need-add-i Inv-loop μ-loop
 add-i c = search needs
 
--- src/numbers.rt:89:5
 loop-less : tie.Need-loop-less Inv-loop μ-loop
 loop-less c = omega (arith, c .before .before .before .before .before .loop-test .taken)
 
--- src/numbers.rt:89:5
 loop-again : tie.Need-loop-again Inv-loop μ-loop
-loop-again c = let i = c .before .before .before .before .before .before .loop .inv in let test = c .before .before .before .before .before .loop-test .taken in let put = c .before .before .put-word .ensures in (put-same (put-more (i .0) put (omega (arith, c .before .before .before .before .before .before .before .before .before .pre, test, i .2))) (lines-next _ _ test), omega arith, omega (arith, i .2, line-next _ put))
+loop-again c =
+    let at-put-word = c .before .before in
+    let at-test = at-put-word .before .before .before in
+    let at-loop = at-test .before in
+    let start = at-loop .before .before .before in
+    let i = at-loop .loop .inv in
+    let test = at-test .loop-test .taken in
+    let put = at-put-word .put-word .ensures in
+    (put-same (put-more (i .0) put (omega (arith, start .pre, test, i .2))) (lines-next _ _ test), omega arith, omega (arith, i .2, line-next _ put))
 
--- src/numbers.rt:83:1
 same-length : tie.Need-same-length Inv-loop μ-loop
 same-length c = c .before .loop .inv .0 .size
 
--- src/numbers.rt:83:1
 returns : tie.Need-returns Inv-loop μ-loop
 returns c = put-same (c .before .loop .inv .0) (ap wordLines (take-all _ _ (c .loop-test .left)))
 

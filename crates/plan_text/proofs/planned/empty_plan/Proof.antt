@@ -1,12 +1,9 @@
-use borrow.Author.Needs.{needs}
+-- `plan_text::planned::empty_plan` meets its contract.
 use mathlib.Core.Path.{refl}
 use Rattle.plan_text.specs.Planned.{emptyPlan}
 use Rattle.plan_text.proofs.planned.empty_plan.Statement.{statement}
 use Rattle.plan_text.proofs.planned.empty_plan.Tie as tie
-use Rattle.plan_text.proofs.planned.empty_plan.Reads as reads
-use Rattle.plan_text.proofs.planned.empty_plan.Lts as lts
 
--- src/planned.rt:8:1
 returns : tie.Need-returns
 unfolding emptyPlan
 returns c = refl
