@@ -1,54 +1,62 @@
--- Laws of the day's plan that is to be printed: it is the build's, and has no more words than its buffer.
+-- Laws of the day's plan that is to be printed: it is what planning with trials answers, and has no more words than its buffer.
 -- Assumes nothing.
 use Prim.Native.Nat.{ℕ, _+_, _*_, _≤_}
 use mathlib.Core.Path.{_≡_, refl, sym, ap, _∙_}
 use mathlib.Core.Bool.{Bool, true, false, false≢true}
-use mathlib.Core.List.{List}
+use mathlib.Core.List.{List, [], _∷_}
 use native.Mathlib.Omega.{arith}
-use lib.Dec.{ltb}
-use lib.ListN.{length, length-replicate}
-use borrow.Author.Tests.{ltb-false}
-use Rattle.laws.specs.Answers.{isGiven}
+use lib.ListN.{length, length-replicate, getD}
+use borrow.Author.Tests.{ne-eqb}
+use Rattle.laws.specs.Answers.{given, refused, isGiven}
 use Rattle.laws.specs.Tests.{if_then_else_}
+use Rattle.day.specs.Accepted.{IsAccepted}
 use Rattle.day.specs.Day.{judgeDay}
 use Rattle.day.specs.Fields.{stops}
-use Rattle.planner.specs.Built.{builtAnswer, buildAnswer, buildBuffer}
-use Rattle.planner.proofs.GreedyRoom.{greedy-room}
+use Rattle.day.proofs.Answered.{Judged, accepted, refusal, day-judged, given-accepted}
+use Rattle.day.proofs.Ranges.{accepted-ranges}
+use Rattle.planner.specs.Planned.{fewNeighbours, longEnough, resultValues, plannedAnswer, planAnswer, planBuffer}
+use Rattle.trials.specs.Attempts.{searched}
+use Rattle.trials.proofs.Promises.{promised}
 use Rattle.plan_text.specs.Lines.{Within}
-use Rattle.plan_text.specs.Planned.{emptyPlan, plannedAnswer, plannedBuffer}
+use Rattle.plan_text.specs.Planned.{emptyPlan, printedAnswer, printedBuffer}
 
 pub empty-length : length emptyPlan ≡ 1200
 unfolding emptyPlan
 empty-length = length-replicate {A = ℕ} 1200 0
 
-pub planned-answer : (day plan : List ℕ) {answer : List ℕ} → plan ≡ emptyPlan → answer ≡ buildAnswer day (length plan)
-    → answer ≡ plannedAnswer day
-unfolding plannedAnswer
-planned-answer day plan q e = e ∙ ap (buildAnswer day) (ap length q ∙ empty-length)
+pub planned-answer : (day plan work : List ℕ) {answer : List ℕ} → plan ≡ emptyPlan → work ≡ emptyPlan → answer ≡ planAnswer day 5 6 (length plan) (length work)
+    → answer ≡ printedAnswer day
+unfolding printedAnswer
+planned-answer day plan work p w e = e ∙ rw (p, w, empty-length) refl
 
-pub planned-buffer : (day plan : List ℕ) {now : List ℕ} → plan ≡ emptyPlan → now ≡ buildBuffer day plan → now ≡ plannedBuffer day
-unfolding plannedBuffer
-planned-buffer day plan q e = e ∙ ap (buildBuffer day) q
+pub planned-buffer : (day plan work : List ℕ) {now : List ℕ} → plan ≡ emptyPlan → work ≡ emptyPlan → now ≡ planBuffer day 5 6 (length work) plan
+    → now ≡ printedBuffer day
+unfolding printedBuffer
+planned-buffer day plan work p w e = e ∙ rw (p, w, empty-length) refl
 
 -- a plan that is told has no more words than its buffer
-built-within : (day : List ℕ) → Within (builtAnswer day 1200) 1200
-unfolding builtAnswer
-built-within day = go (ltb 1200 (5 * stops day)) refl
-  where
-    go : (b : Bool) → ltb 1200 (5 * stops day) ≡ b → Within (builtAnswer day 1200) 1200
-    go true e h = absurd (false≢true (rw e at h))
-    go false e h = rw e (omega (arith, greedy-room day, ltb-false 1200 (5 * stops day) e))
+long-within : (t : Bool) (values : List ℕ) (need : ℕ) → getD values 4 0 ≤ 1200 → Within (if t then given values else refused 14 need) 1200
+long-within true values need few h = few
+long-within false values need few h = absurd (false≢true h)
 
-pub planned-within : (day : List ℕ) → Within (plannedAnswer day) 1200
-unfolding plannedAnswer buildAnswer
-planned-within day = go (isGiven (judgeDay day)) refl
-  where
-    go : (b : Bool) → isGiven (judgeDay day) ≡ b → Within (if b then builtAnswer day 1200 else judgeDay day) 1200
-    go true e h = built-within day h
-    go false e h = absurd (false≢true (sym e ∙ h))
+accepted-within : (day : List ℕ) → IsAccepted day → Within (plannedAnswer day 5 6 1200 1200) 1200
+unfolding plannedAnswer fewNeighbours resultValues
+accepted-within day a =
+    let fits = promised day (5 ∷ []) 6 a .fits in
+    long-within (longEnough day 1200 1200) (resultValues day (searched day (5 ∷ []) 6)) (5 * stops day) (omega (arith, fits, accepted-ranges day a .stopsMost))
+
+judged-within : (day answer : List ℕ) → Judged answer → answer ≡ judgeDay day → Within (if isGiven answer then plannedAnswer day 5 6 1200 1200 else answer) 1200
+judged-within day answer (accepted n d) e = accepted-within day (given-accepted day e)
+judged-within day answer (refusal number place some) e =
+    let none : isGiven (refused number place) ≡ false = ne-eqb number 0 (λ z. omega (arith, some, z)) in
+    rw none (λ h. absurd (false≢true (sym none ∙ h)))
+
+pub planned-within : (day : List ℕ) → Within (printedAnswer day) 1200
+unfolding printedAnswer planAnswer
+planned-within day = judged-within day (judgeDay day) (day-judged day) refl
 
 -- a text of 16,384 bytes has room for the answer's line and for nine bytes for each word
-pub day-room : (day text plan first : List ℕ) {answer : List ℕ} → 16384 ≤ length text → answer ≡ plannedAnswer day
+pub day-room : (day text plan first : List ℕ) {answer : List ℕ} → 16384 ≤ length text → answer ≡ printedAnswer day
     → length plan ≡ length first → first ≡ emptyPlan → (88 + 9 * length plan ≤ length text) × Within answer (length plan)
 day-room day text plan first {answer} room e kept q = (omega (arith, room, size), λ h. omega (arith, size, few h))
   where

@@ -7,11 +7,11 @@ use Rattle.laws.specs.Answers.{isGiven}
 use Rattle.laws.specs.Tests.{if_then_else_}
 use Rattle.day.specs.Bytes.{byteWords, readAnswer}
 use Rattle.plan_text.specs.Lines.{tooLong, refusedLine, answerText}
-use Rattle.plan_text.specs.Planned.{plannedAnswer, plannedBuffer}
+use Rattle.plan_text.specs.Planned.{printedAnswer, printedBuffer}
 
 -- of a day's words
 unfoldable pub dayText : List ℕ → List ℕ
-dayText day = answerText (plannedAnswer day) (plannedBuffer day)
+dayText day = answerText (printedAnswer day) (printedBuffer day)
 
 -- of bytes that are few enough: the refusal of byte reading, or the day's
 unfoldable pub bytesText : List ℕ → List ℕ

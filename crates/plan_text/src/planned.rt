@@ -1,8 +1,8 @@
 // The call that plans a day to be printed.
 ghost use mathlib.Core.Path.{_≡_};
-ghost use Rattle.planner.specs.Built.{planValues};
-ghost use Rattle.plan_text.specs.Planned.{emptyPlan, plannedAnswer, plannedBuffer};
-use planner::PlanAnswer;
+ghost use Rattle.builder.specs.Built.{planValues};
+ghost use Rattle.plan_text.specs.Planned.{emptyPlan, printedAnswer, printedBuffer};
+use builder::PlanAnswer;
 
 // Five words for each of 240 stops.
 pub fn empty_plan() -> [u32; 1200]
@@ -11,11 +11,12 @@ pub fn empty_plan() -> [u32; 1200]
     [0; 1200]
 }
 
-// The plan of a day, in an empty buffer.
+// The plan of a day, in an empty buffer: neighbourhoods of five stops, six trials.
 pub fn plan_of(day: &[u32], plan: &mut [u32]) -> PlanAnswer
     requires { ⌜ now plan ≡ emptyPlan ⌝ }
-    ensures answer { λ r. ⌜ planValues r ≡ plannedAnswer (now (day .entry)) ⌝ }
-    ensures buffer { λ r. ⌜ now (plan .exit) ≡ plannedBuffer (now (day .entry)) ⌝ }
+    ensures answer { λ r. ⌜ planValues r ≡ printedAnswer (now (day .entry)) ⌝ }
+    ensures buffer { λ r. ⌜ now (plan .exit) ≡ printedBuffer (now (day .entry)) ⌝ }
 {
-    planner::build(day, plan)
+    let mut work = empty_plan();
+    planner::plan(day, 5, 6, plan, &mut work)
 }

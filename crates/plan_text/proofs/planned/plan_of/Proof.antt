@@ -4,18 +4,26 @@ use Rattle.plan_text.proofs.PlannedLaws.{planned-answer, planned-buffer
 use Rattle.plan_text.proofs.planned.plan_of.Statement.{statement}
 use Rattle.plan_text.proofs.planned.plan_of.Tie as tie
 
-build-requires : tie.Need-build-requires
-build-requires c κs = search needs
+empty-plan-requires : tie.Need-empty-plan-requires
+empty-plan-requires c κs = search needs
+
+slice-aggregate-plan : tie.Need-slice-aggregate-plan
+slice-aggregate-plan c = search needs
+
+plan-requires : tie.Need-plan-requires
+plan-requires c κs = search needs
 
 same-length : tie.Need-same-length
 same-length c = search needs
 
 returns : tie.Need-returns
 returns c =
-    let at-build = c .before .before in
-    let start = at-build .before .before .before .before in
-    let built = at-build .build .ensures in
-    (planned-answer _ _ (start .pre) (built .0), planned-buffer _ _ (start .pre) (built .1))
+    let at-plan = c .before .before .before in
+    let at-empty-plan = at-plan .before .before .before in
+    let start = at-empty-plan .before .before .before in
+    let empty = at-empty-plan .empty-plan in
+    let planned = at-plan .plan .ensures in
+    (planned-answer _ _ (empty .result) (start .pre) (empty .ensures) (planned .0), planned-buffer _ _ (empty .result) (start .pre) (empty .ensures) (planned .1))
 
 pub plan-of-spec : {M : Type 1} → statement M
-plan-of-spec = tie.close (tie.spec build-requires same-length returns)
+plan-of-spec = tie.close (tie.spec empty-plan-requires slice-aggregate-plan plan-requires same-length returns)
