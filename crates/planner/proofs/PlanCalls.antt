@@ -1,21 +1,19 @@
 -- The call that plans with trials answers, and leaves the plan's buffer, as the definitions say. Assumes nothing.
 use Prim.Native.Nat.{ℕ, _+_, _-_, _*_, _≤_, _<_}
-use mathlib.Core.Path.{_≡_, refl, sym, ap, _∙_, subst}
-use mathlib.Core.Bool.{Bool, true, false, _&&_, not}
-use mathlib.Core.List.{List, [], _∷_, _++_, append-nil, append-assoc}
+use mathlib.Core.Path.{_≡_, refl, sym, ap, _∙_}
+use mathlib.Core.Bool.{Bool, true, false}
+use mathlib.Core.List.{List, [], _∷_, _++_, append-assoc}
 use native.Mathlib.Omega.{arith}
 use borrow.Rule.Slice.PartMut.{putMid}
 use lib.Dec.{ltb, leb}
-use lib.ListN.{length, length-append, length-replicate, length-drop, getD, take, drop, replicate}
+use lib.ListN.{length, length-append, length-replicate, getD, take, drop, replicate}
 use lib.Seq.{take-at, drop-at, length-take-le, take-take}
 use borrow.Author.Tests.{le-leb, lt-leb, le-ltb, leb-true}
-use Rattle.laws.specs.Answers.{given, refused, isGiven}
+use Rattle.laws.specs.Answers.{given, refused}
 use Rattle.laws.specs.Buffer.{over}
-use Rattle.laws.specs.Lists.{total}
 use Rattle.laws.specs.Tests.{if_then_else_}
 use Rattle.laws.proofs.Buffer.{over-drop}
 use Rattle.laws.proofs.Tests.{both-true}
-use Rattle.day.specs.Accepted.{IsAccepted}
 use Rattle.day.specs.Answers.{dayValues}
 use Rattle.day.specs.declared.DayAnswer.{DayAnswer}
 use Rattle.day.specs.declared.DayAnswer.the-variants as Days
@@ -36,7 +34,7 @@ use Rattle.trials.specs.Searches.{PlanAt, fromGreedy, Improved}
 use Rattle.trials.specs.TrialList.{trialList}
 use Rattle.trials.specs.declared.search.Search.{Search}
 use Rattle.trials.proofs.Searching.{lists-one}
-use Rattle.trials.proofs.Shapes.{greedy-shaped, shaped-length}
+use Rattle.trials.proofs.Shapes.{greedy-shaped}
 use Rattle.planner.specs.Planned.{fewNeighbours, longEnough, resultValues, plannedAnswer, plannedBuffer, planAnswer, planBuffer, WorkedOver}
 
 -- one neighbourhood

@@ -1,29 +1,29 @@
 -- A vehicle while it is walked again: each task that is written keeps it standing, and its numbers small. Assumes nothing.
-use Prim.Native.Nat.{ℕ, suc, _+_, _*_, _≤_, _<_, max}
+use Prim.Native.Nat.{ℕ, _+_, _≤_, _<_}
 use mathlib.Core.Path.{_≡_, refl, sym, ap, _∙_, subst}
-use mathlib.Core.Bool.{Bool, true, false}
+use mathlib.Core.Bool.{true, false}
 use mathlib.Core.List.{List, [], _∷_, _++_, map, map-append}
-use mathlib.Core.Option.{Option, none, some}
+use mathlib.Core.Option.{none, some}
 use native.Mathlib.Omega.{arith}
 use lib.ListN.{length, length-append, length-map, set}
 use borrow.Author.Tests.{ne-eqb}
 use Rattle.laws.specs.Buffer.{Wrote}
 use Rattle.laws.proofs.Buffer.{wrote-put, wrote-same}
-use Rattle.day.specs.Accepted.{IsAccepted, Accepted}
+use Rattle.day.specs.Accepted.{IsAccepted}
 use Rattle.day.proofs.Ranges.{accepted-ranges}
-use Rattle.day.specs.Fields.{stops, tips, places, stopPlace, quantity}
+use Rattle.day.specs.Fields.{stops, tips, stopPlace, quantity}
 use Rattle.checker.specs.Cargo.{cargoAfter}
 use Rattle.checker.specs.Plan.{Task, serve, empty, lunch, Round, taskWord, stopsOn}
 use Rattle.checker.specs.PlanWords.{vehicleWord, stopWord, tipWord, restWord}
-use Rattle.checker.specs.Trip.{visited, restedAt}
+use Rattle.checker.specs.Trip.{visited}
 use Rattle.checker.specs.declared.walk.Trip.{Trip}
-use Rattle.builder.specs.Build.{Truck, fresh, doing, resting}
+use Rattle.builder.specs.Build.{Truck, doing, resting}
 use Rattle.builder.specs.Home.{due, restIfDue}
 use Rattle.builder.specs.Tips.{nearestTip}
 use Rattle.trials.specs.Walk.{inserting}
 use Rattle.builder.specs.States.{SmallTrip}
-use Rattle.builder.proofs.Decided.{bit-most, known}
-use Rattle.builder.proofs.GreedyRoom.{Paid, paid-rest, paid-serve, paid-empty, tasks-counted}
+use Rattle.builder.proofs.Decided.{bit-most}
+use Rattle.builder.proofs.GreedyRoom.{paid-rest, paid-serve, paid-empty, tasks-counted}
 use Rattle.builder.proofs.VehicleStops.{stops-append}
 use Rattle.trials.specs.Cabs.{Modest, Standing, Stands, failed, onRoad, SomeStanding, Drives}
 use Rattle.trials.specs.declared.cabs.Cab.{Cab}

@@ -1,24 +1,23 @@
 -- The plan that a trial gives, written vehicle by vehicle. Assumes nothing.
-use Prim.Native.Nat.{ℕ, suc, _+_, _-_, _*_, _≤_, _<_}
-use mathlib.Core.Path.{_≡_, refl, sym, ap, _∙_, subst}
+use Prim.Native.Nat.{ℕ, _-_}
+use mathlib.Core.Path.{_≡_, refl, sym, _∙_}
 use mathlib.Core.Bool.{Bool, true, false, true≢false, _||_}
-use mathlib.Core.List.{List, [], _∷_, _++_, map}
-use mathlib.Core.Option.{Option, none, some}
+use mathlib.Core.List.{List}
+use mathlib.Core.Option.{some}
 use native.Mathlib.Omega.{arith}
 use lib.Dec.{eqb}
-use lib.ListN.{length, length-append, getD, take, drop}
+use lib.ListN.{length, take, drop}
 use borrow.Author.Tests.{eq-eqb, ne-eqb}
 use Rattle.laws.specs.Buffer.{Wrote}
-use Rattle.laws.specs.Lists.{Every}
 use Rattle.laws.specs.Tests.{if_then_else_}
 use Rattle.laws.proofs.Buffer.{wrote-same}
-use Rattle.checker.specs.Plan.{Round, taskWord, roundWords, stopsOn, Known}
-use Rattle.trials.specs.Candidates.{Roundable, SomeRoundable, RoundDone, RoundAs}
+use Rattle.checker.specs.Plan.{Round}
+use Rattle.trials.specs.Candidates.{Roundable, SomeRoundable, RoundAs}
 use Rattle.trials.specs.Edits.{Edit, changed}
 use Rattle.trials.specs.Rewalks.{Walkable, SomeWalkable, WalkedAs}
 use Rattle.trials.specs.Walk.{walkedAgain}
 use Rattle.trials.specs.declared.vehicle.Walked.{Walked}
-use Rattle.trials.proofs.CopyLaws.{inner-words, round-long}
+use Rattle.trials.proofs.CopyLaws.{inner-words}
 
 -- a touched vehicle's tasks are walked again
 module _ {day : List ℕ} {e : Edit} {touched : Bool} {number : ℕ} {words part : List ℕ} (yes : touched ≡ true) where

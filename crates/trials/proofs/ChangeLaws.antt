@@ -1,14 +1,14 @@
 -- What a word becomes under an edit is what its task becomes. Assumes nothing.
 use Prim.Native.Nat.{ℕ, _+_, _≤_, _<_}
 use mathlib.Core.Path.{_≡_, refl, sym, ap, _∙_, subst}
-use mathlib.Core.Bool.{Bool, true, false, _&&_}
-use mathlib.Core.List.{List, [], _∷_, _++_}
+use mathlib.Core.Bool.{true, false, _&&_}
+use mathlib.Core.List.{List, [], _∷_}
 use mathlib.Core.Logic.{inl, inr}
 use native.Mathlib.Omega.{arith}
 use lib.Dec.{eqb, leb}
 use borrow.Author.Tests.{eq-eqb, ne-eqb, le-leb, lt-leb, eqb-true, eqb-false}
 use Rattle.laws.specs.Tests.{if_then_else_}
-use Rattle.day.specs.Fields.{stops, tips}
+use Rattle.day.specs.Fields.{stops}
 use Rattle.checker.specs.Plan.{Task, serve, empty, lunch, taskWord, Known}
 use Rattle.checker.specs.PlanWords.{stopWord, tipWord, restWord}
 use Rattle.builder.proofs.Decided.{known}

@@ -1,7 +1,7 @@
 -- Words copied to the front of a part, and the parts of a vehicle's words. Assumes nothing.
-use Prim.Native.Nat.{ℕ, suc, _+_, _-_, _≤_, _<_}
-use mathlib.Core.Path.{_≡_, refl, sym, ap, _∙_, subst}
-use mathlib.Core.List.{List, [], _∷_, _++_, map}
+use Prim.Native.Nat.{ℕ, _+_, _-_, _≤_, _<_}
+use mathlib.Core.Path.{_≡_, refl, sym, ap, _∙_}
+use mathlib.Core.List.{List, [], _∷_, map}
 use native.Mathlib.Omega.{arith}
 use native.Mathlib.Numerals.{add-one}
 use lib.ListN.{length, length-append, length-map, getD, take, drop, set}
@@ -9,7 +9,7 @@ use lib.Seq.{take-suc, take-at, take-all}
 use Rattle.laws.specs.Buffer.{Wrote}
 use Rattle.laws.proofs.Buffer.{wrote-put, wrote-same}
 use Rattle.checker.specs.Plan.{Round, taskWord, roundWords}
-use Rattle.checker.specs.PlanWords.{vehicleWord, backWord}
+use Rattle.checker.specs.PlanWords.{backWord}
 
 -- one word more is copied
 pub copy-next : (words : List ℕ) (i d : ℕ) {p part : List ℕ} → Wrote (take i words) p part i → i < length words → length words ≤ length p

@@ -1,16 +1,16 @@
 -- The search from the greedy plan to the plan that is handed over. Assumes nothing.
-use Prim.Native.Nat.{ℕ, _-_, _*_, _≤_}
-use mathlib.Core.Path.{_≡_, refl, sym, ap, _∙_, subst}
+use Prim.Native.Nat.{ℕ, _-_}
+use mathlib.Core.Path.{_≡_, sym, ap, _∙_}
 use mathlib.Core.Bool.{true, false, true≢false}
-use mathlib.Core.List.{List, [], _∷_, _++_, append-nil}
+use mathlib.Core.List.{List, _++_, append-nil}
 use native.Mathlib.Omega.{arith}
 use lib.ListN.{length, take, drop, replicate}
 use lib.Seq.{drop-length}
 use Rattle.day.specs.Accepted.{IsAccepted}
-use Rattle.checker.specs.Plan.{Round, planWords}
+use Rattle.checker.specs.Plan.{planWords}
 use Rattle.builder.specs.Build.{greedyRounds, greedyLefts}
 use Rattle.trials.specs.Attempts.{distanceOf, attempt}
-use Rattle.trials.specs.Searches.{PlanAt, TakenOver, fromGreedy, Searching, Improved}
+use Rattle.trials.specs.Searches.{PlanAt, Searching, Improved}
 use Rattle.trials.specs.Survey.{SurveysAll}
 use Rattle.trials.specs.TrialList.{trialList}
 use Rattle.trials.specs.TrialRest.{listStart}

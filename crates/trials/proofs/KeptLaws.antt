@@ -4,27 +4,26 @@ use mathlib.Core.Path.{_≡_, refl, sym, ap, _∙_, subst}
 use mathlib.Core.Bool.{Bool, true, false, true≢false, _&&_}
 use mathlib.Core.List.{List, [], _∷_}
 use mathlib.Core.Logic.{inl, inr}
-use mathlib.Core.Option.{Option, none, some}
+use mathlib.Core.Option.{none, some}
 use native.Mathlib.Omega.{arith}
 use lib.Dec.{ltb}
 use lib.ListN.{length, length-append, getD, take, drop}
 use borrow.Author.Tests.{le-ltb, lt-ltb}
 use Rattle.laws.specs.Answers.{given, refused, isGiven}
 use Rattle.laws.specs.Buffer.{Wrote, over}
-use Rattle.laws.specs.Lists.{total}
 use Rattle.laws.specs.Tests.{if_then_else_}
 use Rattle.laws.proofs.Buffer.{over-front}
 use Rattle.day.specs.Accepted.{IsAccepted}
 use Rattle.checker.specs.Check.{checkWords, checkPlan}
-use Rattle.checker.specs.Lawful.{distanceFrom, totals}
+use Rattle.checker.specs.Lawful.{totals}
 use Rattle.checker.specs.Plan.{Round, planWords}
 use Rattle.builder.specs.Build.{greedyLefts}
 use Rattle.builder.proofs.Decided.{known}
 use Rattle.trials.specs.Attempts.{tried, distanceOf, isLawful, keptIf, attempt}
-use Rattle.trials.specs.Candidates.{Candidate, CandidateAs}
+use Rattle.trials.specs.Candidates.{CandidateAs}
 use Rattle.trials.specs.Edits.{Trial}
-use Rattle.trials.specs.Shapes.{Shaped, Valid}
-use Rattle.trials.specs.Tries.{Measured, Made, SomeMade, NoneKept, Kept, TriedAs, LawfulBy, Judged}
+use Rattle.trials.specs.Shapes.{Shaped}
+use Rattle.trials.specs.Tries.{Made, NoneKept, TriedAs, LawfulBy, Judged}
 use Rattle.trials.specs.declared.tries.Tried.{Tried}
 use Rattle.trials.specs.declared.vehicle.Walked.{Walked}
 use Rattle.trials.proofs.PlanTold.{told-totals}

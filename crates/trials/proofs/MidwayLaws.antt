@@ -3,32 +3,31 @@ use Prim.Native.Nat.{ℕ, zero, suc, _+_, _-_, _*_, _≤_, _<_}
 use mathlib.Core.Path.{_≡_, refl, sym, ap, _∙_, subst}
 use mathlib.Core.Bool.{Bool, true, false, true≢false}
 use mathlib.Core.List.{List, [], _∷_, _++_, map}
-use mathlib.Core.Option.{Option, none, some, Option·some-injective, Option·none-ne-some}
+use mathlib.Core.Option.{Option, some}
 use native.Mathlib.Omega.{arith}
 use lib.Dec.{eqb}
-use lib.ListN.{length, length-append, length-map, getD, drop, set, List·getD-map, drop-of-length-le}
+use lib.ListN.{length, length-append, length-map, getD, drop, set, drop-of-length-le}
 use Rattle.laws.specs.Buffer.{Wrote}
 use Rattle.laws.specs.Lists.{Every}
 use Rattle.laws.specs.Tests.{if_then_else_}
-use Rattle.laws.proofs.Buffer.{wrote-none, wrote-put, wrote-same}
+use Rattle.laws.proofs.Buffer.{wrote-put, wrote-same}
 use Rattle.day.specs.Fields.{legDistance}
-use Rattle.checker.specs.Lawful.{distanceFrom}
-use Rattle.checker.specs.Plan.{Task, lunch, Round, stopsOn, taskWord, roundWords, Known}
+use Rattle.checker.specs.Plan.{lunch, Round, stopsOn, taskWord, roundWords}
 use Rattle.checker.specs.PlanWords.{vehicleWord, backWord}
 use Rattle.checker.specs.Trip.{leaving}
 use Rattle.checker.specs.declared.walk.Trip.{Trip}
 use Rattle.builder.specs.Build.{Truck, fresh}
 use Rattle.builder.proofs.GreedyRoom.{paid-fresh}
 use Rattle.builder.proofs.VehicleStops.{stops-append}
-use Rattle.trials.specs.Cabs.{Modest, Standing, Stands, failed, onRoad, SomeStanding, Drives}
+use Rattle.trials.specs.Cabs.{Stands, failed, onRoad, SomeStanding, Drives}
 use Rattle.trials.specs.Edits.{Edit, changed}
-use Rattle.trials.specs.Rewalks.{editOf, EditKnown, SomeWord, WalksWord, Left, fromTask, fromWaiting, Turned, TakesTurn, steps, Walkable, Midway, Through, Again, WalkedAs}
+use Rattle.trials.specs.Rewalks.{editOf, EditKnown, SomeWord, WalksWord, Left, fromTask, fromWaiting, Turned, TakesTurn, steps, Walkable, Midway, Through, WalkedAs}
 use Rattle.trials.specs.Walk.{walkOn, walkHome, doneBy, walkedAgain}
 use Rattle.trials.specs.declared.cabs.Cab.{Cab}
 use Rattle.trials.specs.declared.edits.Edit as Code
 use Rattle.trials.specs.declared.vehicle.Turn.{Turn}
 use Rattle.trials.specs.declared.vehicle.Walked.{Walked}
-use Rattle.trials.proofs.CabLaws.{standing-fewer, standing-space, on-road}
+use Rattle.trials.proofs.CabLaws.{standing-fewer, standing-space}
 use Rattle.trials.proofs.RewalkLaws.{stands-fewer, walk-append}
 use Rattle.trials.proofs.WalkLaws.{stands-goes, stands-failed}
 use Rattle.trials.proofs.Walking.{walked-on, walked-home, walked-distance}

@@ -1,9 +1,9 @@
 -- One vehicle of the plan that a trial gives: where its words stand, what it becomes and that there is room for it. Assumes nothing.
-use Prim.Native.Nat.{ℕ, suc, _+_, _-_, _*_, _≤_, _<_}
-use mathlib.Core.Path.{_≡_, refl, sym, ap, _∙_, subst}
-use mathlib.Core.Bool.{Bool, true, false, _||_}
-use mathlib.Core.List.{List, [], _∷_, _++_, map}
-use mathlib.Core.Option.{Option, none, some}
+use Prim.Native.Nat.{ℕ, _+_, _-_, _*_, _≤_, _<_}
+use mathlib.Core.Path.{_≡_, sym, ap, _∙_, subst}
+use mathlib.Core.Bool.{Bool, _||_}
+use mathlib.Core.List.{List, [], _∷_, _++_}
+use mathlib.Core.Option.{some}
 use native.Mathlib.Omega.{arith}
 use lib.Dec.{eqb}
 use lib.ListN.{length, length-append, getD, take, drop}
@@ -12,16 +12,15 @@ use Rattle.laws.specs.Tests.{if_then_else_}
 use Rattle.day.specs.Accepted.{IsAccepted}
 use Rattle.day.proofs.Ranges.{accepted-ranges}
 use Rattle.day.specs.Fields.{stops}
-use Rattle.checker.specs.Plan.{Round, roundWords, roundsWords, planWords, stopsOn, stopsOnAll, Known}
+use Rattle.checker.specs.Plan.{Round, roundWords, roundsWords, stopsOn, stopsOnAll, Known}
 use Rattle.builder.specs.Build.{greedyLefts}
-use Rattle.builder.proofs.GreedyRoom.{Room, round-length, plan-length}
+use Rattle.builder.proofs.GreedyRoom.{Room, plan-length}
 use Rattle.trials.specs.Attempts.{retried}
 use Rattle.trials.specs.Candidates.{Roundable, SomeRoundable, RoundAs, Trying, SomeNext}
-use Rattle.trials.specs.Edits.{Edit, Trial, touches, changed}
-use Rattle.trials.specs.Shapes.{Shaped, EachFrom}
+use Rattle.trials.specs.Edits.{Trial, touches, changed}
+use Rattle.trials.specs.Shapes.{EachFrom}
 use Rattle.trials.specs.Walk.{walkedAgain}
 use Rattle.trials.specs.declared.vehicle.Walked.{Walked}
-use Rattle.trials.proofs.CandidateLaws as C
 use Rattle.trials.proofs.CopyLaws.{round-long}
 use Rattle.trials.proofs.MidwayLaws.{every-at}
 use Rattle.trials.proofs.RoundLists.{cut-whole, cut-words, front-more, front-length, rounds-more, slice-words}

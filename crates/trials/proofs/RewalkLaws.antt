@@ -1,7 +1,7 @@
 -- A vehicle's words changed and walked again, word by word. Assumes nothing.
-use Prim.Native.Nat.{ℕ, suc, _+_, _-_, _*_, _≤_, _<_}
-use mathlib.Core.Path.{_≡_, refl, sym, ap, _∙_, subst}
-use mathlib.Core.Bool.{Bool, true, false, true≢false}
+use Prim.Native.Nat.{ℕ, _+_, _-_, _≤_, _<_}
+use mathlib.Core.Path.{_≡_, refl, sym, ap, _∙_}
+use mathlib.Core.Bool.{true, false}
 use mathlib.Core.List.{List, [], _∷_, _++_, append-nil, append-assoc}
 use mathlib.Core.Option.{Option, none, some}
 use native.Mathlib.Omega.{arith}
@@ -10,20 +10,17 @@ use lib.ListN.{length, getD, drop}
 use lib.Seq.{drop-cons}
 use borrow.Author.Tests.{eq-eqb, ne-eqb}
 use Rattle.day.specs.Fields.{stops, tips}
-use Rattle.day.specs.Layout.{LayoutOf}
-use Rattle.day.specs.declared.fields.Layout.{Layout}
 use Rattle.checker.specs.Plan.{Task, serve, empty, lunch, Round, stopsOn, Known}
 use Rattle.checker.specs.PlanWords.{stopWord, tipWord}
 use Rattle.builder.specs.Build.{Truck, resting}
-use Rattle.builder.proofs.VehicleStops.{stops-append}
-use Rattle.trials.specs.Cabs.{Standing, Stands, failed, onRoad, SomeStanding, Drives}
+use Rattle.trials.specs.Cabs.{Stands, failed, onRoad, SomeStanding, Drives}
 use Rattle.trials.specs.Edits.{Edit, change, changed}
 use Rattle.trials.specs.Rewalks.{Means, nothing, aStop, aTip, Becomes, SomeWord, WalksWord, Left, fromTask, fromWaiting, Turned, steps}
 use Rattle.trials.specs.Walk.{walkTask, walkNext, walkOn}
 use Rattle.trials.specs.declared.cabs.Cab.{Cab}
 use Rattle.trials.specs.declared.vehicle.Turn.{Turn}
 use Rattle.trials.proofs.CabLaws.{standing-fewer, on-road}
-use Rattle.trials.proofs.WalkLaws.{Goes, stands-goes, stands-failed}
+use Rattle.trials.proofs.WalkLaws.{stands-goes, stands-failed}
 use Rattle.trials.proofs.Walking.{failed-on}
 
 -- it may serve as many stops or fewer

@@ -1,12 +1,12 @@
 -- One step of the search: the list is at its end, the budget is gone, a trial gives no plan, or its plan is kept. Assumes nothing.
-use Prim.Native.Nat.{ℕ, _+_, _-_, _*_, _≤_, _<_}
-use mathlib.Core.Path.{_≡_, refl, sym, ap, _∙_, subst}
+use Prim.Native.Nat.{ℕ, _+_, _-_, _≤_, _<_}
+use mathlib.Core.Path.{_≡_, sym, _∙_, subst}
 use mathlib.Core.Bool.{Bool, true, false, true≢false, not}
 use mathlib.Core.Logic.{inl, inr}
 use mathlib.Core.List.{List, [], _∷_}
-use mathlib.Core.Option.{Option, none, some}
+use mathlib.Core.Option.{none, some}
 use native.Mathlib.Omega.{arith}
-use lib.ListN.{length, length-append, take, drop}
+use lib.ListN.{length-append, take, drop}
 use borrow.Author.Tests.{not-true, not-false}
 use Rattle.laws.specs.Lists.{Every}
 use Rattle.laws.specs.Tests.{if_then_else_}
@@ -15,21 +15,18 @@ use Rattle.day.specs.Accepted.{IsAccepted}
 use Rattle.day.specs.Layout.{LayoutOf}
 use Rattle.day.specs.declared.fields.Layout.{Layout}
 use Rattle.day.proofs.Ranges.{accepted-ranges}
-use Rattle.checker.specs.Plan.{Round, roundWords, roundsWords, planWords}
+use Rattle.checker.specs.Plan.{Round, roundWords, roundsWords}
 use Rattle.builder.proofs.GreedyRoom.{round-length}
-use Rattle.builder.specs.Build.{greedyRounds, greedyLefts}
-use Rattle.trials.specs.Attempts.{distanceOf, attempt}
-use Rattle.trials.specs.Candidates.{Trying}
-use Rattle.trials.specs.Edits.{Trial}
+use Rattle.builder.specs.Build.{greedyLefts}
+use Rattle.trials.specs.Attempts.{attempt}
 use Rattle.trials.specs.Listing.{PlanTables, CursorFits, ListAnswer}
-use Rattle.trials.specs.Search.{Result, run, improve}
-use Rattle.trials.specs.Searches.{PlanAt, SomePlanAt, TakenOver, TakesOver, fromGreedy, Going, Searching, AfterTrial}
-use Rattle.trials.specs.Shapes.{Shaped, Valid}
+use Rattle.trials.specs.Searches.{SomePlanAt, TakenOver, TakesOver, Searching, AfterTrial}
+use Rattle.trials.specs.Shapes.{Valid}
 use Rattle.trials.specs.Survey.{Surveyed}
 use Rattle.trials.specs.Tables.{TableOf}
 use Rattle.trials.specs.TrialList.{trialList}
 use Rattle.trials.specs.TrialRest.{restOf, listStart, trialOf}
-use Rattle.trials.specs.Tries.{Measured, Made, SomeMade, TriedAs}
+use Rattle.trials.specs.Tries.{Made, SomeMade, TriedAs}
 use Rattle.trials.specs.declared.listing.Cursor.{Cursor}
 use Rattle.trials.specs.declared.listing.Listed.{Listed}
 use Rattle.trials.specs.declared.search.Search.{Search}

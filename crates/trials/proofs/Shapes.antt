@@ -10,17 +10,15 @@ use native.Mathlib.Omega.{arith}
 use lib.Dec.{eqb}
 use lib.ListN.{length}
 use borrow.Author.Tests.{eq-eqb, ne-eqb}
-use Rattle.laws.specs.Lists.{Every, mem, times}
-use Rattle.laws.specs.Tests.{if_then_else_}
+use Rattle.laws.specs.Lists.{mem, times}
 use Rattle.day.specs.Fields.{stops}
-use Rattle.checker.specs.Plan.{serve, empty, Round, stopsOn, stopsOnAll, planWords, Known}
+use Rattle.checker.specs.Plan.{serve, Round, stopsOn, stopsOnAll, planWords}
 use Rattle.checker.proofs.PlanChecks.{busy-rounds}
 use Rattle.builder.specs.Build.{greedyRounds, greedyLefts}
 use Rattle.builder.proofs.Decided.{known}
 use Rattle.builder.proofs.GreedyForm.{times-append, greedy-known, greedy-busy, greedy-once, greedy-named}
-use Rattle.builder.proofs.GreedyRoom.{Room, rounds-words, plan-length, greedy-rooms}
-use Rattle.trials.specs.Edits.{before, after, swap, remove, replace, Trial, onOne, onTwo}
-use Rattle.trials.specs.Shapes.{Shaped, EachFrom, StandsOn, On, Valid, moved-before, moved-after, swapped, removed, replaced}
+use Rattle.builder.proofs.GreedyRoom.{rounds-words, plan-length, greedy-rooms}
+use Rattle.trials.specs.Shapes.{Shaped, EachFrom, StandsOn}
 use Rattle.trials.specs.TrialList.{vehicleFrom}
 
 pub greedy-shaped : (day : List ℕ) → Shaped day (greedyRounds day)

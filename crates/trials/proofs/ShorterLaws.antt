@@ -1,7 +1,7 @@
 -- A trial whose touched vehicles drive no less than before gives no lawful, shorter plan. Assumes nothing.
 use Prim.Native.Nat.{ℕ, _+_, _-_, _≤_, _<_}
 use mathlib.Core.Path.{_≡_, refl, sym, ap, _∙_, subst}
-use mathlib.Core.Bool.{Bool, true, false, _&&_, _||_}
+use mathlib.Core.Bool.{true, false}
 use mathlib.Core.List.{List, []}
 use mathlib.Core.Logic.{inl, inr}
 use mathlib.Core.Option.{Option, none, some, Option·some-injective}
@@ -9,20 +9,18 @@ use native.Mathlib.Omega.{arith}
 use lib.Dec.{ltb, eqb}
 use lib.ListN.{length, getD}
 use borrow.Author.Tests.{le-ltb, eq-eqb, ltb-false}
-use Rattle.laws.specs.Tests.{if_then_else_}
 use Rattle.checker.specs.Lawful.{distanceFrom}
 use Rattle.checker.specs.Plan.{Round}
 use Rattle.builder.specs.Build.{greedyLefts}
 use Rattle.builder.proofs.Decided.{known}
-use Rattle.trials.specs.Attempts.{retried, tried, triedFrom, distanceOf, isLawful, keptIf, attempt}
-use Rattle.trials.specs.Candidates.{Trying}
+use Rattle.trials.specs.Attempts.{retried, tried, distanceOf, keptIf, attempt}
 use Rattle.trials.specs.Edits.{Trial, touches, changed}
 use Rattle.trials.specs.Rewalks.{WalkedAs}
 use Rattle.trials.specs.Shapes.{Valid, moved-before, moved-after, swapped, removed, replaced}
 use Rattle.trials.specs.Tries.{SomeTouched, Retries, Measured, SomeMeasured}
 use Rattle.trials.specs.Walk.{walkedAgain}
 use Rattle.trials.specs.declared.vehicle.Walked.{Walked}
-use Rattle.trials.proofs.Gains.{drivenBy, gain, tried-at, driven-one, driven-pair, tried-length}
+use Rattle.trials.proofs.Gains.{gain, tried-at, driven-one, driven-pair, tried-length}
 use Rattle.trials.proofs.RoundLists.{tried-fails}
 
 -- none is kept where the trial fails, or its plan is no shorter

@@ -1,6 +1,6 @@
 -- A plan that is taken over from the working buffer: its words and its tables. Assumes nothing.
 use Prim.Native.Nat.{ℕ, _-_, _*_, _≤_}
-use mathlib.Core.Path.{_≡_, refl, sym, ap, _∙_, subst}
+use mathlib.Core.Path.{_≡_, sym, ap, _∙_}
 use mathlib.Core.List.{List}
 use native.Mathlib.Omega.{arith}
 use lib.ListN.{length, take, drop}
@@ -13,7 +13,7 @@ use Rattle.day.proofs.Ranges.{accepted-ranges}
 use Rattle.checker.specs.Plan.{Round, planWords}
 use Rattle.builder.specs.Build.{greedyLefts}
 use Rattle.trials.specs.Searches.{PlanAt, SomePlanAt, TakenOver}
-use Rattle.trials.specs.Survey.{PlanOf, SomePlan, Surveyed, SurveysAll}
+use Rattle.trials.specs.Survey.{PlanOf, SomePlan, SurveysAll}
 use Rattle.trials.proofs.KeptLaws.{front-part}
 use Rattle.trials.proofs.Shapes.{shaped-few, shaped-length}
 

@@ -1,33 +1,20 @@
 -- One trial of the plan held: the touched vehicles walked again, and what is known when they drive no less. Assumes nothing.
 use Prim.Native.Nat.{ℕ, zero, suc, _+_, _-_, _*_, _≤_, _<_}
 use mathlib.Core.Path.{_≡_, refl, sym, ap, _∙_, subst}
-use mathlib.Core.Bool.{Bool, true, false, _&&_, _||_}
-use mathlib.Core.List.{List, [], _∷_, _++_}
-use mathlib.Core.Option.{Option, none, some, Option·some-injective}
+use mathlib.Core.Bool.{true}
+use mathlib.Core.List.{List, [], _∷_}
 use native.Mathlib.Omega.{arith}
-use lib.Dec.{ltb, eqb}
 use lib.ListN.{length, length-drop, getD, take, drop}
 use lib.Seq.{length-take-le, take-take, drop-drop}
-use borrow.Author.Tests.{le-ltb, eq-eqb}
-use Rattle.laws.specs.Tests.{if_then_else_}
 use Rattle.day.specs.Accepted.{IsAccepted}
-use Rattle.day.proofs.Ranges.{accepted-ranges}
 use Rattle.day.specs.Fields.{stops}
-use Rattle.checker.specs.Lawful.{distanceFrom}
-use Rattle.checker.specs.Plan.{Round, roundWords, stopsOn}
-use Rattle.builder.specs.Build.{greedyLefts}
-use Rattle.trials.specs.Attempts.{retried, tried, triedFrom, distanceOf, isLawful, keptIf, attempt}
-use Rattle.trials.specs.Candidates.{Trying, Roundable}
-use Rattle.trials.specs.Edits.{Trial, touches, changed}
-use Rattle.trials.specs.Rewalks.{Walkable, SomeWalkable, WalkedAs}
-use Rattle.trials.specs.Tries.{SomeTouched, Measured}
-use Rattle.trials.specs.Walk.{walkedAgain}
-use Rattle.trials.specs.declared.vehicle.Walked.{Walked}
+use Rattle.checker.specs.Plan.{Round}
+use Rattle.trials.specs.Candidates.{Trying}
+use Rattle.trials.specs.Edits.{Trial, touches}
+use Rattle.trials.specs.Rewalks.{Walkable}
 use Rattle.trials.proofs.CandidateLaws.{round-walkable}
 use Rattle.trials.proofs.CopyLaws.{round-long}
-use Rattle.trials.proofs.Gains.{drivenBy, gain, tried-at, driven-one, driven-pair}
-use Rattle.trials.proofs.NextRounds.{Bounds, bounds, round-able, stops-here, few-vehicles}
-use Rattle.trials.proofs.RoundLists.{tried-fails}
+use Rattle.trials.proofs.NextRounds.{bounds, round-able, stops-here}
 
 -- a part of a list, and the same without its first and its last element
 slice-length : (xs : List ℕ) (a b : ℕ) → a ≤ b → b ≤ length xs → length (take (b - a) (drop a xs)) ≡ b - a

@@ -1,9 +1,8 @@
 -- The vehicles of the plan that a trial gives, written one behind the other, and the stops left out behind them. Assumes nothing.
 use Prim.Native.Nat.{ℕ, suc, _+_, _-_, _*_, _≤_, _<_}
 use mathlib.Core.Path.{_≡_, refl, sym, ap, _∙_, subst}
-use mathlib.Core.Bool.{Bool, true, false, true≢false}
+use mathlib.Core.Bool.{true, false, true≢false}
 use mathlib.Core.List.{List, [], _∷_, _++_, map}
-use mathlib.Core.Option.{Option, none, some}
 use native.Mathlib.Omega.{arith}
 use lib.ListN.{length, length-append, length-map, length-drop, getD, take, drop, take-append-drop}
 use lib.Seq.{take-all, drop-at, drop-cons}
@@ -17,13 +16,13 @@ use Rattle.checker.specs.PlanWords.{leftWord}
 use Rattle.builder.specs.Build.{greedyLefts}
 use Rattle.builder.proofs.GreedyForm.{greedy-named}
 use Rattle.builder.proofs.GreedyRoom.{Room, rounds-words, plan-length}
-use Rattle.trials.specs.Attempts.{retried, triedFrom, tried}
-use Rattle.trials.specs.Candidates.{RoundDone, RoundAs, Trying, Written, RoundsAs, Candidate, CandidateAs}
+use Rattle.trials.specs.Attempts.{retried, triedFrom}
+use Rattle.trials.specs.Candidates.{RoundDone, RoundAs, Trying, Written, RoundsAs, CandidateAs}
 use Rattle.trials.specs.Edits.{Trial}
-use Rattle.trials.specs.Shapes.{Shaped, EachFrom}
+use Rattle.trials.specs.Shapes.{EachFrom}
 use Rattle.trials.specs.declared.vehicle.Walked.{Walked}
 use Rattle.trials.proofs.EditLaws.{renamed}
-use Rattle.trials.proofs.RoundLists.{cut-whole, front-more, front-length, rounds-more, tried-more, tried-fails}
+use Rattle.trials.proofs.RoundLists.{front-length, rounds-more, tried-more, tried-fails}
 use Rattle.trials.proofs.ShapeKept.{Suited, valid-suits, AllRemade, tried-remade}
 use Rattle.trials.proofs.Shapes.{each-front}
 use Rattle.trials.proofs.TrialRoom.{every-front, stops-parts}

@@ -1,15 +1,11 @@
-use borrow.Author.Needs.{needs}
+-- `planner::accepted::is_few` meets its contract.
 use Rattle.planner.proofs.PlanCalls.{few-none, few-most}
 use Rattle.planner.proofs.accepted.is_few.Statement.{statement}
 use Rattle.planner.proofs.accepted.is_few.Tie as tie
-use Rattle.planner.proofs.accepted.is_few.Reads as reads
-use Rattle.planner.proofs.accepted.is_few.Lts as lts
 
--- src/accepted.rt:47:9
 returns : tie.Need-returns
 returns c = search few-none
 
--- src/accepted.rt:43:1
 returns-2 : tie.Need-returns-2
 returns-2 c = search few-most
 

@@ -1,50 +1,37 @@
+-- `planner::accepted::plan_accepted` meets its contract.
 use lib.ListN.{length}
 use native.Mathlib.Omega.{arith}
-use mathlib.Core.Path.{refl, sym, _∙_, ap}
+use mathlib.Core.Path.{refl, sym, _∙_}
 use Rattle.day.proofs.Ranges.{accepted-ranges}
 use Rattle.planner.proofs.PlanCalls.{few-is, long-room, outside-answer, outside-buffer, short-answer, short-buffer, worked-answer, worked-buffer, need-refused}
 use borrow.Author.Needs.{needs}
 use Rattle.planner.proofs.accepted.plan_accepted.Statement.{statement}
 use Rattle.planner.proofs.accepted.plan_accepted.Tie as tie
-use Rattle.planner.proofs.accepted.plan_accepted.Reads as reads
-use Rattle.planner.proofs.accepted.plan_accepted.Lts as lts
-use Rattle.planner.proofs.accepted.are_long.Reads as are-long-reads
-use Rattle.planner.proofs.accepted.is_few.Reads as is-few-reads
-use Rattle.planner.proofs.accepted.work_over.Reads as work-over-reads
 
--- src/accepted.rt:70:8
 is-few-requires : tie.Need-is-few-requires
 is-few-requires c κs = search needs
 
--- src/accepted.rt:71:12
 are-long-requires : tie.Need-are-long-requires
 are-long-requires c κs = (c .before .before .before .before .before .pre .0, omega (arith, c .before .before .before .before .before .pre .0 .stopsAre, accepted-ranges _ (c .before .before .before .before .before .pre .1) .stopsMost))
 
--- src/accepted.rt:72:13
 work-over-requires : tie.Need-work-over-requires
 work-over-requires c κs = let l = long-room (c .before .before .before .before .before .before .before .before .before .pre .0) _ _ (sym (c .before .before .before .are-long .ensures) ∙ c .before .before .if2 .taken) in (c .before .before .before .before .before .before .before .before .before .pre .0, c .before .before .before .before .before .before .before .before .before .pre .1, few-is _ (sym (c .before .before .before .before .before .is-few .ensures) ∙ c .before .before .before .before .if1 .taken), l .0, l .1)
 
--- src/accepted.rt:72:13
 same-length : tie.Need-same-length
 same-length c = search needs
 
--- src/accepted.rt:72:13
 same-length-2 : tie.Need-same-length-2
 same-length-2 c = search needs
 
--- src/accepted.rt:72:13
 returns : tie.Need-returns
 returns c = let f = sym (c .before .before .before .before .before .before .before .before .before .if1 .taken) ∙ c .before .before .before .before .before .before .before .before .before .before .is-few .ensures in let l = sym (c .before .before .before .before .before .before .before .if2 .taken) ∙ c .before .before .before .before .before .before .before .before .are-long .ensures in (worked-answer (c .before .before .before .before .before .before .before .before .before .before .before .before .before .before .args .day .now) (c .before .before .before .before .before .before .before .before .before .before .before .before .before .before .args .k) (c .before .before .before .before .before .before .before .before .before .before .before .before .before .before .args .budget) (length (c .before .before .before .before .before .before .before .before .before .before .before .before .before .before .args .work .now)) (c .before .before .before .before .before .before .before .before .before .before .before .before .before .before .args .plan .now) f l (c .before .before .before .before .work-over .ensures), worked-buffer (c .before .before .before .before .before .before .before .before .before .before .before .before .before .before .args .day .now) (c .before .before .before .before .before .before .before .before .before .before .before .before .before .before .args .k) (c .before .before .before .before .before .before .before .before .before .before .before .before .before .before .args .budget) (length (c .before .before .before .before .before .before .before .before .before .before .before .before .before .before .args .work .now)) (c .before .before .before .before .before .before .before .before .before .before .before .before .before .before .args .plan .now) f l (c .before .before .before .before .work-over .ensures))
 
--- src/accepted.rt:76:20
 mul-t9 : tie.Need-mul-t9
 mul-t9 c = search needs
 
--- src/accepted.rt:74:9
 returns-2 : tie.Need-returns-2
 returns-2 c = let f = sym (c .before .before .before .if1 .taken) ∙ c .before .before .before .before .is-few .ensures in let l = sym (c .before .if2 .left) ∙ c .before .before .are-long .ensures in (short-answer (c .before .before .before .before .before .before .before .before .args .day .now) (c .before .before .before .before .before .before .before .before .args .k) (c .before .before .before .before .before .before .before .before .args .budget) (length (c .before .before .before .before .before .before .before .before .args .work .now)) (c .before .before .before .before .before .before .before .before .args .plan .now) f l (need-refused (c .before .before .before .before .before .before .before .before .pre .0)), short-buffer (c .before .before .before .before .before .before .before .before .args .day .now) (c .before .before .before .before .before .before .before .before .args .k) (c .before .before .before .before .before .before .before .before .args .budget) (length (c .before .before .before .before .before .before .before .before .args .work .now)) (c .before .before .before .before .before .before .before .before .args .plan .now) f l)
 
--- src/accepted.rt:65:1
 returns-3 : tie.Need-returns-3
 returns-3 c = let f = sym (c .if1 .left) ∙ c .before .is-few .ensures in (outside-answer (c .before .before .before .before .before .args .day .now) (c .before .before .before .before .before .args .k) (c .before .before .before .before .before .args .budget) (length (c .before .before .before .before .before .args .work .now)) (c .before .before .before .before .before .args .plan .now) f refl, outside-buffer (c .before .before .before .before .before .args .day .now) (c .before .before .before .before .before .args .k) (c .before .before .before .before .before .args .budget) (length (c .before .before .before .before .before .args .work .now)) (c .before .before .before .before .before .args .plan .now) f)
 

@@ -1,52 +1,39 @@
+-- `trials::cabs::serve_cab` meets its contract.
 use native.Mathlib.Omega.{arith}
-use mathlib.Core.Path.{_∙_, sym, ap, refl}
+use mathlib.Core.Path.{refl}
 use Rattle.trials.proofs.CabLaws.{standing-space, standing-trip, standing-load, serve-drives}
 use Rattle.builder.proofs.ChoiceLaws.{weaker-trip}
 use borrow.Author.Needs.{needs}
 use Rattle.trials.proofs.cabs.serve_cab.Statement.{statement}
 use Rattle.trials.proofs.cabs.serve_cab.Tie as tie
-use Rattle.trials.proofs.cabs.serve_cab.Reads as reads
-use Rattle.trials.proofs.cabs.serve_cab.Lts as lts
-use Rattle.day.proofs.fields.stop_quantity.Reads as stop-quantity-reads
-use Rattle.builder.proofs.home.visit_stop.Reads as visit-stop-reads
 
--- src/cabs.rt:75:29
 cast-part : tie.Need-cast-part
 cast-part c = search needs
 
--- src/cabs.rt:75:16
 add-part : tie.Need-add-part
 add-part c = search needs
 
--- src/cabs.rt:75:5
 mul-part : tie.Need-mul-part
 mul-part c = omega (arith, standing-space (c .before .before .before .pre .2 .standing) .few)
 
--- src/cabs.rt:75:5
 slice-write-part : tie.Need-slice-write-part
 slice-write-part c = standing-space (c .before .before .before .pre .2 .standing) .inside
 
--- src/cabs.rt:77:15
 visit-stop-requires : tie.Need-visit-stop-requires
 visit-stop-requires c κs = (c .before .before .before .pre .0, weaker-trip _ _ _ _ (omega arith) (standing-trip (c .before .before .before .pre .2 .standing)), c .before .before .before .pre .3, c .before .before .before .pre .4)
 
--- src/cabs.rt:78:24
 stop-quantity-requires : tie.Need-stop-quantity-requires
 stop-quantity-requires c κs = search needs
 
--- src/cabs.rt:78:15
 add-t9 : tie.Need-add-t9
 add-t9 c = omega (arith, standing-load (c .before .before .before .before .before .before .pre .2 .standing), c .before .stop-quantity .ensures)
 
--- src/cabs.rt:79:13
 add-t10 : tie.Need-add-t10
 add-t10 c = omega (arith, standing-space (c .before .before .before .before .before .before .pre .2 .standing) .few)
 
--- src/cabs.rt:69:1
 same-length : tie.Need-same-length
 same-length c = search needs
 
--- src/cabs.rt:69:1
 returns : tie.Need-returns
 returns c = serve-drives _ _ _ (c .before .before .before .before .before .before .pre .1) (c .before .before .before .before .before .before .pre .3) (omega (arith, c .before .before .before .before .before .before .pre .4, c .before .before .before .before .before .before .pre .0 .stopsAre)) refl (c .before .before .visit-stop .ensures) (c .before .stop-quantity .ensures) refl refl refl refl
 

@@ -1,58 +1,41 @@
+-- `trials::cabs::walk_stop` meets its contract.
 use native.Mathlib.Omega.{arith}
-use mathlib.Core.Path.{_∙_, sym, ap, refl}
 use Rattle.trials.proofs.CabLaws.{standing-load}
 use Rattle.trials.proofs.WalkLaws.{full-fails, full-serves, light-serves, full-load, some-served, some-fewer}
 use borrow.Author.Needs.{needs}
 use Rattle.trials.proofs.cabs.walk_stop.Statement.{statement}
 use Rattle.trials.proofs.cabs.walk_stop.Tie as tie
-use Rattle.trials.proofs.cabs.walk_stop.Reads as reads
-use Rattle.trials.proofs.cabs.walk_stop.Lts as lts
-use Rattle.day.proofs.fields.stop_quantity.Reads as stop-quantity-reads
-use Rattle.trials.proofs.cabs.insert_tip.Reads as insert-tip-reads
-use Rattle.trials.proofs.cabs.is_full.Reads as is-full-reads
-use Rattle.trials.proofs.cabs.serve_cab.Reads as serve-cab-reads
 
--- src/cabs.rt:119:9
 stop-quantity-requires : tie.Need-stop-quantity-requires
 stop-quantity-requires c κs = search needs
 
--- src/cabs.rt:120:8
 is-full-requires : tie.Need-is-full-requires
 is-full-requires c κs = (c .before .before .before .pre .0, standing-load (c .before .before .before .pre .2 .standing), omega (arith, c .stop-quantity .ensures))
 
--- src/cabs.rt:121:13
 insert-tip-requires : tie.Need-insert-tip-requires
 insert-tip-requires c κs = (c .before .before .before .before .before .before .pre .0, c .before .before .before .before .before .before .pre .1, some-fewer (c .before .before .before .before .before .before .pre .2), full-load (c .before .before .before .before .before .before .args .day .now) (c .before .before .before .before .before .before .args .c .load) (c .before .before .before .stop-quantity .result) (c .before .before .is-full .ensures) (c .before .if1 .taken))
 
--- src/cabs.rt:123:13
 same-length : tie.Need-same-length
 same-length c = search needs
 
--- src/cabs.rt:123:13
 returns : tie.Need-returns
 returns c = full-fails _ (c .before .before .before .before .before .before .before .stop-quantity .ensures) (c .before .before .before .before .before .before .is-full .ensures) _ (c .before .before .before .before .before .if1 .taken) (c .before .before .before .insert-tip .ensures) (c .if2 .taken)
 
--- src/cabs.rt:125:9
 serve-cab-requires : tie.Need-serve-cab-requires
 serve-cab-requires c κs = (c .before .before .before .before .before .before .before .before .before .before .before .pre .0, c .before .before .before .before .before .before .before .before .before .before .before .pre .1, some-served _ (c .before .before .before .before .before .before .before .before .before .before .before .pre .2) (c .before .before .before .before .insert-tip .ensures) (c .before .if2 .left), c .before .before .before .before .before .before .before .before .before .before .before .pre .3, c .before .before .before .before .before .before .before .before .before .before .before .pre .4)
 
--- src/cabs.rt:125:9
 same-length-2 : tie.Need-same-length-2
 same-length-2 c = search needs
 
--- src/cabs.rt:125:9
 returns-2 : tie.Need-returns-2
 returns-2 c = full-serves _ (c .before .before .before .before .before .before .before .before .before .before .before .stop-quantity .ensures) (c .before .before .before .before .before .before .before .before .before .before .is-full .ensures) _ _ (c .before .before .before .before .before .before .before .before .before .if1 .taken) (c .before .before .before .before .before .before .before .insert-tip .ensures) (c .before .before .before .before .if2 .left) (c .before .before .serve-cab .ensures)
 
--- src/cabs.rt:127:5
 serve-cab-requires-2 : tie.Need-serve-cab-requires-2
 serve-cab-requires-2 c κs = search needs
 
--- src/cabs.rt:115:1
 same-length-3 : tie.Need-same-length-3
 same-length-3 c = search needs
 
--- src/cabs.rt:115:1
 returns-3 : tie.Need-returns-3
 returns-3 c = light-serves _ (c .before .before .before .before .before .before .stop-quantity .ensures) (c .before .before .before .before .before .is-full .ensures) _ (c .before .before .before .before .if1 .left) (c .before .before .serve-cab2 .ensures)
 

@@ -1,15 +1,13 @@
+-- `trials::candidate::copy_words` meets its contract.
 use borrow.Author.Needs.{needs}
-use Prim.Native.Nat.{ℕ, _-_, _≤_}
+use Prim.Native.Nat.{_-_, _≤_}
 use native.Mathlib.Omega.{arith}
-use mathlib.Core.Path.{_∙_}
 use lib.ListN.{length, take}
 use Rattle.laws.specs.Buffer.{Wrote}
 use Rattle.laws.proofs.Buffer.{wrote-none}
 use Rattle.trials.proofs.CopyLaws.{copy-next, copy-end}
 use Rattle.trials.proofs.candidate.copy_words.Statement.{statement}
 use Rattle.trials.proofs.candidate.copy_words.Tie as tie
-use Rattle.trials.proofs.candidate.copy_words.Reads as reads
-use Rattle.trials.proofs.candidate.copy_words.Lts as lts
 
 abbrev Inv-loop : tie.InvT-loop
 Inv-loop words part₀ i₀ part i = (i ≤ length words) × Wrote (take i words) part₀ part i
@@ -17,43 +15,33 @@ Inv-loop words part₀ i₀ part i = (i ≤ length words) × Wrote (take i words
 abbrev μ-loop : tie.MeasureT-loop
 μ-loop words part₀ i₀ part i = length words - i
 
--- src/candidate.rt:29:5
 loop-holds : tie.Need-loop-holds Inv-loop μ-loop
 loop-holds c = (omega arith, wrote-none _)
 
--- src/candidate.rt:30:19
 mul-part : tie.Need-mul-part Inv-loop μ-loop
 mul-part c = omega (arith, c .loop-test .taken, c .before .before .good)
 
--- src/candidate.rt:30:19
 shared-slice-read-part : tie.Need-shared-slice-read-part Inv-loop μ-loop
 shared-slice-read-part c = c .before .loop-test .taken
 
--- src/candidate.rt:30:9
 mul-part-2 : tie.Need-mul-part-2 Inv-loop μ-loop
 mul-part-2 c = omega (arith, c .before .loop-test .taken, c .before .before .before .good)
 
--- src/candidate.rt:30:9
 slice-write-part : tie.Need-slice-write-part Inv-loop μ-loop
 slice-write-part c = omega (arith, c .before .loop-test .taken, c .before .before .before .pre, c .before .before .loop .inv .1 .size)
 
--- src/candidate.rt:31:9
 add-i : tie.Need-add-i Inv-loop μ-loop
 add-i c = omega (arith, c .before .loop-test .taken, c .before .before .before .good)
 
--- src/candidate.rt:29:5
 loop-less : tie.Need-loop-less Inv-loop μ-loop
 loop-less c = search needs
 
--- src/candidate.rt:29:5
 loop-again : tie.Need-loop-again Inv-loop μ-loop
 loop-again c = (omega (arith, c .before .loop-test .taken), copy-next _ _ _ (c .before .before .loop .inv .1) (c .before .loop-test .taken) (c .before .before .before .pre))
 
--- src/candidate.rt:24:1
 same-length : tie.Need-same-length Inv-loop μ-loop
 same-length c = c .before .loop .inv .1 .size
 
--- src/candidate.rt:24:1
 returns : tie.Need-returns Inv-loop μ-loop
 returns c = copy-end _ _ (c .before .loop .inv .1) (c .before .loop .inv .0) (c .loop-test .left)
 

@@ -1,83 +1,62 @@
+-- `trials::candidate::next_round` meets its contract.
 use native.Mathlib.Omega.{arith}
-use mathlib.Core.Path.{refl, _∙_}
+use mathlib.Core.Path.{refl}
 use Rattle.trials.proofs.NextRounds.{few-vehicles, plan-short, bounds, round-able, round-retried, is-touches, some-roundable}
 use borrow.Author.Needs.{needs}
 use Rattle.trials.proofs.candidate.next_round.Statement.{statement}
 use Rattle.trials.proofs.candidate.next_round.Tie as tie
-use Rattle.trials.proofs.candidate.next_round.Reads as reads
-use Rattle.trials.proofs.candidate.next_round.Lts as lts
-use Rattle.trials.proofs.candidate.is_touched.Reads as is-touched-reads
-use Rattle.trials.proofs.candidate.write_round.Reads as write-round-reads
 
--- src/candidate.rt:85:16
 mul-from : tie.Need-mul-from
 mul-from c = let s = c .before .before .before .before .pre .4 in omega (arith, s .inside, few-vehicles (s .trying))
 
--- src/candidate.rt:85:16
 shared-slice-read-from : tie.Need-shared-slice-read-from
 shared-slice-read-from c = let s = c .before .before .before .before .before .pre .4 in omega (arith, s .inside, few-vehicles (s .trying), s .trying .table)
 
--- src/candidate.rt:85:16
 cast-from : tie.Need-cast-from
 cast-from c = let s = c .before .before .before .before .before .pre .4 in let b = bounds (s .trying) (s .inside) in omega (arith, b .order, b .inside, plan-short (s .trying))
 
--- src/candidate.rt:86:21
 add-to : tie.Need-add-to
 add-to c = let s = c .before .before .before .before .before .pre .4 in omega (arith, s .inside, few-vehicles (s .trying))
 
--- src/candidate.rt:86:14
 mul-to : tie.Need-mul-to
 mul-to c = let s = c .before .before .before .before .before .pre .4 in omega (arith, s .inside, few-vehicles (s .trying))
 
--- src/candidate.rt:86:14
 shared-slice-read-to : tie.Need-shared-slice-read-to
 shared-slice-read-to c = let s = c .before .before .before .before .before .before .pre .4 in omega (arith, s .inside, few-vehicles (s .trying), s .trying .table)
 
--- src/candidate.rt:86:14
 cast-to : tie.Need-cast-to
 cast-to c = let s = c .before .before .before .before .before .before .pre .4 in let b = bounds (s .trying) (s .inside) in omega (arith, b .order, b .inside, plan-short (s .trying))
 
--- src/candidate.rt:87:42
 add-is-touched : tie.Need-add-is-touched
 add-is-touched c = let s = c .before .before .before .before .before .before .pre .4 in omega (arith, s .inside, few-vehicles (s .trying))
 
--- src/candidate.rt:87:9
 is-touched-requires : tie.Need-is-touched-requires
 is-touched-requires c κs = search needs
 
--- src/candidate.rt:88:38
 add-write-round : tie.Need-add-write-round
 add-write-round c = let s = c .before .before .before .before .before .before .before .pre .4 in omega (arith, s .inside, few-vehicles (s .trying))
 
--- src/candidate.rt:88:37
 cast-write-round : tie.Need-cast-write-round
 cast-write-round c = let s = c .before .before .before .before .before .before .before .pre .4 in omega (arith, s .inside, few-vehicles (s .trying))
 
--- src/candidate.rt:88:53
 mul-write-round : tie.Need-mul-write-round
 mul-write-round c = let s = c .before .before .before .before .before .before .before .pre .4 in let b = bounds (s .trying) (s .inside) in omega (arith, b .order, b .inside, plan-short (s .trying))
 
--- src/candidate.rt:88:53
 sub-write-round : tie.Need-sub-write-round
 sub-write-round c = let s = c .before .before .before .before .before .before .before .pre .4 in bounds (s .trying) (s .inside) .order
 
--- src/candidate.rt:88:53
 part-write-round-start : tie.Need-part-write-round-start
 part-write-round-start c = let s = c .before .before .before .before .before .before .before .pre .4 in let b = bounds (s .trying) (s .inside) in omega (arith, b .order, b .inside)
 
--- src/candidate.rt:88:53
 part-write-round-end : tie.Need-part-write-round-end
 part-write-round-end c = let s = c .before .before .before .before .before .before .before .pre .4 in let b = bounds (s .trying) (s .inside) in omega (arith, b .order, b .inside)
 
--- src/candidate.rt:88:5
 write-round-requires : tie.Need-write-round-requires
 write-round-requires c κs = let s = c .before .before .before .before .before .before .before .before .before .pre .4 in (c .before .before .before .before .before .before .before .before .before .pre .0, c .before .before .before .before .before .before .before .before .before .pre .1, c .before .before .before .before .before .before .before .before .before .pre .2, c .before .before .before .before .before .before .before .before .before .pre .3, omega (arith, s .inside, few-vehicles (s .trying)), some-roundable s (c .before .before .before .before .before .before .before .before .before .pre .1) (is-touches _ _ (c .before .before .is-touched .ensures)) refl)
 
--- src/candidate.rt:71:1
 same-length : tie.Need-same-length
 same-length c = search needs
 
--- src/candidate.rt:71:1
 returns : tie.Need-returns
 returns c = λ rounds t l h. round-retried t l (is-touches _ _ (c .before .before .before .before .before .is-touched .ensures)) (c .before .before .write-round .ensures _ (round-able t l (c .before .before .before .before .before .before .before .before .before .before .before .before .pre .1) h (is-touches _ _ (c .before .before .before .before .before .is-touched .ensures)) (bounds t l .words)))
 

@@ -1,3 +1,4 @@
+-- `trials::candidate::write_candidate` meets its contract.
 use native.Mathlib.Omega.{arith}
 use mathlib.Core.Path.{refl}
 use Rattle.builder.proofs.BuiltPlans.{room-is}
@@ -6,84 +7,61 @@ use Rattle.trials.proofs.WrittenLaws.{room-left, ends-inside, lefts-lon
 use borrow.Author.Needs.{needs}
 use Rattle.trials.proofs.candidate.write_candidate.Statement.{statement}
 use Rattle.trials.proofs.candidate.write_candidate.Tie as tie
-use Rattle.trials.proofs.candidate.write_candidate.Reads as reads
-use Rattle.trials.proofs.candidate.write_candidate.Lts as lts
-use Rattle.trials.proofs.candidate.copy_words.Reads as copy-words-reads
-use Rattle.trials.proofs.candidate.write_rounds.Reads as write-rounds-reads
 
--- src/candidate.rt:138:9
 write-rounds-requires : tie.Need-write-rounds-requires
 write-rounds-requires c κs = search needs
 
--- src/candidate.rt:140:9
 same-length : tie.Need-same-length
 same-length c = search needs
 
--- src/candidate.rt:140:9
 returns : tie.Need-returns
 returns c = λ rounds t n. candidate-fails t n (c .before .before .before .write-rounds .ensures rounds t n) (c .if1 .taken)
 
--- src/candidate.rt:143:16
 mul-from : tie.Need-mul-from
 mul-from c = let s = c .before .before .before .before .before .before .before .before .before .pre .4 in omega (arith, s .counted, few-vehicles (s .trying))
 
--- src/candidate.rt:143:16
 shared-slice-read-from : tie.Need-shared-slice-read-from
 shared-slice-read-from c = let s = c .before .before .before .before .before .before .before .before .before .before .pre .4 in omega (arith, s .counted, few-vehicles (s .trying), s .trying .table)
 
--- src/candidate.rt:143:16
 cast-from : tie.Need-cast-from
 cast-from c = let s = c .before .before .before .before .before .before .before .before .before .before .pre .4 in omega (arith, ends-inside (s .trying) (s .counted), plan-short (s .trying))
 
--- src/candidate.rt:144:17
 sub-lefts : tie.Need-sub-lefts
 sub-lefts c = let s = c .before .before .before .before .before .before .before .before .before .before .pre .4 in ends-inside (s .trying) (s .counted)
 
--- src/candidate.rt:145:16
 mul-copy-words : tie.Need-mul-copy-words
 mul-copy-words c = let s = c .before .before .before .before .before .before .before .before .before .before .pre .4 in omega (arith, ends-inside (s .trying) (s .counted), plan-short (s .trying))
 
--- src/candidate.rt:145:16
 sub-copy-words : tie.Need-sub-copy-words
 sub-copy-words c = let s = c .before .before .before .before .before .before .before .before .before .before .pre .4 in ends-inside (s .trying) (s .counted)
 
--- src/candidate.rt:145:16
 part-copy-words-start : tie.Need-part-copy-words-start
 part-copy-words-start c = let s = c .before .before .before .before .before .before .before .before .before .before .pre .4 in omega (arith, ends-inside (s .trying) (s .counted))
 
--- src/candidate.rt:145:16
 part-copy-words-end : tie.Need-part-copy-words-end
 part-copy-words-end c = search needs
 
--- src/candidate.rt:145:31
 mul-copy-words-2 : tie.Need-mul-copy-words-2
 mul-copy-words-2 c = let s = c .before .before .before .before .before .before .before .before .before .before .before .pre .4 in let w = c .before .before .before .before .before .write-rounds .ensures (s .rounds) (s .trying) (s .counted) .written (c .before .before .if1 .left) in omega (arith, room-left (s .trying) w)
 
--- src/candidate.rt:145:31
 sub-copy-words-2 : tie.Need-sub-copy-words-2
 sub-copy-words-2 c = let s = c .before .before .before .before .before .before .before .before .before .before .before .pre .4 in let w = c .before .before .before .before .before .write-rounds .ensures (s .rounds) (s .trying) (s .counted) .written (c .before .before .if1 .left) in omega (arith, room-left (s .trying) w, w .text .size, room-is (c .before .before .before .before .before .before .before .before .before .before .before .pre .0) (c .before .before .before .before .before .before .before .before .before .before .before .pre .5))
 
--- src/candidate.rt:145:31
 part-copy-words-start-2 : tie.Need-part-copy-words-start-2
 part-copy-words-start-2 c = let s = c .before .before .before .before .before .before .before .before .before .before .before .pre .4 in let w = c .before .before .before .before .before .write-rounds .ensures (s .rounds) (s .trying) (s .counted) .written (c .before .before .if1 .left) in omega (arith, room-left (s .trying) w, w .text .size, room-is (c .before .before .before .before .before .before .before .before .before .before .before .pre .0) (c .before .before .before .before .before .before .before .before .before .before .before .pre .5))
 
--- src/candidate.rt:145:31
 part-copy-words-end-2 : tie.Need-part-copy-words-end-2
 part-copy-words-end-2 c = search needs
 
--- src/candidate.rt:145:5
 copy-words-requires : tie.Need-copy-words-requires
 copy-words-requires c κs = let s = c .before .before .before .before .before .before .before .before .before .before .before .before .pre .4 in lefts-room (s .trying) (s .counted) (c .before .before .before .before .before .before .write-rounds .ensures (s .rounds) (s .trying) (s .counted) .written (c .before .before .before .if1 .left)) (room-is (c .before .before .before .before .before .before .before .before .before .before .before .before .pre .0) (c .before .before .before .before .before .before .before .before .before .before .before .before .pre .5))
 
--- src/candidate.rt:147:16
 add-t17 : tie.Need-add-t17
 add-t17 c = let s = c .before .before .before .before .before .before .before .before .before .before .before .before .before .before .before .pre .4 in let w = c .before .before .before .before .before .before .before .before .before .write-rounds .ensures (s .rounds) (s .trying) (s .counted) .written (c .before .before .before .before .before .before .if1 .left) in omega (arith, room-left (s .trying) w, lefts-long (s .trying) (s .counted))
 
--- src/candidate.rt:124:1
 same-length-2 : tie.Need-same-length-2
 same-length-2 c = search needs
 
--- src/candidate.rt:124:1
 returns-2 : tie.Need-returns-2
 returns-2 c = λ rounds t n. candidate-ends t n _ (c .before .before .before .before .before .before .before .before .before .write-rounds .ensures rounds t n .written (c .before .before .before .before .before .before .if1 .left)) (c .before .before .copy-words .ensures) refl refl
 

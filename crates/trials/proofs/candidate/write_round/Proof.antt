@@ -1,52 +1,38 @@
-use borrow.Author.Needs.{needs}
+-- `trials::candidate::write_round` meets its contract.
 use native.Mathlib.Omega.{arith}
 use mathlib.Core.Path.{refl}
 use Rattle.trials.proofs.CopyLaws.{round-long}
 use Rattle.trials.proofs.CandidateLaws.{round-walkable, some-walkable, round-walked, round-copied}
 use Rattle.trials.proofs.candidate.write_round.Statement.{statement}
 use Rattle.trials.proofs.candidate.write_round.Tie as tie
-use Rattle.trials.proofs.candidate.write_round.Reads as reads
-use Rattle.trials.proofs.candidate.write_round.Lts as lts
-use Rattle.trials.proofs.candidate.copy_words.Reads as copy-words-reads
-use Rattle.trials.proofs.vehicle.walk_vehicle.Reads as walk-vehicle-reads
 
--- src/candidate.rt:49:19
 sub-end : tie.Need-sub-end
 sub-end c = let s = c .before .before .before .before .pre .5 in omega (arith, round-long _ (s .tasks) _ (s .roundable .are))
 
--- src/candidate.rt:50:48
 sub-walk-vehicle : tie.Need-sub-walk-vehicle
 sub-walk-vehicle c = let s = c .before .before .before .before .pre .5 in omega (arith, round-long _ (s .tasks) _ (s .roundable .are))
 
--- src/candidate.rt:50:48
 part-walk-vehicle-start : tie.Need-part-walk-vehicle-start
 part-walk-vehicle-start c = let s = c .before .before .before .before .pre .5 in omega (arith, round-long _ (s .tasks) _ (s .roundable .are))
 
--- src/candidate.rt:50:48
 part-walk-vehicle-end : tie.Need-part-walk-vehicle-end
 part-walk-vehicle-end c = let s = c .before .before .before .before .pre .5 in omega (arith, round-long _ (s .tasks) _ (s .roundable .are))
 
--- src/candidate.rt:50:9
 walk-vehicle-requires : tie.Need-walk-vehicle-requires
 walk-vehicle-requires c κs = (c .before .before .before .before .before .before .pre .0, c .before .before .before .before .before .before .pre .1, c .before .before .before .before .before .before .pre .2, c .before .before .before .before .before .before .pre .3, c .before .before .before .before .before .before .pre .4, some-walkable (c .before .before .if1 .taken) (c .before .before .before .before .before .before .pre .5))
 
--- src/candidate.rt:50:9
 same-length : tie.Need-same-length
 same-length c = let s = c .before .before .before .before .before .before .before .before .before .pre .5 in c .before .before .walk-vehicle .ensures (s .tasks) (round-walkable (c .before .before .before .before .before .if1 .taken) (s .tasks) (s .roundable)) .size
 
--- src/candidate.rt:50:9
 returns : tie.Need-returns
 returns c = λ tasks h. round-walked _ (c .before .before .before .before .before .if1 .taken) tasks (c .before .before .walk-vehicle .ensures tasks (round-walkable (c .before .before .before .before .before .if1 .taken) tasks h))
 
--- src/candidate.rt:52:5
 copy-words-requires : tie.Need-copy-words-requires
 copy-words-requires c κs = c .before .before .before .before .before .pre .5 .roundable .room
 
--- src/candidate.rt:36:1
 same-length-2 : tie.Need-same-length-2
 same-length-2 c = c .before .before .copy-words .ensures .size
 
--- src/candidate.rt:36:1
 returns-2 : tie.Need-returns-2
 returns-2 c = λ tasks h. round-copied (c .before .before .before .before .if1 .left) tasks h (c .before .before .copy-words .ensures) refl refl
 

@@ -1,6 +1,6 @@
-use borrow.Author.Needs.{needs}
-use Prim.Native.Nat.{ℕ, _-_, _≤_, _*_}
-use mathlib.Core.Path.{_≡_, refl, sym, _∙_}
+-- `trials::candidate::write_rounds` meets its contract.
+use Prim.Native.Nat.{_-_, _≤_}
+use mathlib.Core.Path.{_≡_, refl}
 use mathlib.Core.List.{List}
 use native.Mathlib.Omega.{arith}
 use lib.ListN.{length}
@@ -11,9 +11,6 @@ use Rattle.trials.proofs.NextRounds.{few-vehicles}
 use Rattle.trials.proofs.WrittenLaws.{below, written-start, room-left, next-room, written-next, written-fails, written-end}
 use Rattle.trials.proofs.candidate.write_rounds.Statement.{statement}
 use Rattle.trials.proofs.candidate.write_rounds.Tie as tie
-use Rattle.trials.proofs.candidate.write_rounds.Reads as reads
-use Rattle.trials.proofs.candidate.write_rounds.Lts as lts
-use Rattle.trials.proofs.candidate.next_round.Reads as next-round-reads
 
 abbrev Inv-loop : tie.InvT-loop
 Inv-loop day z e one other plan starts count work₀ at₀ v₀ work at v = (v ≤ count) × (length work ≡ length work₀) × ((rounds : List Round) → Trying day plan starts (trialOf e one other) rounds → count ≡ length rounds → Written day (trialOf e one other) rounds work₀ work v at)
@@ -21,59 +18,45 @@ Inv-loop day z e one other plan starts count work₀ at₀ v₀ work at v = (v �
 abbrev μ-loop : tie.MeasureT-loop
 μ-loop day z e one other plan starts count work₀ at₀ v₀ work at v = count - v
 
--- src/candidate.rt:108:5
 loop-holds : tie.Need-loop-holds Inv-loop μ-loop
 loop-holds c = (omega arith, refl, λ rounds t n. written-start)
 
--- src/candidate.rt:109:68
 mul-next-round : tie.Need-mul-next-round Inv-loop μ-loop
 mul-next-round c = let s = c .before .before .before .before .before .before .pre .4 in let w = c .before .loop .inv .2 (s .rounds) (s .trying) (s .counted) in omega (arith, room-left (s .trying) w)
 
--- src/candidate.rt:109:68
 sub-next-round : tie.Need-sub-next-round Inv-loop μ-loop
 sub-next-round c = let s = c .before .before .before .before .before .before .pre .4 in let w = c .before .loop .inv .2 (s .rounds) (s .trying) (s .counted) in omega (arith, room-left (s .trying) w, room-is (c .before .before .before .before .before .before .pre .0) (c .before .before .before .before .before .before .pre .5), c .before .loop .inv .1)
 
--- src/candidate.rt:109:68
 part-next-round-start : tie.Need-part-next-round-start Inv-loop μ-loop
 part-next-round-start c = let s = c .before .before .before .before .before .before .pre .4 in let w = c .before .loop .inv .2 (s .rounds) (s .trying) (s .counted) in omega (arith, room-left (s .trying) w, room-is (c .before .before .before .before .before .before .pre .0) (c .before .before .before .before .before .before .pre .5), c .before .loop .inv .1)
 
--- src/candidate.rt:109:68
 part-next-round-end : tie.Need-part-next-round-end Inv-loop μ-loop
 part-next-round-end c = let s = c .before .before .before .before .before .before .pre .4 in let w = c .before .loop .inv .2 (s .rounds) (s .trying) (s .counted) in omega (arith, room-left (s .trying) w, room-is (c .before .before .before .before .before .before .pre .0) (c .before .before .before .before .before .before .pre .5), c .before .loop .inv .1)
 
--- src/candidate.rt:109:13
 next-round-requires : tie.Need-next-round-requires Inv-loop μ-loop
 next-round-requires c κs = let s = c .before .before .before .before .before .before .before .pre .4 in let w = c .before .before .loop .inv .2 (s .rounds) (s .trying) (s .counted) in let l = below (c .before .loop-test .taken) (s .counted) in (c .before .before .before .before .before .before .before .pre .0, c .before .before .before .before .before .before .before .pre .1, c .before .before .before .before .before .before .before .pre .2, c .before .before .before .before .before .before .before .pre .3, record { rounds = s .rounds; trying = s .trying; inside = l; room = next-room (s .trying) w l (room-is (c .before .before .before .before .before .before .before .pre .0) (c .before .before .before .before .before .before .before .pre .5)) })
 
--- src/candidate.rt:111:13
 same-length : tie.Need-same-length Inv-loop μ-loop
 same-length c = let s = c .before .before .before .before .before .before .before .before .before .before .before .pre .4 in let w = c .before .before .before .before .before .before .loop .inv .2 (s .rounds) (s .trying) (s .counted) in let l = below (c .before .before .before .before .before .loop-test .taken) (s .counted) in written-fails (s .trying) w l 0 (c .before .before .before .next-round .ensures (s .rounds) (s .trying) l (next-room (s .trying) w l (room-is (c .before .before .before .before .before .before .before .before .before .before .before .pre .0) (c .before .before .before .before .before .before .before .before .before .before .before .pre .5)))) (c .if1 .taken) .size
 
--- src/candidate.rt:111:13
 returns : tie.Need-returns Inv-loop μ-loop
 returns c = λ rounds t n. let w = c .before .before .before .before .before .before .loop .inv .2 rounds t n in let l = below (c .before .before .before .before .before .loop-test .taken) n in written-fails t w l _ (c .before .before .before .next-round .ensures rounds t l (next-room t w l (room-is (c .before .before .before .before .before .before .before .before .before .before .before .pre .0) (c .before .before .before .before .before .before .before .before .before .before .before .pre .5)))) (c .if1 .taken)
 
--- src/candidate.rt:113:9
 add-at : tie.Need-add-at Inv-loop μ-loop
 add-at c = let s = c .before .before .before .before .before .before .before .before .before .before .before .before .pre .4 in let w = c .before .before .before .before .before .before .before .loop .inv .2 (s .rounds) (s .trying) (s .counted) in let l = below (c .before .before .before .before .before .before .loop-test .taken) (s .counted) in omega (arith, room-left (s .trying) (written-next (s .trying) w l (c .before .before .before .before .next-round .ensures (s .rounds) (s .trying) l (next-room (s .trying) w l (room-is (c .before .before .before .before .before .before .before .before .before .before .before .before .pre .0) (c .before .before .before .before .before .before .before .before .before .before .before .before .pre .5))) .written (c .before .if1 .left))))
 
--- src/candidate.rt:114:9
 add-v : tie.Need-add-v Inv-loop μ-loop
 add-v c = let s = c .before .before .before .before .before .before .before .before .before .before .before .before .pre .4 in omega (arith, c .before .before .before .before .before .before .loop-test .taken, s .counted, few-vehicles (s .trying))
 
--- src/candidate.rt:108:5
 loop-less : tie.Need-loop-less Inv-loop μ-loop
 loop-less c = omega (arith, c .before .before .before .before .before .before .loop-test .taken)
 
--- src/candidate.rt:108:5
 loop-again : tie.Need-loop-again Inv-loop μ-loop
 loop-again c = (omega (arith, c .before .before .before .before .before .before .loop-test .taken), (let s = c .before .before .before .before .before .before .before .before .before .before .before .before .pre .4 in let w = c .before .before .before .before .before .before .before .loop .inv .2 (s .rounds) (s .trying) (s .counted) in let l = below (c .before .before .before .before .before .before .loop-test .taken) (s .counted) in written-next (s .trying) w l (c .before .before .before .before .next-round .ensures (s .rounds) (s .trying) l (next-room (s .trying) w l (room-is (c .before .before .before .before .before .before .before .before .before .before .before .before .pre .0) (c .before .before .before .before .before .before .before .before .before .before .before .before .pre .5))) .written (c .before .if1 .left)) .text .size), λ rounds t n. let w = c .before .before .before .before .before .before .before .loop .inv .2 rounds t n in let l = below (c .before .before .before .before .before .before .loop-test .taken) n in written-next t w l (c .before .before .before .before .next-round .ensures rounds t l (next-room t w l (room-is (c .before .before .before .before .before .before .before .before .before .before .before .before .pre .0) (c .before .before .before .before .before .before .before .before .before .before .before .before .pre .5))) .written (c .before .if1 .left)))
 
--- src/candidate.rt:92:1
 same-length-2 : tie.Need-same-length-2 Inv-loop μ-loop
 same-length-2 c = c .before .loop .inv .1
 
--- src/candidate.rt:92:1
 returns-2 : tie.Need-returns-2 Inv-loop μ-loop
 returns-2 c = λ rounds t n. written-end t (c .before .loop .inv .2 rounds t n) _ _ (c .before .loop .inv .0) (c .loop-test .left) refl refl
 

@@ -1,104 +1,77 @@
+-- `trials::edits::change_word` meets its contract.
 use native.Mathlib.Omega.{arith}
 use mathlib.Core.Path.{refl}
 use Rattle.trials.proofs.ChangeLaws.{rest-off, moved-before, moved-after, swapped, removed, replaced}
 use borrow.Author.Needs.{needs}
 use Rattle.trials.proofs.edits.change_word.Statement.{statement}
 use Rattle.trials.proofs.edits.change_word.Tie as tie
-use Rattle.trials.proofs.edits.change_word.Reads as reads
-use Rattle.trials.proofs.edits.change_word.Lts as lts
-use Rattle.trials.proofs.edits.move_word.Reads as move-word-reads
-use Rattle.trials.proofs.edits.swap_word.Reads as swap-word-reads
-use Rattle.trials.proofs.edits.tip_word.Reads as tip-word-reads
 
--- src/edits.rt:96:9
 returns : tie.Need-returns
 returns c = λ day task k q n. rest-off day _ _ _ task q n (c .if1 .taken)
 
--- src/edits.rt:102:24
 enum-known-e : tie.Need-enum-known-e
 enum-known-e c = search needs
 
--- src/edits.rt:103:21
 add-i : tie.Need-add-i
 add-i c = let w = rw (c .before .e .given .1) at (c .before .before .before .before .pre) in omega (arith, w .0)
 
--- src/edits.rt:104:21
 add-j : tie.Need-add-j
 add-j c = let w = rw (c .before .e .given .1) at (c .before .before .before .before .pre) in omega (arith, w .1)
 
--- src/edits.rt:105:13
 move-word-requires : tie.Need-move-word-requires
 move-word-requires c κs = search needs
 
--- src/edits.rt:107:23
 enum-known-e-2 : tie.Need-enum-known-e-2
 enum-known-e-2 c = search needs
 
--- src/edits.rt:108:21
 add-i-2 : tie.Need-add-i-2
 add-i-2 c = let w = rw (c .before .e2 .given .1) at (c .before .before .before .before .pre) in omega (arith, w .0)
 
--- src/edits.rt:109:21
 add-j-2 : tie.Need-add-j-2
 add-j-2 c = let w = rw (c .before .e2 .given .1) at (c .before .before .before .before .pre) in omega (arith, w .1)
 
--- src/edits.rt:110:13
 move-word-requires-2 : tie.Need-move-word-requires-2
 move-word-requires-2 c κs = search needs
 
--- src/edits.rt:112:22
 enum-known-e-3 : tie.Need-enum-known-e-3
 enum-known-e-3 c = search needs
 
--- src/edits.rt:112:52
 add-swap-word : tie.Need-add-swap-word
 add-swap-word c = let w = rw (c .before .e3 .given .1) at (c .before .before .before .before .pre) in omega (arith, w .0)
 
--- src/edits.rt:112:71
 add-swap-word-2 : tie.Need-add-swap-word-2
 add-swap-word-2 c = let w = rw (c .before .e3 .given .1) at (c .before .before .before .before .pre) in omega (arith, w .1)
 
--- src/edits.rt:112:39
 swap-word-requires : tie.Need-swap-word-requires
 swap-word-requires c κs = search needs
 
--- src/edits.rt:113:24
 enum-known-e-4 : tie.Need-enum-known-e-4
 enum-known-e-4 c = search needs
 
--- src/edits.rt:113:32
 tip-word-requires : tie.Need-tip-word-requires
 tip-word-requires c κs = search needs
 
--- src/edits.rt:114:25
 enum-known-e-5 : tie.Need-enum-known-e-5
 enum-known-e-5 c = search needs
 
--- src/edits.rt:114:57
 add-tip-word : tie.Need-add-tip-word
 add-tip-word c = let w = rw (c .before .e5 .given .1) at (c .before .before .before .before .pre) in omega (arith, w)
 
--- src/edits.rt:114:38
 tip-word-requires-2 : tie.Need-tip-word-requires-2
 tip-word-requires-2 c κs = search needs
 
--- src/edits.rt:91:1
 returns-2 : tie.Need-returns-2
 returns-2 c = λ day task k q n. let m = rw (c .before .before .e .given .1) at k in rw (c .before .before .e .given .1) (moved-before day _ _ _ _ (m .0) (m .1) (c .move-word .ensures .0) (c .move-word .ensures .1) task (c .before .before .before .before .if1 .left) q n)
 
--- src/edits.rt:91:1
 returns-3 : tie.Need-returns-3
 returns-3 c = λ day task k q n. let m = rw (c .before .before .e2 .given .1) at k in rw (c .before .before .e2 .given .1) (moved-after day _ _ _ _ (m .0) (m .1) (c .move-word2 .ensures .0) (c .move-word2 .ensures .1) task (c .before .before .before .before .if1 .left) q n)
 
--- src/edits.rt:91:1
 returns-4 : tie.Need-returns-4
 returns-4 c = λ day task k q n. let m = rw (c .before .before .e3 .given .1) at k in rw (c .before .before .e3 .given .1) (swapped day _ _ _ _ (m .0) (m .1) (c .swap-word .ensures .0) (c .swap-word .ensures .1) task (c .before .before .before .before .if1 .left) q n)
 
--- src/edits.rt:91:1
 returns-5 : tie.Need-returns-5
 returns-5 c = λ day task k q n. rw (c .before .before .e4 .given .1) (removed day _ _ _ _ (c .tip-word .ensures .0) (c .tip-word .ensures .1) refl task (c .before .before .before .before .if1 .left) q n)
 
--- src/edits.rt:91:1
 returns-6 : tie.Need-returns-6
 returns-6 c = λ day task k q n. let m = rw (c .before .before .e5 .given .1) at k in rw (c .before .before .e5 .given .1) (replaced day _ _ _ _ (c .tip-word2 .ensures .0) (c .tip-word2 .ensures .1) _ refl m task (c .before .before .before .before .if1 .left) q n)
 

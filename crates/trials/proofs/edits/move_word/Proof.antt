@@ -1,19 +1,14 @@
-use borrow.Author.Needs.{needs}
+-- `trials::edits::move_word` meets its contract.
 use Rattle.laws.proofs.Tests.{branches}
 use Rattle.trials.proofs.edits.move_word.Statement.{statement}
 use Rattle.trials.proofs.edits.move_word.Tie as tie
-use Rattle.trials.proofs.edits.move_word.Reads as reads
-use Rattle.trials.proofs.edits.move_word.Lts as lts
 
--- src/edits.rt:32:9
 returns : tie.Need-returns
 returns c = (search branches, search branches)
 
--- src/edits.rt:38:9
 returns-2 : tie.Need-returns-2
 returns-2 c = (search branches, search branches)
 
--- src/edits.rt:28:1
 returns-3 : tie.Need-returns-3
 returns-3 c = (search branches, search branches)
 

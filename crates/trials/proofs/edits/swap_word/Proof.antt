@@ -1,19 +1,14 @@
-use borrow.Author.Needs.{needs}
+-- `trials::edits::swap_word` meets its contract.
 use Rattle.laws.proofs.Tests.{branches}
 use Rattle.trials.proofs.edits.swap_word.Statement.{statement}
 use Rattle.trials.proofs.edits.swap_word.Tie as tie
-use Rattle.trials.proofs.edits.swap_word.Reads as reads
-use Rattle.trials.proofs.edits.swap_word.Lts as lts
 
--- src/edits.rt:51:9
 returns : tie.Need-returns
 returns c = (search branches, search branches)
 
--- src/edits.rt:57:9
 returns-2 : tie.Need-returns-2
 returns-2 c = (search branches, search branches)
 
--- src/edits.rt:47:1
 returns-3 : tie.Need-returns-3
 returns-3 c = (search branches, search branches)
 

@@ -1,3 +1,4 @@
+-- `trials::improve::begin` meets its contract.
 use native.Mathlib.Omega.{arith}
 use mathlib.Core.Path.{refl}
 use Rattle.day.proofs.Ranges.{accepted-ranges}
@@ -6,44 +7,31 @@ use Rattle.trials.proofs.TakeOverLaws.{words-most, slice-size, some-pla
 use borrow.Author.Needs.{needs}
 use Rattle.trials.proofs.improve.begin.Statement.{statement}
 use Rattle.trials.proofs.improve.begin.Tie as tie
-use Rattle.trials.proofs.improve.begin.Reads as reads
-use Rattle.trials.proofs.improve.begin.Lts as lts
-use Rattle.trials.proofs.listing.first_trial.Reads as first-trial-reads
-use Rattle.trials.proofs.survey.survey.Reads as survey-reads
 
--- src/improve.rt:33:32
 sub-survey : tie.Need-sub-survey
 sub-survey c = search needs
 
--- src/improve.rt:33:32
 part-survey-start : tie.Need-part-survey-start
 part-survey-start c = search needs
 
--- src/improve.rt:33:32
 part-survey-end : tie.Need-part-survey-end
 part-survey-end c = search needs
 
--- src/improve.rt:33:9
 survey-requires : tie.Need-survey-requires
 survey-requires c κs = let p = c .before .before .before .before .before .before .before .before .before .pre .0 in ((p .0, omega (arith, slice-size (p .2), words-most (p .2), accepted-ranges _ (p .1) .stopsMost), some-plan (p .1) (record { rounds = _; planAt = p .2 })), c .before .before .before .before .before .before .before .before .before .pre .1)
 
--- src/improve.rt:39:17
 first-trial-requires : tie.Need-first-trial-requires
 first-trial-requires c κs = search needs
 
--- src/improve.rt:19:1
 same-length : tie.Need-same-length
 same-length c = search needs
 
--- src/improve.rt:19:1
 same-length-2 : tie.Need-same-length-2
 same-length-2 c = search needs
 
--- src/improve.rt:19:1
 same-length-3 : tie.Need-same-length-3
 same-length-3 c = search needs
 
--- src/improve.rt:19:1
 returns : tie.Need-returns
 returns c = let p = c .before .before .before .before .before .before .before .before .before .before .before .before .before .before .before .before .before .pre .0 in begins _ (p .1) (p .2) (c .before .before .before .before .before .before .before .survey .ensures) (p .3) refl (c .first-trial .ensures) refl
 

@@ -1,3 +1,4 @@
+-- `trials::improve::improve` meets its contract.
 use native.Mathlib.Omega.{arith}
 use mathlib.Core.Path.{refl}
 use Rattle.day.proofs.Ranges.{accepted-ranges}
@@ -5,70 +6,49 @@ use Rattle.trials.proofs.ImproveLaws.{improved}
 use borrow.Author.Needs.{needs}
 use Rattle.trials.proofs.improve.improve.Statement.{statement}
 use Rattle.trials.proofs.improve.improve.Tie as tie
-use Rattle.trials.proofs.improve.improve.Reads as reads
-use Rattle.trials.proofs.improve.improve.Lts as lts
-use Rattle.builder.proofs.lefts.fill_zeros.Reads as fill-zeros-reads
-use Rattle.trials.proofs.improve.begin.Reads as begin-reads
-use Rattle.trials.proofs.neighbours.fill_table.Reads as fill-table-reads
-use Rattle.trials.proofs.search.run_trials.Reads as run-trials-reads
 
--- src/improve.rt:63:27
 slice-aggregate-fill-table : tie.Need-slice-aggregate-fill-table
 slice-aggregate-fill-table c = search needs
 
--- src/improve.rt:63:5
 fill-table-requires : tie.Need-fill-table-requires
 fill-table-requires c κs = let p = c .before .before .before .before .pre in (p .0, omega (arith, p .0 .stopsAre, accepted-ranges _ (p .1) .stopsMost), p .2, refl)
 
--- src/improve.rt:64:54
 slice-aggregate-begin : tie.Need-slice-aggregate-begin
 slice-aggregate-begin c = search needs
 
--- src/improve.rt:64:67
 slice-aggregate-begin-2 : tie.Need-slice-aggregate-begin-2
 slice-aggregate-begin-2 c = search needs
 
--- src/improve.rt:64:82
 slice-aggregate-begin-3 : tie.Need-slice-aggregate-begin-3
 slice-aggregate-begin-3 c = search needs
 
--- src/improve.rt:64:9
 begin-requires : tie.Need-begin-requires
 begin-requires c κs = search needs
 
--- src/improve.rt:66:28
 slice-aggregate-run-trials : tie.Need-slice-aggregate-run-trials
 slice-aggregate-run-trials c = search needs
 
--- src/improve.rt:66:48
 slice-aggregate-run-trials-2 : tie.Need-slice-aggregate-run-trials-2
 slice-aggregate-run-trials-2 c = search needs
 
--- src/improve.rt:66:61
 slice-aggregate-run-trials-3 : tie.Need-slice-aggregate-run-trials-3
 slice-aggregate-run-trials-3 c = search needs
 
--- src/improve.rt:66:76
 slice-aggregate-run-trials-4 : tie.Need-slice-aggregate-run-trials-4
 slice-aggregate-run-trials-4 c = search needs
 
--- src/improve.rt:65:9
 run-trials-requires : tie.Need-run-trials-requires
 run-trials-requires c κs = let p = c .before .before .before .before .before .before .before .before .before .before .before .before .before .before .before .before .before .before .before .before .pre in ((p .0, p .1, p .2, c .before .before .before .before .before .before .before .before .before .before .before .before .before .before .before .fill-table .ensures, p .4, omega (arith, p .3)), c .before .before .before .before .before .before .before .before .before .begin .ensures _ _)
 
--- src/improve.rt:69:5
 fill-zeros-requires : tie.Need-fill-zeros-requires
 fill-zeros-requires c κs = search needs
 
--- src/improve.rt:46:1
 same-length : tie.Need-same-length
 same-length c = search needs
 
--- src/improve.rt:46:1
 same-length-2 : tie.Need-same-length-2
 same-length-2 c = search needs
 
--- src/improve.rt:46:1
 returns : tie.Need-returns
 returns c = improved (c .before .before .before .before .before .before .before .before .before .before .before .run-trials .ensures .0) (c .before .before .before .before .before .before .before .before .before .before .before .run-trials .ensures .1) (c .before .before .fill-zeros .ensures) (search needs)
 

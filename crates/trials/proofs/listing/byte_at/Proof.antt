@@ -1,20 +1,16 @@
+-- `trials::listing::byte_at` meets its contract.
 use mathlib.Core.Path.{refl}
 use native.Mathlib.Omega.{arith}
 use borrow.Author.Needs.{needs}
 use Rattle.trials.proofs.listing.byte_at.Statement.{statement}
 use Rattle.trials.proofs.listing.byte_at.Tie as tie
-use Rattle.trials.proofs.listing.byte_at.Reads as reads
-use Rattle.trials.proofs.listing.byte_at.Lts as lts
 
--- src/listing.rt:96:5
 shared-slice-read-result : tie.Need-shared-slice-read-result
 shared-slice-read-result c = search needs
 
--- src/listing.rt:96:5
 cast-result : tie.Need-cast-result
 cast-result c = omega (arith, c .shared-slice-known .given (c .before .args .i))
 
--- src/listing.rt:92:1
 returns : tie.Need-returns
 returns c = (refl, omega (arith, c .shared-slice-known .given (c .before .args .i)))
 

@@ -1,3 +1,4 @@
+-- `trials::listing::next_pair` meets its contract.
 use borrow.Author.Needs.{needs}
 use Prim.Native.Nat.{_≤_}
 use mathlib.Core.Path.{refl}
@@ -5,10 +6,6 @@ use Rattle.trials.proofs.PairRests.{Passed, pass-on, pair-found, pairs-
 use Rattle.trials.specs.Listing.{pairsLeft}
 use Rattle.trials.proofs.listing.next_pair.Statement.{statement}
 use Rattle.trials.proofs.listing.next_pair.Tie as tie
-use Rattle.trials.proofs.listing.next_pair.Reads as reads
-use Rattle.trials.proofs.listing.next_pair.Lts as lts
-use Rattle.trials.proofs.listing.no_pair.Reads as no-pair-reads
-use Rattle.trials.proofs.listing.pair_at.Reads as pair-at-reads
 
 abbrev Inv-loop : tie.InvT-loop
 Inv-loop z k table vehicles stops q₀ q = (1 ≤ q .stop) × Passed z k table vehicles q₀ q
@@ -16,31 +13,24 @@ Inv-loop z k table vehicles stops q₀ q = (1 ≤ q .stop) × Passed z k table v
 abbrev μ-loop : tie.MeasureT-loop
 μ-loop z k table vehicles stops q₀ q = pairsLeft (z .stops) k q
 
--- src/listing.rt:179:5
 loop-holds : tie.Need-loop-holds Inv-loop μ-loop
 loop-holds c = (search needs, λ s. refl)
 
--- src/listing.rt:180:13
 pair-at-requires : tie.Need-pair-at-requires Inv-loop μ-loop
 pair-at-requires c κs = search needs
 
--- src/listing.rt:182:13
 returns : tie.Need-returns Inv-loop μ-loop
 returns c = pair-found _ _ _ _ _ _ _ (c .before .before .before .before .loop .inv .1) (c .before .pair-at .ensures) (c .if2 .taken)
 
--- src/listing.rt:179:5
 loop-less : tie.Need-loop-less Inv-loop μ-loop
 loop-less c = c .before .before .pair-at .ensures .falls (c .before .if2 .left)
 
--- src/listing.rt:179:5
 loop-again : tie.Need-loop-again Inv-loop μ-loop
 loop-again c = (c .before .before .pair-at .ensures .first, pass-on _ _ _ _ _ _ _ (c .before .before .before .before .before .loop .inv .1) (c .before .before .pair-at .ensures) (c .before .if2 .left))
 
--- src/listing.rt:186:5
 no-pair-requires : tie.Need-no-pair-requires Inv-loop μ-loop
 no-pair-requires c κs = search needs
 
--- src/listing.rt:173:1
 returns-2 : tie.Need-returns-2 Inv-loop μ-loop
 returns-2 c = pairs-end _ _ _ _ _ _ _ (c .before .before .before .loop .inv .1) (c .before .before .before .loop .inv .0) (c .before .if1 .left) (c .no-pair .ensures)
 

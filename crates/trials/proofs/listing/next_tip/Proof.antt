@@ -1,13 +1,10 @@
+-- `trials::listing::next_tip` meets its contract.
 use borrow.Author.Needs.{needs}
 use mathlib.Core.Path.{refl}
 use Rattle.trials.proofs.TipRests.{Passed, pass-on, tip-found, tips-end}
 use Rattle.trials.specs.Listing.{tipsLeft, TipFits}
 use Rattle.trials.proofs.listing.next_tip.Statement.{statement}
 use Rattle.trials.proofs.listing.next_tip.Tie as tie
-use Rattle.trials.proofs.listing.next_tip.Reads as reads
-use Rattle.trials.proofs.listing.next_tip.Lts as lts
-use Rattle.trials.proofs.listing.no_tip.Reads as no-tip-reads
-use Rattle.trials.proofs.listing.tip_at.Reads as tip-at-reads
 
 abbrev Inv-loop : tie.InvT-loop
 Inv-loop z starts count plan p₀ p = TipFits starts count p × Passed z starts plan count p₀ p
@@ -15,31 +12,24 @@ Inv-loop z starts count plan p₀ p = TipFits starts count p × Passed z starts 
 abbrev μ-loop : tie.MeasureT-loop
 μ-loop z starts count plan p₀ p = tipsLeft starts plan p
 
--- src/listing.rt:300:5
 loop-holds : tie.Need-loop-holds Inv-loop μ-loop
 loop-holds c = (c .before .before .pre .1, λ s. refl)
 
--- src/listing.rt:301:13
 tip-at-requires : tie.Need-tip-at-requires Inv-loop μ-loop
 tip-at-requires c κs = record { count = c .before .before .before .before .before .args .count; tables = c .before .before .before .before .before .pre .0; within = c .if1 .taken; fits = c .before .before .loop .inv .0 (c .if1 .taken) }
 
--- src/listing.rt:303:13
 returns : tie.Need-returns Inv-loop μ-loop
 returns c = tip-found _ _ _ _ _ _ _ (c .before .before .before .before .loop .inv .1) (c .before .tip-at .ensures _ (c .before .before .before .before .before .before .before .pre .0) (c .before .before .if1 .taken) (c .before .before .before .before .loop .inv .0)) (c .if2 .taken)
 
--- src/listing.rt:300:5
 loop-less : tie.Need-loop-less Inv-loop μ-loop
 loop-less c = c .before .before .tip-at .ensures _ (c .before .before .before .before .before .before .before .before .pre .0) (c .before .before .before .if1 .taken) (c .before .before .before .before .before .loop .inv .0) .falls (c .before .if2 .left)
 
--- src/listing.rt:300:5
 loop-again : tie.Need-loop-again Inv-loop μ-loop
 loop-again c = let step = c .before .before .tip-at .ensures _ (c .before .before .before .before .before .before .before .before .pre .0) (c .before .before .before .if1 .taken) (c .before .before .before .before .before .loop .inv .0) in (step .fits, pass-on _ _ _ _ _ _ _ (c .before .before .before .before .before .loop .inv .1) step (c .before .if2 .left))
 
--- src/listing.rt:307:5
 no-tip-requires : tie.Need-no-tip-requires Inv-loop μ-loop
 no-tip-requires c κs = search needs
 
--- src/listing.rt:295:1
 returns-2 : tie.Need-returns-2 Inv-loop μ-loop
 returns-2 c = tips-end _ _ _ _ _ _ _ (c .before .before .before .loop .inv .1) (c .before .if1 .left) (c .no-tip .ensures)
 

@@ -1,20 +1,16 @@
+-- `trials::listing::other_tip` meets its contract.
 use mathlib.Core.Path.{refl}
 use borrow.Author.Tests.{eq-eqb, ne-eqb}
 use borrow.Author.Needs.{needs}
 use Rattle.trials.proofs.listing.other_tip.Statement.{statement}
 use Rattle.trials.proofs.listing.other_tip.Tie as tie
-use Rattle.trials.proofs.listing.other_tip.Reads as reads
-use Rattle.trials.proofs.listing.other_tip.Lts as lts
 
--- src/listing.rt:223:16
 add-result : tie.Need-add-result
 add-result c = search needs
 
--- src/listing.rt:223:9
 returns : tie.Need-returns
 returns c = rw (eq-eqb _ _ (c .if1 .taken)) refl
 
--- src/listing.rt:218:1
 returns-2 : tie.Need-returns-2
 returns-2 c = rw (ne-eqb _ _ (c .if1 .left)) refl
 

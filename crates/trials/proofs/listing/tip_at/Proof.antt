@@ -1,85 +1,62 @@
+-- `trials::listing::tip_at` meets its contract.
 use mathlib.Core.Path.{_∙_}
 use native.Mathlib.Omega.{arith}
 use Rattle.trials.proofs.TipRests.{end-within, vehicle-ends, low-passes, high-passes, tip-steps}
 use borrow.Author.Needs.{needs}
 use Rattle.trials.proofs.listing.tip_at.Statement.{statement}
 use Rattle.trials.proofs.listing.tip_at.Tie as tie
-use Rattle.trials.proofs.listing.tip_at.Reads as reads
-use Rattle.trials.proofs.listing.tip_at.Lts as lts
-use Rattle.trials.proofs.listing.next_task.Reads as next-task-reads
-use Rattle.trials.proofs.listing.no_tip.Reads as no-tip-reads
-use Rattle.trials.proofs.listing.number_at.Reads as number-at-reads
-use Rattle.trials.proofs.listing.tip_trial.Reads as tip-trial-reads
 
--- src/listing.rt:276:9
 number-at-requires : tie.Need-number-at-requires
 number-at-requires c κs = search needs
 
--- src/listing.rt:277:33
 add-number-at : tie.Need-add-number-at
 add-number-at c = search needs
 
--- src/listing.rt:277:9
 number-at-requires-2 : tie.Need-number-at-requires-2
 number-at-requires-2 c κs = search needs
 
--- src/listing.rt:278:14
 add-at : tie.Need-add-at
 add-at c = search needs
 
--- src/listing.rt:278:14
 add-at-2 : tie.Need-add-at-2
 add-at-2 c = search needs
 
--- src/listing.rt:279:8
 add-if1 : tie.Need-add-if1
 add-if1 c = search needs
 
--- src/listing.rt:281:22
 add-t12 : tie.Need-add-t12
 add-t12 c = search needs
 
--- src/listing.rt:280:9
 no-tip-requires : tie.Need-no-tip-requires
 no-tip-requires c κs = search needs
 
--- src/listing.rt:280:9
 returns : tie.Need-returns
 returns c = vehicle-ends _ _ _ _ _ _ _ (c .before .before .before .before .number-at .ensures .0) (c .before .before .before .number-at2 .ensures .0) (c .before .if1 .taken) (c .no-tip .ensures)
 
--- src/listing.rt:286:9
 number-at-requires-3 : tie.Need-number-at-requires-3
 number-at-requires-3 c κs = omega (arith, c .before .before .before .number-at .ensures .0, c .before .before .number-at2 .ensures .0, end-within _ _ _ _ (c .before .before .before .before .before .before .pre .tables) _ (c .before .before .before .before .before .before .pre .within), c .before .before .before .before .before .before .pre .fits)
 
--- src/listing.rt:288:23
 next-task-requires : tie.Need-next-task-requires
 next-task-requires c κs = search needs
 
--- src/listing.rt:288:9
 no-tip-requires-2 : tie.Need-no-tip-requires-2
 no-tip-requires-2 c κs = search needs
 
--- src/listing.rt:288:9
 returns-2 : tie.Need-returns-2
 returns-2 c = low-passes _ _ _ _ _ _ _ (c .before .before .before .before .before .before .before .number-at .ensures .0) (c .before .before .before .before .before .before .number-at2 .ensures .0) _ (c .before .before .before .before .if1 .left) (c .before .before .before .number-at3 .ensures .0) (c .before .before .if2 .taken) (c .no-tip2 .ensures .0, c .no-tip2 .ensures .1 ∙ c .before .next-task .ensures)
 
--- src/listing.rt:291:23
 next-task-requires-2 : tie.Need-next-task-requires-2
 next-task-requires-2 c κs = search needs
 
--- src/listing.rt:291:9
 no-tip-requires-3 : tie.Need-no-tip-requires-3
 no-tip-requires-3 c κs = search needs
 
--- src/listing.rt:291:9
 returns-3 : tie.Need-returns-3
 returns-3 c = high-passes _ _ _ _ _ _ _ (c .before .before .before .before .before .before .before .before .number-at .ensures .0) (c .before .before .before .before .before .before .before .number-at2 .ensures .0) _ (c .before .before .before .before .before .if1 .left) (c .before .before .before .before .number-at3 .ensures .0) (c .before .before .if3 .taken) (c .no-tip3 .ensures .0, c .no-tip3 .ensures .1 ∙ c .before .next-task2 .ensures)
 
--- src/listing.rt:293:5
 tip-trial-requires : tie.Need-tip-trial-requires
 tip-trial-requires c κs = search needs
 
--- src/listing.rt:271:1
 returns-4 : tie.Need-returns-4
 returns-4 c = tip-steps _ _ _ _ _ _ _ (c .before .before .before .before .before .before .before .number-at .ensures .0) (c .before .before .before .before .before .before .number-at2 .ensures .0) _ (c .before .before .before .before .if1 .left) (c .before .before .before .number-at3 .ensures .0) (c .before .before .if2 .left) (c .before .if3 .left) (c .tip-trial .ensures)
 

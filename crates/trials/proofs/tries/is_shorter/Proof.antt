@@ -1,107 +1,80 @@
+-- `trials::tries::is_shorter` meets its contract.
 use native.Mathlib.Omega.{arith}
 use Rattle.trials.proofs.NextRounds.{few-vehicles}
 use Rattle.trials.proofs.ShorterLaws.{vehicles-of, some-one, some-other, one-failed, other-failed, one-longer, both-longer, first-size}
 use borrow.Author.Needs.{needs}
 use Rattle.trials.proofs.tries.is_shorter.Statement.{statement}
 use Rattle.trials.proofs.tries.is_shorter.Tie as tie
-use Rattle.trials.proofs.tries.is_shorter.Reads as reads
-use Rattle.trials.proofs.tries.is_shorter.Lts as lts
-use Rattle.trials.proofs.tries.retry.Reads as retry-reads
-use Rattle.trials.proofs.tries.wide.Reads as wide-reads
 
--- src/tries.rt:69:13
 sub-v : tie.Need-sub-v
 sub-v c = let s = c .before .before .before .before .before .pre .4 in omega (arith, vehicles-of (s .measured) .oneIs)
 
--- src/tries.rt:70:9
 retry-requires : tie.Need-retry-requires
 retry-requires c κs = (c .before .before .before .before .before .before .pre .0, c .before .before .before .before .before .before .pre .1, c .before .before .before .before .before .before .pre .2, c .before .before .before .before .before .before .pre .3, some-one (c .before .before .before .before .before .before .pre .4), c .before .before .before .before .before .before .pre .5)
 
--- src/tries.rt:72:9
 same-length : tie.Need-same-length
 same-length c = search needs
 
--- src/tries.rt:72:9
 returns : tie.Need-returns
 returns c = λ f rounds h. one-failed h (c .before .before .before .retry .ensures) (c .if1 .taken)
 
--- src/tries.rt:75:33
 mul-result : tie.Need-mul-result
 mul-result c = let s = c .before .before .before .before .before .before .before .before .before .before .before .pre .4 in omega (arith, vehicles-of (s .measured) .insideOne, few-vehicles (s .measured .trying))
 
--- src/tries.rt:75:33
 shared-slice-read-result : tie.Need-shared-slice-read-result
 shared-slice-read-result c = let s = c .before .before .before .before .before .before .before .before .before .before .before .before .pre .4 in omega (arith, vehicles-of (s .measured) .insideOne, few-vehicles (s .measured .trying), s .measured .measures)
 
--- src/tries.rt:75:9
 same-length-2 : tie.Need-same-length-2
 same-length-2 c = search needs
 
--- src/tries.rt:75:9
 returns-2 : tie.Need-returns-2
 returns-2 c = λ f rounds h. one-longer h (c .before .before .before .before .before .before .retry .ensures) (c .before .before .before .if1 .left) (c .before .before .if2 .taken) f
 
--- src/tries.rt:77:13
 sub-u : tie.Need-sub-u
 sub-u c = let s = c .before .before .before .before .before .before .before .before .before .before .before .pre .4 in omega (arith, vehicles-of (s .measured) .otherIs)
 
--- src/tries.rt:78:9
 retry-requires-2 : tie.Need-retry-requires-2
 retry-requires-2 c κs = (c .before .before .before .before .before .before .before .before .before .before .before .before .pre .0, c .before .before .before .before .before .before .before .before .before .before .before .before .pre .1, c .before .before .before .before .before .before .before .before .before .before .before .before .pre .2, c .before .before .before .before .before .before .before .before .before .before .before .before .pre .3, some-other (c .before .before .before .before .before .before .before .before .before .before .before .before .pre .4), first-size (c .before .before .before .before .before .before .before .before .before .before .before .before .pre .4) (c .before .before .before .before .before .retry .ensures) (c .before .before .before .before .before .before .before .before .before .before .before .before .pre .5))
 
--- src/tries.rt:80:9
 same-length-3 : tie.Need-same-length-3
 same-length-3 c = search needs
 
--- src/tries.rt:80:9
 returns-3 : tie.Need-returns-3
 returns-3 c = λ f rounds h. other-failed h (c .before .before .before .retry2 .ensures) (c .if3 .taken)
 
--- src/tries.rt:82:5
 wide-requires : tie.Need-wide-requires
 wide-requires c κs = search needs
 
--- src/tries.rt:82:28
 wide-requires-2 : tie.Need-wide-requires-2
 wide-requires-2 c κs = search needs
 
--- src/tries.rt:82:5
 add-result : tie.Need-add-result
 add-result c = search needs
 
--- src/tries.rt:82:57
 mul-wide : tie.Need-mul-wide
 mul-wide c = let s = c .before .before .before .before .before .before .before .before .before .before .before .before .before .before .before .before .before .before .pre .4 in omega (arith, vehicles-of (s .measured) .insideOne, few-vehicles (s .measured .trying))
 
--- src/tries.rt:82:57
 shared-slice-read-wide : tie.Need-shared-slice-read-wide
 shared-slice-read-wide c = let s = c .before .before .before .before .before .before .before .before .before .before .before .before .before .before .before .before .before .before .before .pre .4 in omega (arith, vehicles-of (s .measured) .insideOne, few-vehicles (s .measured .trying), s .measured .measures)
 
--- src/tries.rt:82:52
 wide-requires-3 : tie.Need-wide-requires-3
 wide-requires-3 c κs = search needs
 
--- src/tries.rt:82:78
 mul-wide-2 : tie.Need-mul-wide-2
 mul-wide-2 c = let s = c .before .before .before .before .before .before .before .before .before .before .before .before .before .before .before .before .before .before .before .before .pre .4 in omega (arith, vehicles-of (s .measured) .insideOther, few-vehicles (s .measured .trying))
 
--- src/tries.rt:82:78
 shared-slice-read-wide-2 : tie.Need-shared-slice-read-wide-2
 shared-slice-read-wide-2 c = let s = c .before .before .before .before .before .before .before .before .before .before .before .before .before .before .before .before .before .before .before .before .before .pre .4 in omega (arith, vehicles-of (s .measured) .insideOther, few-vehicles (s .measured .trying), s .measured .measures)
 
--- src/tries.rt:82:73
 wide-requires-4 : tie.Need-wide-requires-4
 wide-requires-4 c κs = search needs
 
--- src/tries.rt:82:52
 add-result-2 : tie.Need-add-result-2
 add-result-2 c = search needs
 
--- src/tries.rt:55:1
 same-length-4 : tie.Need-same-length-4
 same-length-4 c = search needs
 
--- src/tries.rt:55:1
 returns-4 : tie.Need-returns-4
 returns-4 c = λ f rounds h. both-longer h (c .before .before .before .before .before .before .before .before .before .before .before .before .before .before .before .retry .ensures) (c .before .before .before .before .before .before .before .before .before .before .before .before .if1 .left) (c .before .before .before .before .before .before .before .before .before .before .before .if2 .left) (c .before .before .before .before .before .before .before .before .before .retry2 .ensures) (c .before .before .before .before .before .before .if3 .left) (c .before .before .before .before .before .wide .ensures .0) (c .before .before .before .before .wide2 .ensures .0) (c .before .before .wide3 .ensures .0) (c .wide4 .ensures .0) f
 

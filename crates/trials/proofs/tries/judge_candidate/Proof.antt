@@ -1,3 +1,4 @@
+-- `trials::tries::judge_candidate` meets its contract.
 use mathlib.Core.Path.{refl, sym, _∙_, ap}
 use mathlib.Core.Bool.{true≢false}
 use Rattle.checker.specs.Answers.{answerValues}
@@ -5,40 +6,28 @@ use Rattle.trials.proofs.KeptLaws.{judged-shorter, judged-longer, judge
 use borrow.Author.Needs.{needs}
 use Rattle.trials.proofs.tries.judge_candidate.Statement.{statement}
 use Rattle.trials.proofs.tries.judge_candidate.Tie as tie
-use Rattle.trials.proofs.tries.judge_candidate.Reads as reads
-use Rattle.trials.proofs.tries.judge_candidate.Lts as lts
-use Rattle.checker.proofs.check_accepted.Reads as check-accepted-reads
-use Rattle.trials.proofs.tries.not_kept.Reads as not-kept-reads
 
--- src/tries.rt:101:9
 check-accepted-requires : tie.Need-check-accepted-requires
 check-accepted-requires c κs = search needs
 
--- src/tries.rt:104:23
 enum-known-answer : tie.Need-enum-known-answer
 enum-known-answer c = search needs
 
--- src/tries.rt:109:17
 returns : tie.Need-returns
 returns c = (judged-shorter _ (sym (ap answerValues (c .before .before .answer .given .1)) ∙ c .before .before .before .before .check-accepted .ensures) (c .if1 .taken) refl refl, λ _. refl)
 
--- src/tries.rt:115:13
 not-kept-requires : tie.Need-not-kept-requires
 not-kept-requires c κs = search needs
 
--- src/tries.rt:120:14
 enum-told : tie.Need-enum-told
 enum-told c = search needs
 
--- src/tries.rt:120:14
 not-kept-requires-2 : tie.Need-not-kept-requires-2
 not-kept-requires-2 c κs = search needs
 
--- src/tries.rt:96:1
 returns-2 : tie.Need-returns-2
 returns-2 c = (judged-longer _ (sym (ap answerValues (c .before .before .before .answer .given .1)) ∙ c .before .before .before .before .before .check-accepted .ensures) (c .before .if1 .left) (c .not-kept .ensures), λ y. absurd (true≢false (sym y ∙ c .not-kept .ensures)))
 
--- src/tries.rt:96:1
 returns-3 : tie.Need-returns-3
 returns-3 c = (judged-refused _ (sym (ap answerValues (c .before .enum-told .given .1)) ∙ c .before .before .before .check-accepted .ensures) (c .not-kept2 .ensures), λ y. absurd (true≢false (sym y ∙ c .not-kept2 .ensures)))
 

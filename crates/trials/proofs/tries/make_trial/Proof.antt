@@ -1,69 +1,49 @@
+-- `trials::tries::make_trial` meets its contract.
 use native.Mathlib.Omega.{arith}
-use mathlib.Core.Path.{refl, sym, _∙_, ap}
 use Rattle.trials.proofs.KeptLaws.{candidate-fits, tried-none, tried-stuck, tried-judged}
 use borrow.Author.Needs.{needs}
 use Rattle.trials.proofs.tries.make_trial.Statement.{statement}
 use Rattle.trials.proofs.tries.make_trial.Tie as tie
-use Rattle.trials.proofs.tries.make_trial.Reads as reads
-use Rattle.trials.proofs.tries.make_trial.Lts as lts
-use Rattle.trials.proofs.candidate.write_candidate.Reads as write-candidate-reads
-use Rattle.trials.proofs.tries.is_shorter.Reads as is-shorter-reads
-use Rattle.trials.proofs.tries.judge_candidate.Reads as judge-candidate-reads
-use Rattle.trials.proofs.tries.not_kept.Reads as not-kept-reads
 
--- src/tries.rt:141:8
 is-shorter-requires : tie.Need-is-shorter-requires
 is-shorter-requires c κs = search needs
 
--- src/tries.rt:142:13
 write-candidate-requires : tie.Need-write-candidate-requires
 write-candidate-requires c κs = search needs
 
--- src/tries.rt:144:13
 not-kept-requires : tie.Need-not-kept-requires
 not-kept-requires c κs = search needs
 
--- src/tries.rt:144:13
 same-length : tie.Need-same-length
 same-length c = search needs
 
--- src/tries.rt:144:13
 returns : tie.Need-returns
 returns c = λ rounds h. tried-stuck (c .before .before .before .before .before .before .before .before .before .before .before .before .before .before .before .before .pre .1) h _ (c .before .before .before .before .write-candidate .ensures rounds (h .measured .trying) (h .counted)) (c .before .if2 .taken) (c .not-kept .ensures)
 
--- src/tries.rt:147:50
 sub-judge-candidate : tie.Need-sub-judge-candidate
 sub-judge-candidate c = search needs
 
--- src/tries.rt:147:50
 part-judge-candidate-start : tie.Need-part-judge-candidate-start
 part-judge-candidate-start c = search needs
 
--- src/tries.rt:147:50
 part-judge-candidate-end : tie.Need-part-judge-candidate-end
 part-judge-candidate-end c = let s = c .before .before .before .before .before .before .before .before .before .before .before .before .before .before .before .before .pre .4 in omega (arith, candidate-fits (c .before .before .before .before .write-candidate .ensures (s .rounds) (s .made .measured .trying) (s .made .counted)) (c .before .if2 .left))
 
--- src/tries.rt:147:9
 judge-candidate-requires : tie.Need-judge-candidate-requires
 judge-candidate-requires c κs = search needs
 
--- src/tries.rt:147:9
 same-length-2 : tie.Need-same-length-2
 same-length-2 c = search needs
 
--- src/tries.rt:147:9
 returns-2 : tie.Need-returns-2
 returns-2 c = λ rounds h. tried-judged (c .before .before .before .before .before .before .before .before .before .before .before .before .before .before .before .before .before .before .pre .1) h _ (c .before .before .before .before .before .before .write-candidate .ensures rounds (h .measured .trying) (h .counted)) (c .before .before .before .if2 .left) (c .judge-candidate .ensures .0) (c .judge-candidate .ensures .1)
 
--- src/tries.rt:149:5
 not-kept-requires-2 : tie.Need-not-kept-requires-2
 not-kept-requires-2 c κs = search needs
 
--- src/tries.rt:125:1
 same-length-3 : tie.Need-same-length-3
 same-length-3 c = search needs
 
--- src/tries.rt:125:1
 returns-3 : tie.Need-returns-3
 returns-3 c = λ rounds h. tried-none (c .before .before .before .before .before .before .before .before .before .before .before .pre .1) h _ (c .before .before .before .before .is-shorter .ensures (c .before .if1 .left)) (c .not-kept2 .ensures)
 

@@ -1,84 +1,62 @@
+-- `trials::tries::retry` meets its contract.
 use native.Mathlib.Omega.{arith}
-use mathlib.Core.Path.{refl}
 use Rattle.builder.proofs.BuiltPlans.{room-is}
 use Rattle.trials.proofs.NextRounds.{few-vehicles, plan-short, bounds}
 use Rattle.trials.proofs.TryLaws.{bounds-long, retry-walkable}
-use borrow.Author.Needs.{needs}
 use Rattle.trials.proofs.tries.retry.Statement.{statement}
 use Rattle.trials.proofs.tries.retry.Tie as tie
-use Rattle.trials.proofs.tries.retry.Reads as reads
-use Rattle.trials.proofs.tries.retry.Lts as lts
-use Rattle.trials.proofs.vehicle.walk_vehicle.Reads as walk-vehicle-reads
 
--- src/tries.rt:35:16
 mul-from : tie.Need-mul-from
 mul-from c = let s = c .before .before .before .before .pre .4 in omega (arith, s .inside, few-vehicles (s .trying))
 
--- src/tries.rt:35:16
 shared-slice-read-from : tie.Need-shared-slice-read-from
 shared-slice-read-from c = let s = c .before .before .before .before .before .pre .4 in omega (arith, s .inside, few-vehicles (s .trying), s .trying .table)
 
--- src/tries.rt:35:16
 cast-from : tie.Need-cast-from
 cast-from c = let s = c .before .before .before .before .before .pre .4 in let b = bounds (s .trying) (s .inside) in omega (arith, b .order, b .inside, plan-short (s .trying))
 
--- src/tries.rt:35:16
 add-from : tie.Need-add-from
 add-from c = let s = c .before .before .before .before .before .pre .4 in let b = bounds (s .trying) (s .inside) in omega (arith, b .order, b .inside, plan-short (s .trying))
 
--- src/tries.rt:36:21
 add-to : tie.Need-add-to
 add-to c = let s = c .before .before .before .before .before .pre .4 in omega (arith, s .inside, few-vehicles (s .trying))
 
--- src/tries.rt:36:14
 mul-to : tie.Need-mul-to
 mul-to c = let s = c .before .before .before .before .before .pre .4 in omega (arith, s .inside, few-vehicles (s .trying))
 
--- src/tries.rt:36:14
 shared-slice-read-to : tie.Need-shared-slice-read-to
 shared-slice-read-to c = let s = c .before .before .before .before .before .before .pre .4 in omega (arith, s .inside, few-vehicles (s .trying), s .trying .table)
 
--- src/tries.rt:36:14
 cast-to : tie.Need-cast-to
 cast-to c = let s = c .before .before .before .before .before .before .pre .4 in let b = bounds (s .trying) (s .inside) in omega (arith, b .order, b .inside, plan-short (s .trying))
 
--- src/tries.rt:36:14
 sub-to : tie.Need-sub-to
 sub-to c = let s = c .before .before .before .before .before .before .pre .4 in omega (arith, bounds-long (s .trying) (s .inside))
 
--- src/tries.rt:37:30
 add-walk-vehicle : tie.Need-add-walk-vehicle
 add-walk-vehicle c = let s = c .before .before .before .before .before .before .pre .4 in omega (arith, s .inside, few-vehicles (s .trying))
 
--- src/tries.rt:37:29
 cast-walk-vehicle : tie.Need-cast-walk-vehicle
 cast-walk-vehicle c = let s = c .before .before .before .before .before .before .pre .4 in omega (arith, s .inside, few-vehicles (s .trying))
 
--- src/tries.rt:37:45
 mul-walk-vehicle : tie.Need-mul-walk-vehicle
 mul-walk-vehicle c = let s = c .before .before .before .before .before .before .pre .4 in let b = bounds (s .trying) (s .inside) in omega (arith, b .order, b .inside, plan-short (s .trying))
 
--- src/tries.rt:37:45
 sub-walk-vehicle : tie.Need-sub-walk-vehicle
 sub-walk-vehicle c = let s = c .before .before .before .before .before .before .pre .4 in omega (arith, bounds-long (s .trying) (s .inside))
 
--- src/tries.rt:37:45
 part-walk-vehicle-start : tie.Need-part-walk-vehicle-start
 part-walk-vehicle-start c = let s = c .before .before .before .before .before .before .pre .4 in let b = bounds (s .trying) (s .inside) in omega (arith, bounds-long (s .trying) (s .inside), b .inside)
 
--- src/tries.rt:37:45
 part-walk-vehicle-end : tie.Need-part-walk-vehicle-end
 part-walk-vehicle-end c = let s = c .before .before .before .before .before .before .pre .4 in let b = bounds (s .trying) (s .inside) in omega (arith, bounds-long (s .trying) (s .inside), b .inside)
 
--- src/tries.rt:37:5
 walk-vehicle-requires : tie.Need-walk-vehicle-requires
 walk-vehicle-requires c κs = let s = c .before .before .before .before .before .before .before .before .pre .4 in (c .before .before .before .before .before .before .before .before .pre .0, c .before .before .before .before .before .before .before .before .pre .1, c .before .before .before .before .before .before .before .before .pre .2, c .before .before .before .before .before .before .before .before .pre .3, omega (arith, s .inside, few-vehicles (s .trying)), record { tasks = _; walkable = retry-walkable (s .trying) (s .inside) (c .before .before .before .before .before .before .before .before .pre .1) (room-is (c .before .before .before .before .before .before .before .before .pre .0) (c .before .before .before .before .before .before .before .before .pre .5)) (s .touched) })
 
--- src/tries.rt:21:1
 same-length : tie.Need-same-length
 same-length c = let s = c .before .before .before .before .before .before .before .before .before .before .before .pre .4 in c .before .before .walk-vehicle .ensures _ (retry-walkable (s .trying) (s .inside) (c .before .before .before .before .before .before .before .before .before .before .before .pre .1) (room-is (c .before .before .before .before .before .before .before .before .before .before .before .pre .0) (c .before .before .before .before .before .before .before .before .before .before .before .pre .5)) (s .touched)) .size
 
--- src/tries.rt:21:1
 returns : tie.Need-returns
 returns c = λ rounds t l y. c .before .before .walk-vehicle .ensures _ (retry-walkable t l (c .before .before .before .before .before .before .before .before .before .before .before .pre .1) (room-is (c .before .before .before .before .before .before .before .before .before .before .before .pre .0) (c .before .before .before .before .before .before .before .before .before .before .before .pre .5)) y)
 

@@ -1,3 +1,4 @@
+-- `trials::vehicle::fresh_cab` meets its contract.
 use mathlib.Core.Path.{refl, ap}
 use mathlib.Core.Bool.{false}
 use Prim.Native.Nat.{ℕ}
@@ -5,15 +6,10 @@ use Rattle.checker.specs.declared.walk.Trip.{Trip}
 use borrow.Author.Needs.{needs}
 use Rattle.trials.proofs.vehicle.fresh_cab.Statement.{statement}
 use Rattle.trials.proofs.vehicle.fresh_cab.Tie as tie
-use Rattle.trials.proofs.vehicle.fresh_cab.Reads as reads
-use Rattle.trials.proofs.vehicle.fresh_cab.Lts as lts
-use Rattle.day.proofs.fields.depot_window.Reads as depot-window-reads
 
--- src/vehicle.rt:55:9
 depot-window-requires : tie.Need-depot-window-requires
 depot-window-requires c κs = search needs
 
--- src/vehicle.rt:51:1
 returns : tie.Need-returns
 returns c = let at : ℕ → Trip = λ m. record { minute = m; place = 0; rested = false; distance = 0 } in (refl, ap at (c .depot-window .ensures .opens), refl, refl)
 

@@ -1,4 +1,4 @@
-use native.Mathlib.Omega.{arith}
+-- `trials::vehicle::next_turn` meets its contract.
 use mathlib.Core.Path.{refl}
 use Rattle.trials.proofs.RewalkLaws.{turn-waiting, turn-single, turn-double, step-waiting, step-single, step-double}
 use Rattle.checker.specs.Plan.{lunch, Known}
@@ -6,31 +6,22 @@ use Rattle.trials.proofs.MidwayLaws.{every-at}
 use borrow.Author.Needs.{needs}
 use Rattle.trials.proofs.vehicle.next_turn.Statement.{statement}
 use Rattle.trials.proofs.vehicle.next_turn.Tie as tie
-use Rattle.trials.proofs.vehicle.next_turn.Reads as reads
-use Rattle.trials.proofs.vehicle.next_turn.Lts as lts
-use Rattle.trials.proofs.edits.change_word.Reads as change-word-reads
 
--- src/vehicle.rt:56:19
 add-t7 : tie.Need-add-t7
 add-t7 c = search needs
 
--- src/vehicle.rt:53:9
 returns : tie.Need-returns
 returns c = (λ day tasks rest k n l q h. turn-waiting _ h (c .if1 .taken) refl refl refl, step-waiting (c .before .args .t) (c .if1 .taken))
 
--- src/vehicle.rt:59:9
 change-word-requires : tie.Need-change-word-requires
 change-word-requires c κs = search needs
 
--- src/vehicle.rt:64:19
 add-t8 : tie.Need-add-t8
 add-t8 c = search needs
 
--- src/vehicle.rt:61:9
 returns-2 : tie.Need-returns-2
 returns-2 c = (λ day tasks rest k n l q h. turn-single day _ tasks _ l _ (rw (c .before .before .before .if1 .left) at h) (c .before .before .change-word .ensures day _ k q (every-at (Known day) tasks _ lunch n l)) (c .if2 .taken) refl refl refl, step-single (c .before .before .before .before .args .t) (c .before .before .before .if1 .left))
 
--- src/vehicle.rt:47:1
 returns-3 : tie.Need-returns-3
 returns-3 c = (λ day tasks rest k n l q h. turn-double day _ tasks _ l _ (rw (c .before .before .before .if1 .left) at h) (c .before .before .change-word .ensures day _ k q (every-at (Known day) tasks _ lunch n l)) (c .if2 .left) refl refl refl, step-double (c .before .before .before .before .args .t) (c .before .before .before .if1 .left) (c .if2 .left))
 

@@ -1,62 +1,45 @@
+-- `trials::vehicle::walk_word` meets its contract.
 use native.Mathlib.Omega.{arith}
-use mathlib.Core.Path.{_∙_, sym, ap, refl}
 use Rattle.trials.proofs.CabLaws.{some-still}
 use Rattle.trials.proofs.WalkLaws.{some-fewer}
 use Rattle.trials.proofs.RewalkLaws.{means-stop, means-tip, word-none, word-failed, word-standing, stop-standing, word-stop, word-tip}
 use borrow.Author.Needs.{needs}
 use Rattle.trials.proofs.vehicle.walk_word.Statement.{statement}
 use Rattle.trials.proofs.vehicle.walk_word.Tie as tie
-use Rattle.trials.proofs.vehicle.walk_word.Reads as reads
-use Rattle.trials.proofs.vehicle.walk_word.Lts as lts
-use Rattle.trials.proofs.cabs.rest_cab.Reads as rest-cab-reads
-use Rattle.trials.proofs.cabs.walk_stop.Reads as walk-stop-reads
-use Rattle.trials.proofs.cabs.walk_tip.Reads as walk-tip-reads
 
--- src/vehicle.rt:28:9
 returns : tie.Need-returns
 returns c = word-none (c .if1 .taken)
 
--- src/vehicle.rt:31:9
 returns-2 : tie.Need-returns-2
 returns-2 c = word-failed (c .if2 .taken)
 
--- src/vehicle.rt:33:9
 rest-cab-requires : tie.Need-rest-cab-requires
 rest-cab-requires c κs = (c .before .before .before .before .before .pre .0, c .before .before .before .before .before .pre .1, some-fewer (word-standing (c .before .before .before .before .before .pre .2) (c .before .if2 .left)))
 
--- src/vehicle.rt:35:43
 sub-walk-stop : tie.Need-sub-walk-stop
 sub-walk-stop c = means-stop (c .before .before .before .before .before .before .before .before .before .pre .2 .means) (c .before .before .before .before .before .before .if1 .left) (c .if3 .taken) .least
 
--- src/vehicle.rt:35:42
 cast-walk-stop : tie.Need-cast-walk-stop
 cast-walk-stop c = search needs
 
--- src/vehicle.rt:35:9
 walk-stop-requires : tie.Need-walk-stop-requires
 walk-stop-requires c κs = let t = means-stop (c .before .before .before .before .before .before .before .before .before .before .pre .2 .means) (c .before .before .before .before .before .before .before .if1 .left) (c .before .if3 .taken) in (c .before .before .before .before .before .before .before .before .before .before .pre .0, c .before .before .before .before .before .before .before .before .before .before .pre .1, some-still _ (stop-standing t (word-standing (c .before .before .before .before .before .before .before .before .before .before .pre .2) (c .before .before .before .before .before .before .if2 .left))) (c .before .before .before .before .rest-cab .ensures), t .first, omega (arith, t .within, c .before .before .before .before .before .before .before .before .before .before .pre .0 .stopsAre))
 
--- src/vehicle.rt:35:9
 same-length : tie.Need-same-length
 same-length c = search needs
 
--- src/vehicle.rt:35:9
 returns-3 : tie.Need-returns-3
 returns-3 c = word-stop (c .before .before .before .before .before .before .before .before .before .before .if1 .left) (c .before .before .before .before .before .before .before .before .before .if2 .left) (c .before .before .before .before .before .before .before .rest-cab .ensures) (c .before .before .before .before .if3 .taken) (c .before .before .walk-stop .ensures)
 
--- src/vehicle.rt:37:30
 cast-walk-tip : tie.Need-cast-walk-tip
 cast-walk-tip c = search needs
 
--- src/vehicle.rt:37:5
 walk-tip-requires : tie.Need-walk-tip-requires
 walk-tip-requires c κs = let t = means-tip (c .before .before .before .before .before .before .before .before .before .before .pre .2 .means) (c .before .before .before .before .before .before .before .if1 .left) (c .before .if3 .left) in (c .before .before .before .before .before .before .before .before .before .before .pre .0, c .before .before .before .before .before .before .before .before .before .before .pre .1, some-still _ (some-fewer (word-standing (c .before .before .before .before .before .before .before .before .before .before .pre .2) (c .before .before .before .before .before .before .if2 .left))) (c .before .before .before .before .rest-cab .ensures), t .first, omega (arith, t .within, c .before .before .before .before .before .before .before .before .before .before .pre .0 .tipsAre))
 
--- src/vehicle.rt:23:1
 same-length-2 : tie.Need-same-length-2
 same-length-2 c = search needs
 
--- src/vehicle.rt:23:1
 returns-4 : tie.Need-returns-4
 returns-4 c = word-tip (c .before .before .before .before .before .before .before .before .before .before .if1 .left) (c .before .before .before .before .before .before .before .before .before .if2 .left) (c .before .before .before .before .before .before .before .rest-cab .ensures) (c .before .before .before .before .if3 .left) (c .before .before .walk-tip .ensures)
 
