@@ -1,0 +1,3 @@
+//! The command line `kz`: days and plans in files, planned and checked by the proved library, and
+//! shown so that a person can read them.
+
