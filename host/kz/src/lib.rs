@@ -1,3 +1,5 @@
 //! The command line `kz`: days and plans in files, planned and checked by the proved library, and
 //! shown so that a person can read them.
 
+pub mod day;
+pub mod sheet;
