@@ -1,5 +1,7 @@
 //! The command line `kz`: days and plans in files, planned and checked by the proved library, and
 //! shown so that a person can read them.
 
+pub mod clock;
 pub mod day;
 pub mod sheet;
+pub mod text;
