@@ -4,4 +4,5 @@
 pub mod clock;
 pub mod day;
 pub mod sheet;
+pub mod table;
 pub mod text;

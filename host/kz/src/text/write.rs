@@ -3,8 +3,8 @@
 use super::matrix::NO_WAY;
 use super::names::Names;
 use super::HEADING;
-use crate::clock;
-use crate::day::{Day, Leg, Visit, Window};
+use crate::clock::window;
+use crate::day::{Day, Leg, Visit};
 
 /// The text of an accepted day, from which [`super::parse`] gives the same words and names.
 ///
@@ -44,10 +44,6 @@ fn head(day: &Day) -> String {
 
 fn visit(visit: &Visit) -> String {
     format!("{}  {:3} min", window(visit.window), visit.minutes)
-}
-
-fn window(window: Window) -> String {
-    format!("{}-{}", clock::time(window.opening), clock::time(window.closing))
 }
 
 fn rows(day: &Day, names: &Names) -> String {
