@@ -3,6 +3,7 @@
 
 pub mod clock;
 pub mod day;
+pub mod depot;
 pub mod sheet;
 pub mod table;
 pub mod text;
