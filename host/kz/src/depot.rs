@@ -37,12 +37,12 @@ load         2300 kg         # Q: what a vehicle can have on board
 load-a-day   4500 kg         # Q*: what it may collect in the whole day
 stops-a-day    14            # S*: how many stops it may serve
 
-depot 06:00-15:30                                       at 1.100 0.900
+depot 06:00-15:30                                        at 1.100 0.900
 rest  10:30-12:30  30 min    # lunch
 
-tip  \"North transfer\"           06:00-15:00  12 min           at 4.200 7.600
-tip  \"Riverside incinerator\"    07:00-14:30  15 min           at 8.300 1.500
-tip  \"Quarry landfill\"          08:00-15:00  10 min           at 0.300 5.200
+tip  \"North transfer\"        06:00-15:00  12 min           at 4.200 7.600
+tip  \"Riverside incinerator\" 07:00-14:30  15 min           at 8.300 1.500
+tip  \"Quarry landfill\"       08:00-15:00  10 min           at 0.300 5.200
 ";
 
 const LEGS: &str = "
@@ -83,7 +83,7 @@ const KITCHENS: Trade = Trade {
 
 const WORKS: Trade = Trade {
     remark: "works and warehouses, open all day",
-    names: &["Joinery", "Warehouse", "Printer", "Foundry", "Garage", "Dairy", "Sawmill", "Packer"],
+    names: &["Joinery", "Store", "Printer", "Foundry", "Garage", "Dairy", "Sawmill", "Packer"],
     openings: &[360, 390, 420],
     closings: &[900, 930, 960],
     minutes: 12..=24,
@@ -109,40 +109,26 @@ struct Street {
 }
 
 const STREETS: [Street; 9] = [
-    Street { name: "Market Sq", trade: SHOPS, stops: 8, from: (4_700, 3_900), to: (5_100, 4_300) },
-    Street { name: "High St", trade: SHOPS, stops: 8, from: (5_200, 4_200), to: (6_400, 4_700) },
-    Street { name: "Station Rd", trade: SHOPS, stops: 6, from: (3_900, 4_600), to: (4_500, 5_700) },
-    Street {
-        name: "Mill Lane",
-        trade: KITCHENS,
-        stops: 6,
-        from: (5_600, 3_300),
-        to: (6_500, 2_800),
-    },
-    Street {
-        name: "Harbour Rd",
-        trade: KITCHENS,
-        stops: 7,
-        from: (7_300, 2_600),
-        to: (8_800, 3_400),
-    },
-    Street { name: "Foundry Rd", trade: WORKS, stops: 7, from: (1_800, 6_000), to: (2_900, 7_100) },
-    Street {
-        name: "Canal Wharf",
-        trade: WORKS,
-        stops: 6,
-        from: (2_200, 1_900),
-        to: (3_900, 1_500),
-    },
-    Street { name: "North Park", trade: WORKS, stops: 6, from: (6_600, 6_700), to: (7_900, 7_300) },
-    Street {
-        name: "School Hill",
-        trade: PUBLIC,
-        stops: 6,
-        from: (6_900, 5_200),
-        to: (7_700, 4_600),
-    },
+    street("Market", SHOPS, 8, (4_700, 3_900), (5_100, 4_300)),
+    street("High St", SHOPS, 8, (5_200, 4_200), (6_400, 4_700)),
+    street("Station", SHOPS, 6, (3_900, 4_600), (4_500, 5_700)),
+    street("Mill Ln", KITCHENS, 6, (5_600, 3_300), (6_500, 2_800)),
+    street("Harbour", KITCHENS, 7, (7_300, 2_600), (8_800, 3_400)),
+    street("Forge Rd", WORKS, 7, (1_800, 6_000), (2_900, 7_100)),
+    street("Canal", WORKS, 6, (2_200, 1_900), (3_900, 1_500)),
+    street("North Pk", WORKS, 6, (6_600, 6_700), (7_900, 7_300)),
+    street("Hill Rd", PUBLIC, 6, (6_900, 5_200), (7_700, 4_600)),
 ];
+
+const fn street(
+    name: &'static str,
+    trade: Trade,
+    stops: u32,
+    from: (i64, i64),
+    to: (i64, i64),
+) -> Street {
+    Street { name, trade, stops, from, to }
+}
 
 /// One stop's line. Stops stand at about equal distances along the street.
 fn stop(street: &Street, house: u32, draws: &mut Draws) -> String {
@@ -161,7 +147,7 @@ fn stop(street: &Street, house: u32, draws: &mut Draws) -> String {
     let x = along(street.from.0, street.to.0);
     let y = along(street.from.1, street.to.1);
     let quoted = format!("\"{name}, {} {number}\"", street.name);
-    format!("stop {quoted:27} {}  {minutes:2} min  {kg:4} kg  at {x} {y}\n", window(open))
+    format!("stop {quoted:23} {}  {minutes:2} min  {kg:4} kg  at {x} {y}\n", window(open))
 }
 
 /// Draws that the seed determines: Marsaglia's xorshift with 64 bits.
