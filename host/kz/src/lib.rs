@@ -22,6 +22,7 @@ pub mod program;
 pub mod progress;
 pub mod refusals;
 pub mod sheet;
+pub mod sheet_json;
 pub mod table;
 pub mod text;
 pub mod words;

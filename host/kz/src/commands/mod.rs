@@ -5,10 +5,20 @@ mod check;
 mod pack;
 mod plan;
 mod same;
+mod show;
 mod unpack;
+mod vehicle;
 
 use crate::catalogue::Command;
 
 /// All commands, in the order in which the help names them.
-pub const COMMANDS: &[Command] =
-    &[check::COMMAND, build::COMMAND, plan::COMMAND, same::COMMAND, pack::COMMAND, unpack::COMMAND];
+pub const COMMANDS: &[Command] = &[
+    check::COMMAND,
+    build::COMMAND,
+    plan::COMMAND,
+    vehicle::COMMAND,
+    same::COMMAND,
+    show::COMMAND,
+    pack::COMMAND,
+    unpack::COMMAND,
+];

@@ -18,10 +18,9 @@ pub fn sentence(refusal: Refusal, day: &[u32], plans: &[&[u32]]) -> Option<Strin
             return Some(Fault { day: Day::of(day), plan, name }.sentence(found));
         }
     }
-    let vehicles = plans::vehicles(plans.first()?);
-    let no_vehicle =
-        || format!("the plan has {vehicles} vehicles, and none has the number {}", refusal.place);
-    (refusal.number == 15).then(no_vehicle)
+    let (asked, there) = (refusal.place, plans::vehicles(plans.first()?));
+    (refusal.number == 15)
+        .then(|| format!("there is no vehicle {asked} in the plan, which has {there}"))
 }
 
 /// A plan that is refused, and what it is called.
