@@ -1,21 +1,30 @@
 # make lib     the proved library, target/staticlib/libkazhuvendi.a
 # make test    everything that has to hold before a change is taken in
-# make demo    judges the sample day, checks a plan of it and plans it
+# make kz      the command line program, host/target/release/kz
+# make demo    plans a sample depot's day, shows it and draws it
+# make install puts program, library, header, manual page and completions below PREFIX
 # make bench   times of the library beside plain Rust
 # make fuzz    compares the library with the second implementation for SECONDS seconds;
 #              SEED=... repeats a run
-# make examples  writes the sample day and its plan anew
+# make examples  writes the sample days and the plan of day M anew
+# make manual    writes the manual page and the completions anew
 # make clean   removes all that was made
 
 SECONDS ?= 60
 SEED ?=
+PREFIX ?= /usr/local
+DESTDIR ?=
 
 LIBRARY := target/staticlib/libkazhuvendi.a
 PROVED := crates.txt $(shell find crates -type f)
 CARGO := cd host && cargo
 RUN := $(CARGO) run --release --offline --quiet
 
-.PHONY: lib test demo bench fuzz examples clean
+KZ := host/target/release/kz
+CHART := target/demo.svg
+PLACE := $(DESTDIR)$(PREFIX)
+
+.PHONY: lib kz test demo install bench fuzz examples manual clean
 
 lib: $(LIBRARY)
 
@@ -25,10 +34,21 @@ $(LIBRARY): $(PROVED)
 test:
 	.ci/run
 
-demo: lib
-	@$(RUN) -p kazhuvendi --example judge_day -- ../examples/day-m.day
-	@$(RUN) -p kazhuvendi --example check_plan -- ../examples/day-m.day ../examples/day-m.plan
-	@$(RUN) -p kazhuvendi --example plan_day -- ../examples/day-m.day
+kz: lib
+	@$(CARGO) build --release --offline --quiet -p kz
+
+demo: kz
+	@$(KZ) demo -o $(CHART)
+	@echo "the chart is in $(CHART)"
+
+install: kz
+	install -D -m 755 $(KZ) $(PLACE)/bin/kz
+	install -D -m 644 $(LIBRARY) $(PLACE)/lib/libkazhuvendi.a
+	install -D -m 644 host/include/kazhuvendi.h $(PLACE)/include/kazhuvendi.h
+	install -D -m 644 host/kz/man/kz.1 $(PLACE)/share/man/man1/kz.1
+	install -D -m 644 host/kz/completions/kz.bash $(PLACE)/share/bash-completion/completions/kz
+	install -D -m 644 host/kz/completions/_kz $(PLACE)/share/zsh/site-functions/_kz
+	install -D -m 644 host/kz/completions/kz.fish $(PLACE)/share/fish/vendor_completions.d/kz.fish
 
 bench: lib
 	@$(RUN) -p bench
@@ -36,9 +56,16 @@ bench: lib
 fuzz: lib
 	@$(RUN) -p kazhuvendi --example fuzz -- $(SECONDS) $(SEED)
 
-examples:
+examples: lib
 	@$(RUN) -p reference --example day_m > ../examples/day-m.day
 	@$(RUN) -p reference --example plan_m > ../examples/day-m.plan
+	@$(RUN) -p kz --example write_depot -- ../examples
+
+manual: lib
+	@$(RUN) -p kz --example manual -- man > kz/man/kz.1
+	@$(RUN) -p kz --example manual -- bash > kz/completions/kz.bash
+	@$(RUN) -p kz --example manual -- zsh > kz/completions/_kz
+	@$(RUN) -p kz --example manual -- fish > kz/completions/kz.fish
 
 clean:
 	rm -rf target host/target

@@ -53,8 +53,6 @@ pub struct Operand {
     pub about: &'static str,
     /// Whether it may be left away.
     pub optional: bool,
-    /// Whether it is the name of a file, which completions offer.
-    pub file: bool,
 }
 
 /// An option.
@@ -122,15 +120,14 @@ pub const OUTPUT: Flag = Flag {
 /// The day that a command is about.
 pub const DAY: Operand = Operand {
     name: "DAY",
-    about: "a day: its words as raw bytes or hexadecimal lines, or its text form",
+    about:
+        "a day: its words as raw bytes or hexadecimal lines, or its text form; - is standard input",
     optional: false,
-    file: true,
 };
 
 /// The plan that a command is about.
 pub const PLAN: Operand = Operand {
     name: "PLAN",
-    about: "a plan: its words as raw bytes or hexadecimal lines",
+    about: "a plan: its words as raw bytes or hexadecimal lines; - is standard input",
     optional: false,
-    file: true,
 };

@@ -11,7 +11,6 @@ const SECOND: Operand = Operand {
     name: "SECOND",
     about: "another plan of the same day, in either form",
     optional: false,
-    file: true,
 };
 
 pub const COMMAND: Command = Command {

@@ -12,7 +12,7 @@ use crate::sheet_json;
 use crate::table;
 
 const NUMBER: Operand =
-    Operand { name: "N", about: "the vehicle, counted from 1", optional: false, file: false };
+    Operand { name: "N", about: "the vehicle, counted from 1", optional: false };
 
 pub const COMMAND: Command = Command {
     name: "vehicle",
