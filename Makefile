@@ -39,7 +39,6 @@ kz: lib
 
 demo: kz
 	@$(KZ) demo -o $(CHART)
-	@echo "the chart is in $(CHART)"
 
 install: kz
 	install -D -m 755 $(KZ) $(PLACE)/bin/kz

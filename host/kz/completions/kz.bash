@@ -2,7 +2,7 @@
 _kz() {
     local word=${COMP_WORDS[COMP_CWORD]} before=${COMP_WORDS[COMP_CWORD - 1]} options=
     if [ "$COMP_CWORD" -eq 1 ]; then
-        mapfile -t COMPREPLY < <(compgen -W 'check build plan vehicle same show pack unpack help --help --version' -- "$word")
+        mapfile -t COMPREPLY < <(compgen -W 'check build plan vehicle same show chart pack unpack demo help --help --version' -- "$word")
         return
     fi
     case $before in
@@ -16,9 +16,11 @@ _kz() {
         vehicle) options='-o --output --hex --json -h --help' ;;
         same) options='--json -h --help' ;;
         show) options='--json -h --help' ;;
+        chart) options='-o --output --json -h --help' ;;
         pack) options='-o --output --hex --json -h --help' ;;
         unpack) options='-o --output --json -h --help' ;;
-        help) options='check build plan vehicle same show pack unpack' ;;
+        demo) options='-o --output --json -h --help' ;;
+        help) options='check build plan vehicle same show chart pack unpack demo' ;;
     esac
     if [[ $word == -* || ${COMP_WORDS[1]} == help ]]; then
         mapfile -t COMPREPLY < <(compgen -W "$options" -- "$word")

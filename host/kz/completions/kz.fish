@@ -6,8 +6,10 @@ complete -c kz -n __fish_use_subcommand -a plan -d 'plan a day: the greedy plan,
 complete -c kz -n __fish_use_subcommand -a vehicle -d 'show what one vehicle of a plan does, or hand out its words'
 complete -c kz -n __fish_use_subcommand -a same -d 'tell whether two plans have the same rounds'
 complete -c kz -n __fish_use_subcommand -a show -d 'show a day, or a plan of it, as tables'
+complete -c kz -n __fish_use_subcommand -a chart -d 'draw a plan as an SVG picture, one lane a vehicle'
 complete -c kz -n __fish_use_subcommand -a pack -d 'write a day in text form as the words of a day file'
 complete -c kz -n __fish_use_subcommand -a unpack -d 'write a day in its text form'
+complete -c kz -n __fish_use_subcommand -a demo -d 'plan a sample depot\'s day and show what comes of it'
 complete -c kz -n __fish_use_subcommand -a help -d 'print the help of a command'
 complete -c kz -n __fish_use_subcommand -l help -d 'print the help'
 complete -c kz -n __fish_use_subcommand -l version -d 'print the version'
@@ -39,6 +41,10 @@ complete -c kz -n '__fish_seen_subcommand_from same' -s h -l help -d 'print this
 complete -c kz -n '__fish_seen_subcommand_from show' -F
 complete -c kz -n '__fish_seen_subcommand_from show' -l json -d 'print the answer, or the refusal, as one JSON object on standard output'
 complete -c kz -n '__fish_seen_subcommand_from show' -s h -l help -d 'print this text'
+complete -c kz -n '__fish_seen_subcommand_from chart' -F
+complete -c kz -n '__fish_seen_subcommand_from chart' -s o -l output -r -F -d 'write there instead of to standard output, which is also what - stands for'
+complete -c kz -n '__fish_seen_subcommand_from chart' -l json -d 'print the answer, or the refusal, as one JSON object on standard output'
+complete -c kz -n '__fish_seen_subcommand_from chart' -s h -l help -d 'print this text'
 complete -c kz -n '__fish_seen_subcommand_from pack' -F
 complete -c kz -n '__fish_seen_subcommand_from pack' -s o -l output -r -F -d 'write there instead of to standard output, which is also what - stands for'
 complete -c kz -n '__fish_seen_subcommand_from pack' -l hex -d 'write words as hexadecimal lines, one word a line, instead of raw bytes'
@@ -48,3 +54,6 @@ complete -c kz -n '__fish_seen_subcommand_from unpack' -F
 complete -c kz -n '__fish_seen_subcommand_from unpack' -s o -l output -r -F -d 'write there instead of to standard output, which is also what - stands for'
 complete -c kz -n '__fish_seen_subcommand_from unpack' -l json -d 'print the answer, or the refusal, as one JSON object on standard output'
 complete -c kz -n '__fish_seen_subcommand_from unpack' -s h -l help -d 'print this text'
+complete -c kz -n '__fish_seen_subcommand_from demo' -s o -l output -r -F -d 'write there instead of to standard output, which is also what - stands for'
+complete -c kz -n '__fish_seen_subcommand_from demo' -l json -d 'print the answer, or the refusal, as one JSON object on standard output'
+complete -c kz -n '__fish_seen_subcommand_from demo' -s h -l help -d 'print this text'

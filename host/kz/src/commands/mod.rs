@@ -1,7 +1,9 @@
 //! The commands, one file each.
 
 mod build;
+mod chart;
 mod check;
+mod demo;
 mod pack;
 mod plan;
 mod same;
@@ -19,6 +21,8 @@ pub const COMMANDS: &[Command] = &[
     vehicle::COMMAND,
     same::COMMAND,
     show::COMMAND,
+    chart::COMMAND,
     pack::COMMAND,
     unpack::COMMAND,
+    demo::COMMAND,
 ];

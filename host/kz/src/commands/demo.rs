@@ -1,0 +1,71 @@
+//! `kz demo`: a sample depot's day from beginning to end.
+
+use crate::answer::{Answer, Failure, Product};
+use crate::arguments::Call;
+use crate::catalogue::{Command, OUTPUT};
+use crate::chart;
+use crate::clock::grouped;
+use crate::day::Day;
+use crate::depot;
+use crate::inputs::GivenDay;
+use crate::json::Json;
+use crate::planning::{self, Outcome, SETTLE, USUAL_NEIGHBOURS};
+use crate::refusals;
+use crate::sheet::Sheet;
+use crate::sheet_json;
+use crate::table;
+
+pub const COMMAND: Command = Command {
+    name: "demo",
+    summary: "plan a sample depot's day and show what comes of it",
+    operands: &[],
+    options: &[&OUTPUT],
+    about: &[
+        "The day is that of examples/depot.txt, which is within the program. It is planned until it \
+         is settled. Printed are the distances of the greedy and the settled plan, and the sheet of \
+         vehicle 1; the chart of the settled plan goes to FILE where -o is given.",
+    ],
+    run,
+};
+
+fn run(call: &Call) -> Result<Answer, Failure> {
+    let sample = depot::sample();
+    let given = GivenDay::of(sample.words, Some(sample.names))?;
+    let outcome = planning::run(&given, USUAL_NEIGHBOURS, SETTLE, |_| {})
+        .map_err(|refusal| refusals::of_plans(refusal, &given.words, &[]))?;
+    let day = Day::of(&given.words);
+    let sheet = Sheet::of(&day, &outcome.best.words);
+    let product = call.has(&OUTPUT).then(|| Product::Text(chart::svg(&day, &given.names, &sheet)));
+    let vehicle = table::vehicle_table(&day, &given.names, &sheet, 1);
+    let report = format!("{}\n{vehicle}{}", distances(&given, &outcome), chart_place(call));
+    let json = Json::Object(vec![
+        ("stops", given.stops.into()),
+        ("tips", given.tips.into()),
+        ("greedy_distance", outcome.greedy.into()),
+        ("distance", outcome.best.planned.distance.into()),
+        ("trials", outcome.best.planned.trials.into()),
+        ("settled", outcome.best.planned.settled.into()),
+        ("plan", Json::words(&outcome.best.words)),
+        ("sheet", sheet_json::round(&sheet.rounds[0], &given.names)),
+    ]);
+    Ok(Answer { report, json, product })
+}
+
+fn distances(given: &GivenDay, outcome: &Outcome) -> String {
+    let planned = outcome.best.planned;
+    let ended = if planned.settled { "settled plan:" } else { "best so far: " };
+    format!(
+        "{}: {} stops, {} tips\ngreedy plan:  distance {}\n{ended} distance {}, {} trials\n",
+        given.names.day(),
+        given.stops,
+        given.tips,
+        grouped(outcome.greedy),
+        grouped(planned.distance),
+        grouped(planned.trials),
+    )
+}
+
+fn chart_place(call: &Call) -> String {
+    let file = call.value(&OUTPUT).filter(|name| *name != "-");
+    file.map_or(String::new(), |name| format!("\nThe chart is in {}.\n", name.display()))
+}

@@ -1,0 +1,15 @@
+//! The program as a person uses it: each test runs `kz` and looks at what it prints, what it writes
+//! and its exit status.
+
+mod calls;
+mod day_m;
+mod forms;
+mod help;
+mod interrupted;
+mod json;
+mod outputs;
+mod planning;
+mod refused;
+mod run;
+mod scratch;
+mod xml;
