@@ -1,5 +1,6 @@
 //! The picture of a plan: it is well-formed, and shows what the sheets say.
 
+mod plans;
 mod svg;
 
 use kz::chart;
@@ -7,10 +8,8 @@ use kz::day::Day;
 use kz::depot;
 use kz::sheet::{Act, Entry, Round, Sheet};
 use kz::text::{parse, Names};
-use reference::drafts::random_draft;
+use plans::lawful_plan;
 use reference::random::Random;
-use reference::samples::random_size;
-use reference::workdays::workday;
 use reference::worked::DAY_M;
 use reference::worked_plans::{A1, B1, C1, E, F2, PLAN_M};
 use svg::{read, Element};
@@ -61,9 +60,7 @@ fn assert_in_order(lane: &Element) {
 fn there_is_a_lane_for_each_vehicle_that_shows_what_it_does() {
     let mut random = Random::new(9);
     for _ in 0..150 {
-        let (stops, tips) = random_size(&mut random);
-        let made = workday(&mut random, stops, tips);
-        let plan = random_draft(&mut random, &made).words(&made);
+        let (made, plan) = lawful_plan(&mut random);
         let picture = picture(&made.words(), &plan);
         let sheet = Sheet::of(&Day::of(&made.words()), &plan);
         let lanes = picture.of_class("lane");

@@ -1,25 +1,17 @@
 //! The sheets of lawful plans, against the rules of a timetable as the second implementation has
 //! them: its answers to plans, and its search for a timetable from the last word backwards.
 
+mod plans;
+
 use kz::day::{Day, Window};
 use kz::sheet::{Act, Entry, Round, Sheet};
-use reference::drafts::random_draft;
+use plans::lawful_plan;
 use reference::plan::Word;
 use reference::random::Random;
 use reference::samples::random_size;
-use reference::workdays::workday;
 use reference::worked::DAY_M;
 use reference::worked_plans::PLAN_M;
 use reference::{check, day, timetable};
-
-/// A day of any kind and a lawful plan of it.
-fn lawful_plan(random: &mut Random) -> (day::Day, Vec<u32>) {
-    let (stops, tips) = random_size(random);
-    let day = workday(random, stops, tips);
-    let plan = random_draft(random, &day).words(&day);
-    assert!(check::check(&day, &plan).is_ok(), "a draft is lawful");
-    (day, plan)
-}
 
 #[test]
 fn the_words_of_a_day_are_taken_apart_and_put_back() {

@@ -1,14 +1,14 @@
 //! The tables that people read: what stands in them, and that their lines fit.
 
+mod plans;
+
 use kz::clock::{grouped, time};
 use kz::day::Day;
 use kz::sheet::{Act, Sheet};
 use kz::table::{day_table, plan_table, vehicle_table};
 use kz::text::{parse, Names};
-use reference::drafts::random_draft;
+use plans::lawful_plan;
 use reference::random::Random;
-use reference::samples::random_size;
-use reference::workdays::workday;
 use reference::worked::DAY_M;
 use reference::worked_plans::{A1, B1, C1, E, F2, PLAN_M};
 
@@ -72,9 +72,7 @@ fn names_stand_in_the_tables() {
 fn lines_fit_and_every_word_has_one() {
     let mut random = Random::new(8);
     for _ in 0..200 {
-        let (stops, tips) = random_size(&mut random);
-        let made = workday(&mut random, stops, tips);
-        let plan = random_draft(&mut random, &made).words(&made);
+        let (made, plan) = lawful_plan(&mut random);
         let day = Day::of(&made.words());
         let sheet = Sheet::of(&day, &plan);
         let names = numbered(&day);

@@ -123,6 +123,38 @@ fn day_m_in_text_gives_its_words() {
     assert_eq!(parse(&as_windows_writes), Ok(day));
 }
 
+/// The parts of docs/FORMAT.md that stand between ```text and ```.
+fn documented() -> Vec<String> {
+    let format = include_str!("../../../docs/FORMAT.md");
+    let parts = format.split("```text\n").skip(1);
+    parts.map(|part| part.split("```").next().unwrap_or("").to_string()).collect()
+}
+
+#[test]
+fn the_examples_of_the_documentation_are_days() {
+    let days: Vec<Vec<u32>> = documented()
+        .iter()
+        .map(|text| parse(text).unwrap_or_else(|error| panic!("{error}\n{text}")).words)
+        .collect();
+    assert_eq!(days[0], DAY_M);
+    assert_eq!(days.len(), 2);
+    let day = Day::of(&days[1]);
+    let leg = |from, to| (day.leg(from, to).minutes, day.leg(from, to).distance);
+    assert_eq!((leg(0, 1), leg(0, 2)), ((12, 5_176), (10, 3_903)), "as the documentation says");
+}
+
+#[test]
+fn the_faults_of_the_documentation_are_said_so() {
+    let format = include_str!("../../../docs/FORMAT.md");
+    let rows = format.split("| What is said | When |\n|---|---|\n").nth(1).expect("the faults");
+    let rows: Vec<&str> = rows.lines().take_while(|row| row.starts_with('|')).collect();
+    assert!(rows.len() > 10);
+    for row in rows {
+        let said = row.split('`').nth(1).expect("what is said");
+        assert!(FAULTS.iter().any(|fault| fault.5 == said), "{said}");
+    }
+}
+
 #[test]
 fn coordinates_give_legs_in_metres_and_minutes() {
     let named = parse(COORDINATES).expect("a day");
