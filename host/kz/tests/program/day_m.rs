@@ -7,7 +7,7 @@ use reference::worked_plans::{PLAN_M as PLAN_WORDS, TWO_VEHICLES};
 use crate::json::Json;
 use crate::run::kz;
 use crate::scratch::{Scratch, DAY_M, PLAN_M};
-use crate::xml::elements;
+use crate::svg;
 
 /// The answer of a command, as JSON.
 #[track_caller]
@@ -122,12 +122,17 @@ fn stops_left_out_are_shown() {
     assert_eq!(numbers, [1, 2]);
 }
 
-/// The lanes of a chart, which has to be well-formed.
-fn lanes(svg: &str) -> usize {
-    let elements = elements(svg);
-    assert_eq!(elements[0].name, "svg");
-    assert_eq!(elements[0].attribute("xmlns"), Some("http://www.w3.org/2000/svg"));
-    elements.iter().filter(|element| element.attribute("class") == Some("lane")).count()
+/// The lanes of a chart, which has to be well-formed and to name the vehicles in order.
+fn lanes(chart: &str) -> usize {
+    let picture = svg::read(chart);
+    assert_eq!(picture.name, "svg");
+    assert_eq!(picture.attribute("xmlns"), "http://www.w3.org/2000/svg");
+    assert!(picture.of_class("paper")[0].number("height") > 0.0);
+    let lanes = picture.of_class("lane");
+    for (number, lane) in (1..).zip(&lanes) {
+        assert_eq!(lane.inside[0].text, format!("vehicle {number}"));
+    }
+    lanes.len()
 }
 
 #[test]

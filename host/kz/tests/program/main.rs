@@ -12,4 +12,5 @@ mod planning;
 mod refused;
 mod run;
 mod scratch;
-mod xml;
+#[path = "../svg/mod.rs"]
+mod svg;
