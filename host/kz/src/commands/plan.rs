@@ -47,7 +47,7 @@ pub const COMMAND: Command = Command {
         "A trial moves a stop beside a neighbour, interchanges two stops of different vehicles, or \
          takes out or changes a tip. It is kept where the plan is then lawful and shorter. A plan \
          is settled when no trial would be kept. A day of 60 stops settles within a tenth of a \
-         second, one of 240 in about a second.",
+         second, one of 240 in a second or two.",
         "Planning goes in steps: first the greedy plan, then with a budget of trials that doubles \
          from step to step, each time from the beginning. On a terminal standard error shows the \
          trials made, the distance so far, and how far it is below the greedy plan's.",

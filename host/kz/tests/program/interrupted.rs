@@ -25,11 +25,11 @@ fn interrupt(scratch: &Scratch, signal: &str, output: &[&str]) -> Child {
     for _ in 0..3 {
         progress.read_line(&mut String::new()).expect("a step is shown");
     }
-    let sent = Command::new("kill").args([signal, &child.id().to_string()]).status();
-    assert!(sent.expect("kill is there").success());
+    let send = ["-c", "kill \"$0\" \"$1\"", signal, &child.id().to_string()];
+    assert!(Command::new("bash").args(send).status().expect("bash is there").success());
     let asked = Instant::now();
     std::io::copy(&mut progress, &mut std::io::sink()).expect("standard error is read");
-    assert!(asked.elapsed() < Duration::from_secs(1), "the answer takes {:?}", asked.elapsed());
+    assert!(asked.elapsed() < Duration::from_secs(2), "the answer takes {:?}", asked.elapsed());
     child
 }
 
