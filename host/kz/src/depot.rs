@@ -17,7 +17,7 @@ pub fn sample_text() -> String {
     let mut draws = Draws { state: SEED };
     let mut text = HEAD.to_string();
     for street in &STREETS {
-        text.push_str(&format!("\n# {}: {}\n", street.name, street.trade.remark));
+        text.push_str(&format!("\n# {}: {}\n", street.name, street.trade.remark()));
         for house in 0..street.stops {
             text.push_str(&stop(street, house, &mut draws));
         }
@@ -51,53 +51,59 @@ const LEGS: &str = "
 legs by coordinates km 22 km/h detour 1.30
 ";
 
-/// When a kind of customer can be served, and what there is to collect.
-struct Trade {
-    remark: &'static str,
-    names: &'static [&'static str],
-    /// Minutes from midnight.
-    openings: &'static [u32],
-    closings: &'static [u32],
-    minutes: RangeInclusive<u32>,
-    /// In units of 10 kg.
-    tens_of_kg: RangeInclusive<u32>,
+/// A kind of customer: when it can be served, and what there is to collect.
+#[derive(Clone, Copy)]
+enum Trade {
+    Shops,
+    Kitchens,
+    Works,
+    Public,
 }
+use Trade::{Kitchens, Public, Shops, Works};
 
-const SHOPS: Trade = Trade {
-    remark: "shops, served before the street fills",
-    names: &["Baker", "Grocer", "Chemist", "Florist", "Bookshop", "Butcher", "Optician", "Bank"],
-    openings: &[360, 360, 390],
-    closings: &[600, 630, 660],
-    minutes: 6..=10,
-    tens_of_kg: 4..=18,
-};
+impl Trade {
+    fn remark(self) -> &'static str {
+        match self {
+            Shops => "shops, served before the street fills",
+            Kitchens => "restaurants and hotels, done before noon",
+            Works => "works and warehouses, open all day",
+            Public => "schools and offices, open from the morning to the afternoon",
+        }
+    }
 
-const KITCHENS: Trade = Trade {
-    remark: "restaurants and hotels, done before noon",
-    names: &["Hotel", "Trattoria", "Bistro", "Tea room", "Grill", "Fish bar", "Canteen"],
-    openings: &[420, 450, 480, 510],
-    closings: &[660, 690, 720],
-    minutes: 8..=14,
-    tens_of_kg: 10..=36,
-};
+    fn names(self) -> &'static [&'static str] {
+        match self {
+            Shops => &[
+                "Baker", "Grocer", "Chemist", "Florist", "Bookshop", "Butcher", "Optician", "Bank",
+            ],
+            Kitchens => {
+                &["Hotel", "Trattoria", "Bistro", "Tea room", "Grill", "Fish bar", "Canteen"]
+            }
+            Works => &["Joinery", "Store", "Printer", "Foundry", "Garage", "Dairy", "Sawmill"],
+            Public => &["College", "Clinic", "Library", "Town hall", "School", "Museum"],
+        }
+    }
 
-const WORKS: Trade = Trade {
-    remark: "works and warehouses, open all day",
-    names: &["Joinery", "Store", "Printer", "Foundry", "Garage", "Dairy", "Sawmill", "Packer"],
-    openings: &[360, 390, 420],
-    closings: &[900, 930, 960],
-    minutes: 12..=24,
-    tens_of_kg: 25..=95,
-};
+    /// Openings and closings to choose from, in minutes from midnight.
+    fn hours(self) -> (&'static [u32], &'static [u32]) {
+        match self {
+            Shops => (&[360, 360, 390], &[600, 630, 660]),
+            Kitchens => (&[420, 450, 480, 510], &[660, 690, 720]),
+            Works => (&[360, 390, 420], &[900, 930, 960]),
+            Public => (&[450, 480], &[840, 870]),
+        }
+    }
 
-const PUBLIC: Trade = Trade {
-    remark: "schools and offices, open from the morning to the afternoon",
-    names: &["College", "Clinic", "Library", "Town hall", "School", "Museum"],
-    openings: &[450, 480],
-    closings: &[840, 870],
-    minutes: 9..=16,
-    tens_of_kg: 12..=45,
-};
+    /// The minutes of a service, and the tens of kg that it collects.
+    fn work(self) -> [RangeInclusive<u32>; 2] {
+        match self {
+            Shops => [6..=10, 4..=18],
+            Kitchens => [8..=14, 10..=36],
+            Works => [12..=24, 25..=95],
+            Public => [9..=16, 12..=45],
+        }
+    }
+}
 
 /// A street from one end to the other, in metres, along which stops stand.
 struct Street {
@@ -109,15 +115,15 @@ struct Street {
 }
 
 const STREETS: [Street; 9] = [
-    street("Market", SHOPS, 8, (4_700, 3_900), (5_100, 4_300)),
-    street("High St", SHOPS, 8, (5_200, 4_200), (6_400, 4_700)),
-    street("Station", SHOPS, 6, (3_900, 4_600), (4_500, 5_700)),
-    street("Mill Ln", KITCHENS, 6, (5_600, 3_300), (6_500, 2_800)),
-    street("Harbour", KITCHENS, 7, (7_300, 2_600), (8_800, 3_400)),
-    street("Forge Rd", WORKS, 7, (1_800, 6_000), (2_900, 7_100)),
-    street("Canal", WORKS, 6, (2_200, 1_900), (3_900, 1_500)),
-    street("North Pk", WORKS, 6, (6_600, 6_700), (7_900, 7_300)),
-    street("Hill Rd", PUBLIC, 6, (6_900, 5_200), (7_700, 4_600)),
+    street("Market", Shops, 8, (4_700, 3_900), (5_100, 4_300)),
+    street("High St", Shops, 8, (5_200, 4_200), (6_400, 4_700)),
+    street("Station", Shops, 6, (3_900, 4_600), (4_500, 5_700)),
+    street("Mill Ln", Kitchens, 6, (5_600, 3_300), (6_500, 2_800)),
+    street("Harbour", Kitchens, 7, (7_300, 2_600), (8_800, 3_400)),
+    street("Forge Rd", Works, 7, (1_800, 6_000), (2_900, 7_100)),
+    street("Canal", Works, 6, (2_200, 1_900), (3_900, 1_500)),
+    street("North Pk", Works, 6, (6_600, 6_700), (7_900, 7_300)),
+    street("Hill Rd", Public, 6, (6_900, 5_200), (7_700, 4_600)),
 ];
 
 const fn street(
@@ -132,13 +138,13 @@ const fn street(
 
 /// One stop's line. Stops stand at about equal distances along the street.
 fn stop(street: &Street, house: u32, draws: &mut Draws) -> String {
-    let trade = &street.trade;
-    let name = trade.names[house as usize % trade.names.len()];
+    let names = street.trade.names();
+    let name = names[house as usize % names.len()];
     let number = 2 * house + 1 + draws.within(&(0..=1));
-    let open =
-        Window { opening: draws.one_of(trade.openings), closing: draws.one_of(trade.closings) };
-    let minutes = draws.within(&trade.minutes);
-    let kg = 10 * draws.within(&trade.tens_of_kg);
+    let (openings, closings) = street.trade.hours();
+    let open = Window { opening: draws.one_of(openings), closing: draws.one_of(closings) };
+    let [minutes, tens_of_kg] = street.trade.work().map(|range| draws.within(&range));
+    let kg = 10 * tens_of_kg;
     let mut along = |from: i64, to: i64| {
         let middle = from + (to - from) * i64::from(2 * house + 1) / i64::from(2 * street.stops);
         let metres = middle + i64::from(draws.within(&(0..=120))) - 60;

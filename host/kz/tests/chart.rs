@@ -8,8 +8,7 @@ use kz::day::Day;
 use kz::depot;
 use kz::sheet::{Act, Entry, Round, Sheet};
 use kz::text::{parse, Names};
-use plans::lawful_plan;
-use reference::random::Random;
+use plans::cases;
 use reference::worked::DAY_M;
 use reference::worked_plans::{A1, B1, C1, E, F2, PLAN_M};
 use svg::{read, Element};
@@ -58,11 +57,8 @@ fn assert_in_order(lane: &Element) {
 
 #[test]
 fn there_is_a_lane_for_each_vehicle_that_shows_what_it_does() {
-    let mut random = Random::new(9);
-    for _ in 0..150 {
-        let (made, plan) = lawful_plan(&mut random);
+    for (made, plan, _, sheet) in cases(9, 150) {
         let picture = picture(&made.words(), &plan);
-        let sheet = Sheet::of(&Day::of(&made.words()), &plan);
         let lanes = picture.of_class("lane");
         assert_eq!(lanes.len(), sheet.rounds.len());
         for (lane, round) in lanes.iter().zip(&sheet.rounds) {

@@ -5,7 +5,7 @@ mod plans;
 
 use kz::day::{Day, Window};
 use kz::sheet::{Act, Entry, Round, Sheet};
-use plans::lawful_plan;
+use plans::cases;
 use reference::plan::Word;
 use reference::random::Random;
 use reference::samples::random_size;
@@ -54,16 +54,13 @@ fn day_m_has_the_minutes_that_were_worked_out_by_hand() {
 
 #[test]
 fn sums_are_those_of_the_library_and_of_the_second_implementation() {
-    let mut random = Random::new(2);
-    for _ in 0..400 {
-        let (day, plan) = lawful_plan(&mut random);
-        let sheet = Sheet::of(&Day::of(&day.words()), &plan);
-        let totals = kazhuvendi::check(&day.words(), &plan).expect("it is lawful");
+    for (made, plan, day, sheet) in cases(2, 400) {
+        let totals = kazhuvendi::check(&made.words(), &plan).expect("it is lawful");
         assert_eq!(sheet.distance(), totals.distance);
         assert_eq!(sheet.rounds.len(), totals.vehicles);
         assert_eq!(sheet.stops(), totals.served);
         assert_eq!(sheet.left_out.len() + sheet.stops(), day.stops.len());
-        let expected = check::check(&day, &plan).expect("it is lawful");
+        let expected = check::check(&made, &plan).expect("it is lawful");
         assert_eq!(sheet.distance(), expected.distance);
     }
 }
@@ -94,11 +91,7 @@ fn assert_lawful(day: &Day, round: &Round) {
 
 #[test]
 fn every_window_and_the_rest_rule_are_met() {
-    let mut random = Random::new(3);
-    for _ in 0..400 {
-        let (day, plan) = lawful_plan(&mut random);
-        let day = Day::of(&day.words());
-        let sheet = Sheet::of(&day, &plan);
+    for (_, _, day, sheet) in cases(3, 400) {
         sheet.rounds.iter().for_each(|round| assert_lawful(&day, round));
     }
 }
@@ -119,11 +112,8 @@ fn words(round: &Round, last: usize) -> Vec<Word> {
 /// search from the last word backwards finds no timetable, and at that very minute it finds one.
 #[test]
 fn no_visit_can_start_earlier() {
-    let mut random = Random::new(4);
     let mut tried = 0;
-    for _ in 0..200 {
-        let (mut day, plan) = lawful_plan(&mut random);
-        let sheet = Sheet::of(&Day::of(&day.words()), &plan);
+    for (mut day, _, _, sheet) in cases(4, 200) {
         for round in &sheet.rounds {
             for (index, entry) in round.entries.iter().enumerate() {
                 let Act::Stop(stop) = entry.act else { continue };

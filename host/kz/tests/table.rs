@@ -7,8 +7,7 @@ use kz::day::Day;
 use kz::sheet::{Act, Sheet};
 use kz::table::{day_table, plan_table, vehicle_table};
 use kz::text::{parse, Names};
-use plans::lawful_plan;
-use reference::random::Random;
+use plans::cases;
 use reference::worked::DAY_M;
 use reference::worked_plans::{A1, B1, C1, E, F2, PLAN_M};
 
@@ -70,11 +69,7 @@ fn names_stand_in_the_tables() {
 /// On random days and plans: no line is too long, and every start and distance is there.
 #[test]
 fn lines_fit_and_every_word_has_one() {
-    let mut random = Random::new(8);
-    for _ in 0..200 {
-        let (made, plan) = lawful_plan(&mut random);
-        let day = Day::of(&made.words());
-        let sheet = Sheet::of(&day, &plan);
+    for (_, _, day, sheet) in cases(8, 200) {
         let names = numbered(&day);
         let table = plan_table(&day, &names, &sheet);
         for line in day_table(&day, &names).lines().chain(table.lines()) {
