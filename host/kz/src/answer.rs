@@ -35,8 +35,8 @@ pub enum Failure {
     Refused(Refused),
     /// The call is wrong, and which command's help says how it goes: exit status 2.
     Call(String, Option<&'static str>),
-    /// A file can't be read or written: exit status 2.
-    File(String),
+    /// The system refuses something, most likely to read or write a file: exit status 2.
+    System(String),
     /// Nobody reads what is printed any more. That is no fault: exit status 0.
     NobodyReads,
 }
@@ -53,7 +53,7 @@ impl Failure {
         match self {
             Failure::NobodyReads => 0,
             Failure::Refused(_) => 1,
-            Failure::Call(..) | Failure::File(_) => 2,
+            Failure::Call(..) | Failure::System(_) => 2,
         }
     }
 
@@ -62,7 +62,7 @@ impl Failure {
         match self {
             Failure::NobodyReads => String::new(),
             Failure::Refused(refused) => format!("kz: {refused}\n"),
-            Failure::File(what) => format!("kz: {what}\n"),
+            Failure::System(what) => format!("kz: {what}\n"),
             Failure::Call(what, command) => {
                 let behind = command.map_or(String::new(), |name| format!("{name} "));
                 format!("kz: {what}; `kz {behind}--help` says how it is called\n")
@@ -74,7 +74,7 @@ impl Failure {
     pub fn json(&self) -> Json {
         match self {
             Failure::Refused(refused) => Json::Object(vec![("refused", refused.json())]),
-            Failure::Call(what, _) | Failure::File(what) => {
+            Failure::Call(what, _) | Failure::System(what) => {
                 Json::Object(vec![("error", what.as_str().into())])
             }
             Failure::NobodyReads => Json::Object(vec![]),

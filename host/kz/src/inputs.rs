@@ -100,7 +100,7 @@ impl Named {
     }
 
     fn unreadable(&self, why: String) -> Failure {
-        Failure::File(format!("{} can't be read: {why}", self.name))
+        Failure::System(format!("{} can't be read: {why}", self.name))
     }
 }
 

@@ -26,7 +26,7 @@ pub fn write(name: &OsStr, bytes: &[u8]) -> Result<(), Failure> {
 }
 
 fn unwritten(name: &OsStr, error: io::Error) -> Failure {
-    Failure::File(format!("{} can't be written: {error}", name.display()))
+    Failure::System(format!("{} can't be written: {error}", name.display()))
 }
 
 fn write_whole(target: &Path, bytes: &[u8]) -> io::Result<()> {

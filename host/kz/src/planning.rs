@@ -13,8 +13,10 @@ use std::time::Duration;
 
 use kazhuvendi::{Planned, Refusal};
 
+use crate::answer::Failure;
 use crate::inputs::GivenDay;
 use crate::interrupt;
+use crate::refusals;
 
 /// A budget that no planning uses up: the library always settles far below it.
 pub const SETTLE: u64 = u64::MAX;
@@ -52,17 +54,19 @@ pub fn run(
     k: u64,
     budget: u64,
     mut show: impl FnMut(&Outcome),
-) -> Result<Outcome, Refusal> {
+) -> Result<Outcome, Failure> {
     interrupt::hold();
     let (sender, steps) = channel();
-    let (day, stops) = (day.words.clone(), day.stops);
+    let (words, stops) = (day.words.clone(), day.stops);
     // The steps run beside, so that an interrupt is answered at once however long a step takes.
-    thread::spawn(move || make_steps(&day, stops, k, budget, &sender));
+    thread::Builder::new()
+        .spawn(move || make_steps(&words, stops, k, budget, &sender))
+        .map_err(|error| Failure::System(format!("planning can't begin: {error}")))?;
     let mut last: Option<Outcome> = None;
     loop {
         match steps.recv_timeout(PATIENCE) {
             Ok(step) => {
-                let best = step?;
+                let best = step.map_err(|refusal| refusals::of_plans(refusal, &day.words, &[]))?;
                 let greedy = last.as_ref().map_or(best.planned.distance, |outcome| outcome.greedy);
                 show(last.insert(Outcome { best, greedy, interrupted: false }));
             }

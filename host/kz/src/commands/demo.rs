@@ -10,7 +10,6 @@ use crate::depot;
 use crate::inputs::GivenDay;
 use crate::json::Json;
 use crate::planning::{self, Outcome, SETTLE, USUAL_NEIGHBOURS};
-use crate::refusals;
 use crate::sheet::Sheet;
 use crate::sheet_json;
 use crate::table;
@@ -31,8 +30,7 @@ pub const COMMAND: Command = Command {
 fn run(call: &Call) -> Result<Answer, Failure> {
     let sample = depot::sample();
     let given = GivenDay::of(sample.words, Some(sample.names))?;
-    let outcome = planning::run(&given, USUAL_NEIGHBOURS, SETTLE, |_| {})
-        .map_err(|refusal| refusals::of_plans(refusal, &given.words, &[]))?;
+    let outcome = planning::run(&given, USUAL_NEIGHBOURS, SETTLE, |_| {})?;
     let day = Day::of(&given.words);
     let sheet = Sheet::of(&day, &outcome.best.words);
     let product = call.has(&OUTPUT).then(|| Product::Text(chart::svg(&day, &given.names, &sheet)));

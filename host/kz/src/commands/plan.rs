@@ -8,7 +8,6 @@ use crate::json::Json;
 use crate::planning::{self, Outcome, SETTLE, USUAL_NEIGHBOURS};
 use crate::plans;
 use crate::progress::Progress;
-use crate::refusals;
 
 const NEIGHBOURS: Flag = Flag {
     name: "--k",
@@ -75,7 +74,7 @@ fn run(call: &Call) -> Result<Answer, Failure> {
         progress.show(outcome);
     });
     progress.end();
-    let outcome = outcome.map_err(|refusal| refusals::of_plans(refusal, &day.words, &[]))?;
+    let outcome = outcome?;
     Ok(Answer {
         report: report(&outcome),
         json: json(&outcome),

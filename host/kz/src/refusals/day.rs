@@ -65,7 +65,7 @@ fn wrong_length(day: &[u32]) -> String {
     let places = 1 + tips + stops;
     let needed = 7 + 2 * tips + 3 * stops + places * places;
     let given = day.len();
-    format!("the day has {given} words, and needs {needed} for the {tips} tips and {stops} stops of word 0")
+    format!("the day has {given} words, and needs {needed}: word 0 says tips {tips}, stops {stops}")
 }
 
 fn out_of_range(place: usize, word: u32, field: Field) -> String {

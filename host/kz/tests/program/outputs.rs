@@ -90,7 +90,7 @@ fn an_output_that_cannot_be_written_leaves_nothing() {
 fn a_disk_that_is_full_leaves_what_was_there() {
     let scratch = Scratch::new();
     let before = scratch.file("day.svg", b"before");
-    let limited = "trap '' XFSZ; ulimit -f 1; exec \"$0\" \"$@\"";
+    let limited = "trap '' XFSZ; ulimit -f 1 && exec \"$0\" \"$@\"";
     let mut bash = Command::new("bash");
     bash.args(["-c", limited, env!("CARGO_BIN_EXE_kz"), "demo", "-o", &before]);
     let ran = Ran::of(bash.output().expect("bash is there"));

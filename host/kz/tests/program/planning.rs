@@ -2,12 +2,13 @@
 
 use std::fs;
 use std::process::Command;
+use std::time::{Duration, Instant};
 
 use reference::bytes;
 use reference::random::Random;
 use reference::trial_days::day_of_many_short_rounds;
 
-use crate::run::kz;
+use crate::run::{kz, Ran};
 use crate::scratch::{self, Scratch};
 
 /// The words that the library gives for this budget, in a single call.
@@ -89,6 +90,33 @@ fn a_day_without_stops_has_the_plan_of_no_words() {
     for arguments in [["show", &day, &empty], ["chart", &day, &empty]] {
         kz(&arguments).answer();
     }
+}
+
+/// A run that may use so many kilobytes of memory, everything counted in.
+fn within(kilobytes: u64, arguments: &[&str]) -> Ran {
+    let limited = format!("ulimit -v {kilobytes} && exec \"$0\" \"$@\"");
+    let mut bash = Command::new("bash");
+    bash.args(["-c", &limited, env!("CARGO_BIN_EXE_kz")]).args(arguments);
+    Ran::of(bash.output().expect("bash is there"))
+}
+
+#[test]
+fn a_day_of_240_stops_is_planned_within_16_megabytes() {
+    let scratch = Scratch::new();
+    let words = day_of_many_short_rounds(&mut Random::new(1), 240, 15).words();
+    let (day, text) = (scratch.words("day", &words), scratch.name("day.txt"));
+    kz(&["unpack", &day, "-o", &text]).answer();
+    for day in [&day, &text] {
+        let ran = within(16_000, &["plan", day, "-o", &scratch.name("plan")]);
+        assert!(ran.answer().ends_with("settled\n"), "{ran:?}");
+    }
+}
+
+#[test]
+fn the_sample_day_settles_within_a_second() {
+    let begun = Instant::now();
+    kz(&["demo"]).answer();
+    assert!(begun.elapsed() < Duration::from_secs(1), "it took {:?}", begun.elapsed());
 }
 
 /// What a terminal shows of a run, where there is a `script` to lend it one.

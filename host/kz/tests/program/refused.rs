@@ -76,7 +76,7 @@ fn every_plan_worked_out_by_hand_is_answered_so() {
 fn a_sentence_says_what_is_wrong_with_a_day() {
     day_with(0, 0x1000_0002, 3, "says 0 tips");
     day_with(0, 0x1000_01F1, 3, "says 241 stops, and a day has at most 240");
-    day_with(0, 0x1000_0101, 4, "the day has 31 words, and needs 21 for the 1 tips and 1 stops");
+    day_with(0, 0x1000_0101, 4, "the day has 31 words, and needs 21: word 0 says tips 1, stops 1");
     day_with(1, 0x3000_0064, 2, "the load in kg, is 30000064, which is of kind 3");
     day_with(4, 0x5100_0064, 2, "the depot's window, is 51000064, where bits are set");
     day_with(3, 0x4000_00F1, 5, "the stops a day, is 241, and has to be 1 to 240");
