@@ -136,7 +136,7 @@ fn the_sheet_is_as_large_as_what_is_drawn() {
         .collect();
     let [left, top, width, height] = view[..] else { panic!("four numbers") };
     assert_eq!((left, top, width), (0.0, 0.0, 1_188.0));
-    assert!(height < 845.0, "{height} is more than A4 has");
+    assert!(height <= 840.0, "{height} is more than A4 has");
     for class in ["stop", "tip", "rest", "time", "listed", "meaning", "sum"] {
         for element in picture.of_class(class) {
             let (x, y) = (element.number("x"), element.number("y"));

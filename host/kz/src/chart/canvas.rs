@@ -2,6 +2,8 @@
 
 use std::fmt::Write;
 
+use super::labels::Rise;
+
 /// A drawing that is being written.
 #[derive(Debug, Default)]
 pub(super) struct Canvas {
@@ -72,10 +74,10 @@ impl Canvas {
         ));
     }
 
-    /// A text that rises to the right from its point, in letters of this size.
-    pub fn rising_text(&mut self, class: &str, at: (f64, f64), size: f64, text: &str) {
+    /// A text that rises from its point.
+    pub fn rising_text(&mut self, class: &str, at: (f64, f64), rise: Rise, text: &str) {
         let (x, y) = at;
-        let degrees = super::labels::RISE_DEGREES;
+        let Rise { degrees, size, .. } = rise;
         self.put(format_args!(
             "<text class=\"{class}\" transform=\"translate({x:.1} {y:.1}) rotate(-{degrees})\" \
              font-size=\"{size:.1}\">{}</text>",

@@ -33,7 +33,7 @@ pub(super) fn title(canvas: &mut Canvas, day: &Day, names: &Names, sheet: &Sheet
         time(day.rest.opening),
         time(day.rest.closing)
     );
-    canvas.text("sums", (MARGIN, 63.0), Anchor::Start, &sums);
+    canvas.text("sums", (MARGIN, 62.0), Anchor::Start, &sums);
 }
 
 /// The hours as lines behind the lanes, with the time above and below, and the rest window as a

@@ -2,8 +2,8 @@
 //! window of each stop with the minutes in which it is served.
 
 use super::canvas::{Anchor, Area, Canvas};
-use super::labels;
-use super::layout::{label, number_fits, Lanes, Scale, BAR, LEFT, MARGIN, RIGHT, WIDTH};
+use super::labels::{place, Label, Rise, LIFT};
+use super::layout::{number_fits, Lanes, Scale, BAR, MARGIN, RIGHT, WIDTH};
 use crate::clock::{counted, grouped, time, window};
 use crate::day::Day;
 use crate::sheet::{Act, Entry, Round};
@@ -22,6 +22,8 @@ pub(super) struct Lane<'a> {
     pub scale: Scale,
     pub lanes: Lanes,
     pub round: &'a Round,
+    pub labels: &'a [Label],
+    pub rise: Rise,
     /// Which lane it is, from 0.
     pub index: usize,
 }
@@ -85,9 +87,10 @@ impl Lane<'_> {
             Act::Back => wedge(canvas, (x, self.middle()), x + WEDGE),
             Act::Stop(stop) => canvas.group("visit", &self.said(entry), |canvas| {
                 canvas.area("stop", area);
-                if number_fits(stop, entry, self.scale) {
+                let number = stop.to_string();
+                if number_fits(&number, entry, self.scale) {
                     let middle = (x + width / 2.0, y + BAR / 2.0 + 3.3);
-                    canvas.text("number", middle, Anchor::Middle, &stop.to_string());
+                    canvas.text("number", middle, Anchor::Middle, &number);
                 }
             }),
             Act::Tip(_) => canvas.group("visit", &self.said(entry), |canvas| {
@@ -116,23 +119,13 @@ impl Lane<'_> {
     }
 
     fn labels(&self, canvas: &mut Canvas) {
-        let labelled: Vec<(&Entry, String)> = self
-            .round
-            .entries
-            .iter()
-            .filter_map(|entry| Some((entry, label(self.names, entry, self.scale)?)))
-            .collect();
-        let middle = |entry: &Entry| (self.scale.x(entry.start) + self.scale.x(entry.end)) / 2.0;
-        let wanted: Vec<f64> = labelled.iter().map(|(entry, _)| middle(entry)).collect();
-        let placed = labels::place(&wanted, LEFT, RIGHT);
         let bar = self.lanes.bar(self.index);
-        for (((entry, label), x), wanted) in labelled.iter().zip(&placed.places).zip(&wanted) {
-            let (class, top) = match entry.act {
-                Act::Tip(_) => ("tip-label", bar - RAISED),
-                _ => ("label", bar),
-            };
-            canvas.line("leader", (*wanted, top), (*x, bar - 5.0));
-            canvas.rising_text(class, (x + 2.5, bar - 6.0), placed.size, label);
+        for (label, x) in self.labels.iter().zip(place(self.labels, self.rise)) {
+            let (class, top) =
+                if label.is_tip { ("tip-label", bar - RAISED) } else { ("label", bar) };
+            canvas.line("leader", (label.wanted, top), (x, bar - LIFT + 1.0));
+            let foot = (x + self.rise.size * 0.3, bar - LIFT);
+            canvas.rising_text(class, foot, self.rise, &label.text);
         }
     }
 
@@ -145,7 +138,7 @@ impl Lane<'_> {
             let window = self.day.stops[stop - 1].visit.window;
             let (opening, closing) = (scale.x(window.opening), scale.x(window.closing));
             canvas.line("window", (opening, y), (closing, y));
-            let (x, height) = (scale.x(entry.start), self.lanes.window.min(2.2));
+            let (x, height) = (scale.x(entry.start), 2.0);
             let width = (scale.x(entry.end) - x).max(1.0);
             canvas.area("served", Area { x, y: y - height / 2.0, width, height });
             y += self.lanes.window;

@@ -1,9 +1,9 @@
 //! Where things stand on the sheet. A unit is a quarter of a millimetre, so that a sheet of A4
 //! across has 1,188 by 840 of them.
 
-use crate::clock::shortened;
+use super::labels::{Label, Rise};
 use crate::day::Day;
-use crate::sheet::{Act, Entry, Round, Sheet};
+use crate::sheet::{Entry, Round, Sheet};
 use crate::text::Names;
 
 /// The sheet's width. Its height is what the vehicles need.
@@ -14,15 +14,15 @@ pub(super) const MARGIN: f64 = 24.0;
 pub(super) const LEFT: f64 = 126.0;
 pub(super) const RIGHT: f64 = 1_042.0;
 /// Where the first lane begins.
-pub(super) const TOP: f64 = 102.0;
+pub(super) const TOP: f64 = 98.0;
 /// How high the bar of what a vehicle does is.
 pub(super) const BAR: f64 = 18.0;
 
-/// The most letters of a name over a bar.
-const LONGEST_LABEL: usize = 20;
-/// What the windows of a vehicle's stops take at the most, and what one of them does.
+/// What the windows of a vehicle's stops take about and at the least, and how far apart they are.
 const WINDOWS: f64 = 40.0;
-const WINDOW: f64 = 2.6;
+const LEAST_WINDOWS: f64 = 18.0;
+const NARROW: f64 = 2.0;
+const WIDE: f64 = 2.6;
 /// How wide a digit in the bar is.
 const DIGIT: f64 = 6.2;
 /// What lies between the parts of a lane.
@@ -73,20 +73,18 @@ pub(super) struct Lanes {
 }
 
 impl Lanes {
-    pub fn of(names: &Names, sheet: &Sheet, scale: Scale) -> Lanes {
-        let entries = sheet.rounds.iter().flat_map(|round| &round.entries);
-        let labels = entries.filter_map(|entry| label(names, entry, scale));
-        let letters = labels.map(|label| label.chars().count());
-        let labels = super::labels::height(letters.max().unwrap_or(0));
-        let most_stops = sheet.rounds.iter().map(|round| round.stops).max().unwrap_or(0);
-        let window = WINDOW.min(WINDOWS / most_stops.max(1) as f64);
-        let height = labels + BAR + window * most_stops as f64 + 3.0 * GAP;
-        Lanes { labels, window, height }
+    pub fn of(sheet: &Sheet, labels: &[Vec<Label>], rise: Rise) -> Lanes {
+        let letters = labels.iter().flatten().map(|label| label.text.chars().count());
+        let labels = rise.height(letters.max().unwrap_or(0));
+        let most_stops = sheet.rounds.iter().map(|round| round.stops).max().unwrap_or(0) as f64;
+        let window = (WINDOWS / most_stops.max(1.0)).clamp(NARROW, WIDE);
+        let windows = (window * most_stops).max(LEAST_WINDOWS);
+        Lanes { labels, window, height: labels + BAR + GAP + windows + GAP }
     }
 
     /// Where a lane's bar begins.
     pub fn bar(&self, lane: usize) -> f64 {
-        self.top(lane) + GAP + self.labels
+        self.top(lane) + self.labels
     }
 
     /// Where the windows under it begin.
@@ -100,23 +98,10 @@ impl Lanes {
     }
 }
 
-/// What stands over the bar for one word: a stop's name, or its number where it has no other name
-/// and the number does not fit into the bar; a tip's number.
-pub(super) fn label(names: &Names, entry: &Entry, scale: Scale) -> Option<String> {
-    match entry.act {
-        Act::Stop(stop) if has_own_name(names, stop) => {
-            Some(shortened(names.stop(stop), LONGEST_LABEL))
-        }
-        Act::Stop(stop) => (!number_fits(stop, entry, scale)).then(|| stop.to_string()),
-        Act::Tip(tip) => Some(format!("T{tip}")),
-        Act::Leave | Act::Rest | Act::Back => None,
-    }
-}
-
 /// Whether a stop's number fits into the bar.
-pub(super) fn number_fits(stop: usize, entry: &Entry, scale: Scale) -> bool {
+pub(super) fn number_fits(number: &str, entry: &Entry, scale: Scale) -> bool {
     let width = scale.x(entry.end) - scale.x(entry.start);
-    width > DIGIT * stop.to_string().len() as f64 + 0.6
+    width > DIGIT * number.len() as f64 + 0.6
 }
 
 /// Whether a stop is called otherwise than by its number.

@@ -9,6 +9,7 @@ mod layout;
 mod legend;
 
 use canvas::{escaped, Canvas};
+use labels::Label;
 use lane::Lane;
 use layout::{Lanes, Scale, MARGIN, WIDTH};
 
@@ -22,16 +23,19 @@ const STYLE: &str = include_str!("style.svg");
 /// The picture of a lawful plan's sheets.
 pub fn svg(day: &Day, names: &Names, sheet: &Sheet) -> String {
     let scale = Scale::of(day, sheet);
-    let lanes = Lanes::of(names, sheet, scale);
+    let labels = |round| labels::labels(names, round, scale);
+    let labels: Vec<Vec<Label>> = sheet.rounds.iter().map(labels).collect();
+    let rise = labels::rise(&labels);
+    let lanes = Lanes::of(sheet, &labels, rise);
     let bottom = lanes.top(sheet.rounds.len());
     let mut canvas = Canvas::default();
     frame::title(&mut canvas, day, names, sheet);
     frame::hours(&mut canvas, day, scale, bottom);
-    for (index, round) in sheet.rounds.iter().enumerate() {
-        Lane { day, names, scale, lanes, round, index }.draw(&mut canvas);
+    for (index, (round, labels)) in sheet.rounds.iter().zip(&labels).enumerate() {
+        Lane { day, names, scale, lanes, round, labels, rise, index }.draw(&mut canvas);
     }
-    let end = legend::draw(&mut canvas, day, names, sheet, bottom + 40.0);
-    let height = end + MARGIN / 2.0;
+    let end = legend::draw(&mut canvas, day, names, sheet, bottom + 38.0);
+    let height = end + MARGIN / 3.0;
     let (wide, high) = (WIDTH / 4.0, height / 4.0);
     format!(
         "<?xml version=\"1.0\" encoding=\"UTF-8\"?>\n\
