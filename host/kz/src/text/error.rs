@@ -14,13 +14,13 @@ pub struct TextError {
     pub message: String,
 }
 
+impl Error for TextError {}
+
 impl fmt::Display for TextError {
     fn fmt(&self, f: &mut fmt::Formatter<'_>) -> fmt::Result {
         write!(f, "line {}, column {}: {}", self.line, self.column, self.message)
     }
 }
-
-impl Error for TextError {}
 
 /// A place in a text, to be named later in an error.
 #[derive(Clone, Copy, Debug, PartialEq, Eq)]
