@@ -4,4 +4,5 @@ pub mod Parts
 pub mod Ranges
 pub mod Readers
 pub mod Rows
+pub mod ToldApart
 pub mod WordFaults

@@ -93,24 +93,27 @@ words-next bytes words part i {w} so-far e h = wrote-same (wrote-put so-far w h)
 pub words-end : (bytes words part : List ℕ) (i n : ℕ) → Wrote (byteWords bytes i) words part i → i ≤ n → n ≤ i → part ≡ over (byteWords bytes n) words
 words-end bytes words part i n so-far a b = let e : i ≡ n = omega arith in rw (← e) (so-far .text)
 
--- one law for each way through byte reading: the answer, and the buffer then
+-- one law for each way through byte reading
 module _ (bytes words : List ℕ) where
-  refusal-keeps : (k i : ℕ) → 0 < k → refused k i ≡ readAnswer bytes (length words) → words ≡ readBuffer bytes words
+  -- a refusal: the answer, its number, and the buffer as it was
+  abbrev pub Refusal : ℕ → Type 0
+  Refusal k = (refused k (length bytes / 4) ≡ readAnswer bytes (length words)) × ((1 ≤ k) × (words ≡ readBuffer bytes words))
+
+  refusal : (k : ℕ) → 1 ≤ k → refused k (length bytes / 4) ≡ readAnswer bytes (length words) → Refusal k
   unfolding readBuffer
-  refusal-keeps k i h e = rw (← e, ne-eqb k 0 (λ z. omega arith)) refl
+  refusal k h e = (e, (h, rw (← e, ne-eqb k 0 (λ z. omega arith)) refl))
 
-  pub odd-refused : (length bytes % 4 ≡ 0 → ⊥) → (refused 1 (length bytes / 4) ≡ readAnswer bytes (length words)) × (words ≡ readBuffer bytes words)
+  pub odd-refused : (length bytes % 4 ≡ 0 → ⊥) → Refusal 1
   unfolding readAnswer
-  odd-refused h = let e : refused 1 (length bytes / 4) ≡ readAnswer bytes (length words) = search branches in (e, refusal-keeps 1 _ (omega arith) e)
+  odd-refused h = refusal 1 (omega arith) (search branches)
 
-  pub few-refused : length bytes % 4 ≡ 0 → length bytes / 4 < 7 → (refused 1 (length bytes / 4) ≡ readAnswer bytes (length words)) × (words ≡ readBuffer bytes words)
+  pub few-refused : length bytes % 4 ≡ 0 → length bytes / 4 < 7 → Refusal 1
   unfolding readAnswer
-  few-refused h g = let e : refused 1 (length bytes / 4) ≡ readAnswer bytes (length words) = search branches in (e, refusal-keeps 1 _ (omega arith) e)
+  few-refused h g = refusal 1 (omega arith) (search branches)
 
-  pub room-refused : length bytes % 4 ≡ 0 → 7 ≤ length bytes / 4 → length words < length bytes / 4
-      → (refused 14 (length bytes / 4) ≡ readAnswer bytes (length words)) × (words ≡ readBuffer bytes words)
+  pub room-refused : length bytes % 4 ≡ 0 → 7 ≤ length bytes / 4 → length words < length bytes / 4 → Refusal 14
   unfolding readAnswer
-  room-refused h g l = let e : refused 14 (length bytes / 4) ≡ readAnswer bytes (length words) = search branches in (e, refusal-keeps 14 _ (omega arith) e)
+  room-refused h g l = refusal 14 (omega arith) (search branches)
 
   pub words-read : (now : List ℕ) → length bytes % 4 ≡ 0 → 7 ≤ length bytes / 4 → length bytes / 4 ≤ length words
       → now ≡ over (byteWords bytes (length bytes / 4)) words → (given (length bytes / 4 ∷ []) ≡ readAnswer bytes (length words)) × (now ≡ readBuffer bytes words)

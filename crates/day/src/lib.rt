@@ -8,7 +8,7 @@ pub mod words;
 ghost use mathlib.Core.Path.{_≡_};
 ghost use Prim.Native.Nat.{_<_};
 ghost use lib.ListN.{length};
-ghost use Rattle.day.specs.Answers.{dayValues, wordsValues};
+ghost use Rattle.day.specs.Answers.{dayValues, wordsValues, WordsNumbered};
 ghost use Rattle.day.specs.Bytes.{readAnswer, readBuffer};
 ghost use Rattle.day.specs.Day.{tipsEnd, judgeSized, judgeDay};
 ghost use Rattle.day.specs.Judging.{judgedFrom, judgedAfter, Whole};
@@ -132,6 +132,7 @@ pub fn judge(day: &[u32]) -> DayAnswer
 // One word for each 4 bytes, written into the lent buffer; 1 and 14 are refused, and then the buffer is as it was.
 pub fn read_words(bytes: &[u8], words: &mut [u32]) -> WordsAnswer
     ensures answer { λ r. ⌜ wordsValues r ≡ readAnswer (now (bytes .entry)) (length (now (words .entry))) ⌝ }
+    ensures numbered { λ r. ⌜ WordsNumbered r ⌝ }
     ensures buffer { λ r. ⌜ now (words .exit) ≡ readBuffer (now (bytes .entry)) (now (words .entry)) ⌝ }
 {
     let n = bytes.len() / 4;

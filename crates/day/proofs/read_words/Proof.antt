@@ -22,7 +22,8 @@ same-length c = search needs
 returns-4 : tie.Need-returns-4
 returns-4 c =
     let h = c .before .before .before .before in
-    words-read _ _ _ (h .before .before .if1 .left) (h .before .if2 .left) (h .if3 .left) (c .before .before .write-words .ensures)
+    let read = words-read _ _ _ (h .before .before .if1 .left) (h .before .if2 .left) (h .if3 .left) (c .before .before .write-words .ensures) in
+    (read .0, (tt, read .1))
 
 pub read-words-spec : {M : Type 1} → statement M
 read-words-spec =

@@ -1,0 +1,23 @@
+-- Each contract of this crate has one answer: answers of the same values are the same. A number of words and a refusal are told apart
+-- by the refusal's number, which is at least 1. Assumes nothing.
+use mathlib.Core.Path.{_≡_}
+use native.Mathlib.Omega.{arith}
+use Rattle.day.specs.Answers.{dayValues, wordsValues, WordsNumbered}
+use Rattle.day.specs.declared.DayAnswer.{DayAnswer}
+use Rattle.day.specs.declared.DayAnswer.the-variants as Days
+use Rattle.day.specs.declared.WordsAnswer.{WordsAnswer}
+use Rattle.day.specs.declared.WordsAnswer.the-variants as Reads
+
+-- on a day
+pub day-told-apart : (a b : DayAnswer) → dayValues a ≡ dayValues b → a ≡ b
+day-told-apart (Days.Accepted n d) (Days.Accepted m c) e = cc
+day-told-apart (Days.Accepted n d) (Days.Refused k i) e = cc
+day-told-apart (Days.Refused k i) (Days.Accepted n d) e = cc
+day-told-apart (Days.Refused k i) (Days.Refused l j) e = cc
+
+-- to byte reading
+pub words-told-apart : (a b : WordsAnswer) → wordsValues a ≡ wordsValues b → WordsNumbered a → WordsNumbered b → a ≡ b
+words-told-apart (Reads.Read m) (Reads.Read n) e h g = cc
+words-told-apart (Reads.Read m) (Reads.Refused k i) e h g = let z : 0 ≡ k = cc in absurd (omega arith)
+words-told-apart (Reads.Refused k i) (Reads.Read n) e h g = let z : k ≡ 0 = cc in absurd (omega arith)
+words-told-apart (Reads.Refused k i) (Reads.Refused l j) e h g = cc
