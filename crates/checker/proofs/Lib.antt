@@ -19,6 +19,7 @@ pub mod RoundWalks
 pub mod RoundsCompared
 pub mod Stepping
 pub mod Timetables
+pub mod ToldApart
 pub mod VehicleParts
 pub mod VehicleRounds
 pub mod WordForms

@@ -1,4 +1,4 @@
--- What the calls over the check rely on: whether the check's answer is a refusal, and how large its place is.
+-- What the calls over the check rely on: whether the check's answer is a refusal, that its number is at least 1, and how large its place is.
 -- Assumes nothing.
 use Prim.Native.Nat.{ℕ, suc, _+_, _/_, _≤_}
 use mathlib.Core.Path.{_≡_, refl, ap, _∙_}
@@ -7,7 +7,7 @@ use mathlib.Core.List.{List, [], _∷_}
 use native.Mathlib.Omega.{arith}
 use lib.ListN.{length, getD, drop, take, length-drop}
 use lib.Dec.{ltb, eqb}
-use borrow.Author.Tests.{ne-eqb}
+use borrow.Author.Tests.{eqb-false, ne-eqb}
 use Rattle.laws.specs.Answers.{given, refused, isGiven}
 use Rattle.laws.specs.Tests.{if_then_else_, neb}
 use Rattle.day.specs.Day.{tipsIn, stopsIn, wordsOf, formAt, faultOf, judgeFrom, judgeSized, judgeDay}
@@ -32,6 +32,10 @@ plan-refused day plan {k} {i} e = go (isGiven (judgeDay day)) refl e
         → isGiven (if b then checkWords day plan else judgeDay day) ≡ false
     go true x y = refusal-told (checkWords day plan) (words-checked day plan) y
     go false x y = x
+
+-- its number is at least 1
+pub plan-numbered : (day plan : List ℕ) {k i : ℕ} → refused k i ≡ checkPlan day plan → 1 ≤ k
+plan-numbered day plan {k} e = omega (arith, eqb-false k 0 (ap isGiven e ∙ plan-refused day plan e))
 
 -- an answer of values, or a refusal whose place is at most a number
 data Placed (most : ℕ) : List ℕ → Type 0 where

@@ -13,7 +13,7 @@ pub mod words;
 ghost use mathlib.Core.Path.{_≡_};
 ghost use Rattle.day.specs.Layout.{LayoutOf};
 ghost use lib.ListN.{length};
-ghost use Rattle.checker.specs.Answers.{answerValues, roundsValues};
+ghost use Rattle.checker.specs.Answers.{answerValues, roundsValues, RoundsNumbered};
 ghost use Rattle.checker.specs.Check.{checkWords, checkPlan};
 ghost use Rattle.checker.specs.PlaceValues.{placeValues};
 ghost use Rattle.checker.specs.SameRounds.{sameRounds, secondAnswer};
@@ -103,7 +103,8 @@ pub fn vehicle_words<'a>(day: &[u32], plan: &'a [u32], number: u64) -> &'a [u32]
 
 // The answer once the first plan is known to be lawful.
 fn second_answer(day: &[u32], first: &[u32], second: &[u32]) -> RoundsAnswer
-    ensures { λ r. ⌜ roundsValues r ≡ secondAnswer (now (day .entry)) (now (first .entry)) (now (second .entry)) ⌝ }
+    ensures answer { λ r. ⌜ roundsValues r ≡ secondAnswer (now (day .entry)) (now (first .entry)) (now (second .entry)) ⌝ }
+    ensures numbered { λ r. ⌜ RoundsNumbered r ⌝ }
 {
     let answer = check(day, second);
     match answer {
@@ -126,7 +127,8 @@ fn second_answer(day: &[u32], first: &[u32], second: &[u32]) -> RoundsAnswer
 
 // Whether two plans that are both lawful have the same rounds.
 pub fn same_rounds(day: &[u32], first: &[u32], second: &[u32]) -> RoundsAnswer
-    ensures { λ r. ⌜ roundsValues r ≡ sameRounds (now (day .entry)) (now (first .entry)) (now (second .entry)) ⌝ }
+    ensures answer { λ r. ⌜ roundsValues r ≡ sameRounds (now (day .entry)) (now (first .entry)) (now (second .entry)) ⌝ }
+    ensures numbered { λ r. ⌜ RoundsNumbered r ⌝ }
 {
     let answer = check(day, first);
     match answer {

@@ -1,6 +1,6 @@
 -- `checker::same_rounds` meets its contract: one law for each case of the check's answer.
 use borrow.Author.Needs.{needs}
-use Rattle.checker.proofs.PlanCalls.{first-lawful, first-refused}
+use Rattle.checker.proofs.PlanCalls.{first-lawful, first-refused, plan-numbered}
 use Rattle.checker.proofs.same_rounds.Statement.{statement}
 use Rattle.checker.proofs.same_rounds.Tie as tie
 
@@ -17,10 +17,10 @@ enum-known-answer : tie.Need-enum-known-answer
 enum-known-answer c = search needs
 
 returns : tie.Need-returns
-returns c = let told = c .before in first-lawful _ _ _ (rw (told .enum-told .given .1) at (told .before .before .check .ensures)) (c .second-answer .ensures)
+returns c = let told = c .before in (first-lawful _ _ _ (rw (told .enum-told .given .1) at (told .before .before .check .ensures)) (c .second-answer .ensures .0), c .second-answer .ensures .1)
 
 returns-2 : tie.Need-returns-2
-returns-2 c = let told = c .before in first-refused _ _ _ (rw (told .answer .given .1) at (told .before .before .check .ensures))
+returns-2 c = let told = c .before in let refuses = rw (told .answer .given .1) at (told .before .before .check .ensures) in (first-refused _ _ _ refuses, plan-numbered _ _ refuses)
 
 pub same-rounds-spec : {M : Type 1} → statement M
 same-rounds-spec =

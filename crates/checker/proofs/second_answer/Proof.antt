@@ -1,7 +1,7 @@
 -- `checker::second_answer` meets its contract: one law for each case of the check's answer.
 use borrow.Author.Needs.{needs}
 use native.Mathlib.Omega.{arith}
-use Rattle.checker.proofs.PlanCalls.{rounds-same, rounds-differ, second-refused, place-small}
+use Rattle.checker.proofs.PlanCalls.{rounds-same, rounds-differ, second-refused, plan-numbered, place-small}
 use Rattle.checker.proofs.second_answer.Statement.{statement}
 use Rattle.checker.proofs.second_answer.Tie as tie
 
@@ -15,7 +15,7 @@ are-same-requires : tie.Need-are-same-requires
 are-same-requires c κs = search needs
 
 returns : tie.Need-returns
-returns c = let told = c .before .before in rounds-same _ _ _ (rw (told .enum-told .given .1) at (told .before .before .check .ensures)) (c .before .are-same .ensures) (c .if1 .taken)
+returns c = let told = c .before .before in (rounds-same _ _ _ (rw (told .enum-told .given .1) at (told .before .before .check .ensures)) (c .before .are-same .ensures) (c .if1 .taken), tt)
 
 enum-known-answer : tie.Need-enum-known-answer
 enum-known-answer c = search needs
@@ -24,10 +24,10 @@ add-t10 : tie.Need-add-t10
 add-t10 c = omega (arith, place-small _ _ (rw (c .before .answer .given .1) at (c .before .before .before .check .ensures)))
 
 returns-2 : tie.Need-returns-2
-returns-2 c = let told = c .before .before in rounds-differ _ _ _ (rw (told .enum-told .given .1) at (told .before .before .check .ensures)) (c .before .are-same .ensures) (c .if1 .left)
+returns-2 c = let told = c .before .before in (rounds-differ _ _ _ (rw (told .enum-told .given .1) at (told .before .before .check .ensures)) (c .before .are-same .ensures) (c .if1 .left), tt)
 
 returns-3 : tie.Need-returns-3
-returns-3 c = second-refused _ _ _ (rw (c .before .answer .given .1) at (c .before .before .before .check .ensures))
+returns-3 c = let refuses = rw (c .before .answer .given .1) at (c .before .before .before .check .ensures) in (second-refused _ _ _ refuses, plan-numbered _ _ refuses)
 
 pub second-answer-spec : {M : Type 1} → statement M
 second-answer-spec =
