@@ -18,5 +18,6 @@ pub mod SettingOut
 pub mod SmallTrucks
 pub mod TaskLaws
 pub mod TipLaws
+pub mod ToldApart
 pub mod VehicleStops
 pub mod WaysHome
