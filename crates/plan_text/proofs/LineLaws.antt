@@ -3,13 +3,12 @@
 use Prim.Native.Nat.{ℕ, zero, suc, _+_, _*_, _/_, _%_, _≤_, _<_}
 use mathlib.Core.Path.{_≡_, refl, sym, ap, _∙_}
 use mathlib.Core.Bool.{Bool, true, false, false≢true}
-use mathlib.Core.Logic.{_≢_}
 use mathlib.Core.List.{List, [], _∷_, _++_}
 use native.Mathlib.Omega.{arith}
 use lib.Dec.{eqb, ltb}
 use lib.ListN.{length, take, drop, getD, length-append}
 use lib.Seq.{length-take-le}
-use borrow.Author.Tests.{eq-eqb, ne-eqb, lt-ltb, le-ltb, ltb-false}
+use borrow.Author.Tests.{ne-eqb, lt-ltb, le-ltb, ltb-false}
 use Rattle.laws.specs.Answers.{given, refused, isGiven}
 use Rattle.laws.specs.Buffer.{over}
 use Rattle.laws.specs.Tests.{if_then_else_, neb}
@@ -47,20 +46,6 @@ unfolding byteWords
 words-length bytes zero = refl
 words-length bytes (suc n) = omega (arith, length-append (byteWords bytes n) (byteWord bytes n ∷ []), words-length bytes n)
 
--- byte reading, in numbers
-module _ (bytes : List ℕ) (room number value : ℕ) (e : number ∷ value ∷ [] ≡ readAnswer bytes room) where
-  told-number : getD (readAnswer bytes room) 0 0 ≡ number
-  told-number = sym (ap (λ (xs : List ℕ). getD xs 0 0) e)
-
-  told-value : getD (readAnswer bytes room) 1 0 ≡ value
-  told-value = sym (ap (λ (xs : List ℕ). getD xs 1 0) e)
-
-  told-given : number ≡ 0 → isGiven (readAnswer bytes room) ≡ true
-  told-given z = ap isGiven (sym e) ∙ eq-eqb number 0 z
-
-  told-refused : number ≢ 0 → isGiven (readAnswer bytes room) ≡ false
-  told-refused n = ap isGiven (sym e) ∙ ne-eqb number 0 n
-
 -- an answer that is given says how many words there are, and they fit
 abbrev readBy : (a b c : Bool) → ℕ → List ℕ
 readBy a b c n = if a then refused 1 n else if b then refused 1 n else if c then refused 14 n else given (n ∷ [])
@@ -82,36 +67,36 @@ module _ (bytes : List ℕ) (room : ℕ) (h : isGiven (readAnswer bytes room) �
       ltb-false room (length bytes / 4)
       (read-by (neb (length bytes % 4) 0) (ltb (length bytes / 4) 7) (ltb room (length bytes / 4)) (length bytes / 4) h .1)
 
--- the text of a day file from what byte reading says
-module _ (bytes words : List ℕ) (number value : ℕ) (e : number ∷ value ∷ [] ≡ readAnswer bytes (length words)) where
-  value-count : number ≡ 0 → value ≡ length bytes / 4
-  value-count z =
-      sym (told-value bytes (length words) number value e)
-      ∙ read-count bytes (length words) (told-given bytes (length words) number value e z)
+-- the text of a day file whose bytes were read
+module _ (bytes words : List ℕ) {count : ℕ} (e : given (count ∷ []) ≡ readAnswer bytes (length words)) where
+  told-given : isGiven (readAnswer bytes (length words)) ≡ true
+  told-given = ap isGiven (sym e)
 
-  pub file-fits : number ≡ 0 → value ≤ length words
-  file-fits z = omega (arith, value-count z, read-fits bytes (length words) (told-given bytes (length words) number value e z))
+  count-is : count ≡ length bytes / 4
+  count-is = ap (λ (xs : List ℕ). getD xs 1 0) e ∙ read-count bytes (length words) told-given
 
-  front-words : (now : List ℕ) → number ≡ 0 → now ≡ readBuffer bytes words → take value now ≡ byteWords bytes (length bytes / 4)
+  pub file-fits : count ≤ length words
+  file-fits = omega (arith, count-is, read-fits bytes (length words) told-given)
+
+  front-words : (now : List ℕ) → now ≡ readBuffer bytes words → take count now ≡ byteWords bytes (length bytes / 4)
   unfolding readBuffer
-  front-words now z q =
-      ap (take value) (q ∙ rw (told-given bytes (length words) number value e z) refl)
-      ∙ over-front (byteWords bytes (length bytes / 4)) words value (words-length bytes (length bytes / 4) ∙ sym (value-count z))
+  front-words now q =
+      ap (take count) (q ∙ rw told-given refl)
+      ∙ over-front (byteWords bytes (length bytes / 4)) words count (words-length bytes (length bytes / 4) ∙ sym count-is)
 
-  pub file-day : (now : List ℕ) → 16384 ≡ length words → number ≡ 0 → now ≡ readBuffer bytes words
-      → dayText (take value now) ≡ bytesText bytes
+  pub file-day : (now : List ℕ) → 16384 ≡ length words → now ≡ readBuffer bytes words → dayText (take count now) ≡ bytesText bytes
   unfolding bytesText
-  file-day now r z q =
-      let yes : isGiven (readAnswer bytes 16384) ≡ true = rw r (told-given bytes (length words) number value e z) in
-      rw yes (ap dayText (front-words now z q))
+  file-day now r q =
+      let yes : isGiven (readAnswer bytes 16384) ≡ true = rw r told-given in
+      rw yes (ap dayText (front-words now q))
 
-  pub file-refused : 16384 ≡ length words → number ≢ 0 → refusedLine number value ≡ bytesText bytes
-  unfolding bytesText
-  file-refused r n =
-      let refuses : isGiven (readAnswer bytes 16384) ≡ false = rw r (told-refused bytes (length words) number value e n) in
-      let first : getD (readAnswer bytes 16384) 0 0 ≡ number = rw r (told-number bytes (length words) number value e) in
-      let second : getD (readAnswer bytes 16384) 1 0 ≡ value = rw r (told-value bytes (length words) number value e) in
-      rw (refuses, first, second) refl
+-- and of one whose bytes were refused
+pub file-refused : (bytes words : List ℕ) {number place : ℕ} → refused number place ≡ readAnswer bytes (length words) → 1 ≤ number → 16384 ≡ length words
+    → refusedLine number place ≡ bytesText bytes
+unfolding bytesText
+file-refused bytes words {number} {place} e h r =
+    let same : refused number place ≡ readAnswer bytes 16384 = rw r e in
+    rw (← same, ne-eqb number 0 (λ z. omega arith)) refl
 
 -- any bytes
 pub printed-long : (bytes : List ℕ) → 65536 < length bytes → tooLong ≡ printed bytes

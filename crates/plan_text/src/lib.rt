@@ -5,10 +5,8 @@ mod planned;
 mod put;
 
 ghost use mathlib.Core.Path.{_≡_};
-ghost use mathlib.Core.List.{[], _∷_};
 ghost use Prim.Native.Nat.{_≤_};
 ghost use lib.ListN.{length, take};
-ghost use Rattle.day.specs.Answers.{wordsValues};
 ghost use Rattle.laws.specs.Buffer.{over};
 ghost use Rattle.plan_text.specs.Printed.{dayText, bytesText, printed};
 ghost use Rattle.plan_text.specs.Put.{Put};
@@ -35,39 +33,17 @@ fn put_day(text: &mut [u8], day: &[u32]) -> usize
     put_answer(text, answer, &plan)
 }
 
-// What byte reading says, in numbers: 0 and how many words, or the refusal's number and place.
-struct Told {
-    number: u32,
-    value: usize,
-}
-
-fn read_told(answer: day::WordsAnswer) -> Told
-    ensures { λ r. ⌜ r .number ∷ r .value ∷ [] ≡ wordsValues answer ⌝ }
-{
-    match answer {
-        day::WordsAnswer::Read { words } => Told {
-            number: 0,
-            value: words,
-        },
-        day::WordsAnswer::Refused { number, place } => Told {
-            number,
-            value: place,
-        },
-    }
-}
-
 // The text of a day file's bytes.
 fn put_file(text: &mut [u8], bytes: &[u8]) -> usize
     requires { ⌜ 16384 ≤ length (now text) ⌝ }
     ensures { λ r. ⌜ Put (bytesText (now (bytes .entry))) (now (text .entry)) 0 (now (text .exit)) r ⌝ }
 {
     let mut words = day_words();
-    let told = read_told(day::read_words(bytes, &mut words));
-    let value = told.value;
-    if told.number == 0 {
-        return put_day(text, &words[..value]);
+    let answer = day::read_words(bytes, &mut words);
+    match answer {
+        day::WordsAnswer::Read { words: count } => put_day(text, &words[..count]),
+        day::WordsAnswer::Refused { number, place } => put_refused(text, number, place),
     }
-    put_refused(text, told.number, value)
 }
 
 // What the program prints of a day file with these bytes, at the start of the text; how many bytes that is.

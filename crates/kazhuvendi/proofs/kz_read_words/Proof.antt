@@ -26,13 +26,13 @@ same-length : tie.Need-same-length
 same-length c = search needs
 
 returns : tie.Need-returns
-returns c = let told = c .before .before .before in let read = told .before .before .before .before .read-words .ensures in (two-values _ _ (rw (told .answer .given .1) at (read .0)) (c .write-six .ensures), read .1)
+returns c = let told = c .before .before .before in let read = told .before .before .before .before .read-words .ensures in (two-values _ _ (rw (told .answer .given .1) at (read .0)) (c .write-six .ensures), read .1 .1)
 
 same-length-2 : tie.Need-same-length-2
 same-length-2 c = search needs
 
 returns-2 : tie.Need-returns-2
-returns-2 c = let told = c .before .before .before in let read = told .before .before .before .before .read-words .ensures in (two-values _ _ (rw (told .answer2 .given .1) at (read .0)) (c .write-six2 .ensures), read .1)
+returns-2 c = let told = c .before .before .before in let read = told .before .before .before .before .read-words .ensures in (two-values _ _ (rw (told .answer2 .given .1) at (read .0)) (c .write-six2 .ensures), read .1 .1)
 
 pub kz-read-words-spec : {M : Type 1} → statement M
 kz-read-words-spec =

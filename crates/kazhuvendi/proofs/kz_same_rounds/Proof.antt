@@ -29,13 +29,13 @@ write-six-requires-3 : tie.Need-write-six-requires-3
 write-six-requires-3 c κs = search needs
 
 returns : tie.Need-returns
-returns c = let told = c .before .before in two-values _ _ (rw (told .enum-told .given .1) at (told .before .before .same-rounds .ensures)) (c .write-six .ensures)
+returns c = let told = c .before .before in two-values _ _ (rw (told .enum-told .given .1) at (told .before .before .same-rounds .ensures .0)) (c .write-six .ensures)
 
 returns-2 : tie.Need-returns-2
-returns-2 c = let told = c .before .before in two-values _ _ (rw (told .enum-told2 .given .1) at (told .before .before .same-rounds .ensures)) (c .write-six2 .ensures)
+returns-2 c = let told = c .before .before in two-values _ _ (rw (told .enum-told2 .given .1) at (told .before .before .same-rounds .ensures .0)) (c .write-six2 .ensures)
 
 returns-3 : tie.Need-returns-3
-returns-3 c = let told = c .before .before .before in two-values _ _ (rw (told .answer .given .1) at (told .before .before .same-rounds .ensures)) (c .write-six3 .ensures)
+returns-3 c = let told = c .before .before .before in two-values _ _ (rw (told .answer .given .1) at (told .before .before .same-rounds .ensures .0)) (c .write-six3 .ensures)
 
 pub kz-same-rounds-spec : {M : Type 1} → statement M
 kz-same-rounds-spec =

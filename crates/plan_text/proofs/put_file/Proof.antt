@@ -1,7 +1,7 @@
 -- `plan_text::put_file` meets its contract.
 use borrow.Author.Needs.{needs}
 use lib.Seq.{length-take-le}
-use mathlib.Core.Path.{sym, _∙_}
+use mathlib.Core.Path.{sym}
 use native.Mathlib.Omega.{arith}
 use Rattle.plan_text.proofs.LineLaws.{file-fits, file-day, file-refused}
 use Rattle.plan_text.proofs.PutLaws.{put-same}
@@ -17,18 +17,17 @@ slice-aggregate-read-words c = search needs
 read-words-requires : tie.Need-read-words-requires
 read-words-requires c κs = search needs
 
-read-told-requires : tie.Need-read-told-requires
-read-told-requires c κs = search needs
+enum-known-answer : tie.Need-enum-known-answer
+enum-known-answer c = search needs
 
 array-share-prefix-words : tie.Need-array-share-prefix-words
 array-share-prefix-words c =
-    let at-if = c .before in
-    let at-read-told = at-if .before .before in
-    let at-read-words = at-read-told .before .before in
+    let at-answer = c .before .before in
+    let at-read-words = at-answer .before .before .before in
     let at-day-words = at-read-words .before .before in
     let read = at-read-words .read-words in
-    let told = at-read-told .read-told .ensures ∙ read .ensures .0 in
-    omega (arith, file-fits _ (at-day-words .day-words .result) _ _ told (at-if .if1 .taken), read .kept .1 .0)
+    let told = rw (at-answer .answer .given .1) at (read .ensures .0) in
+    omega (arith, file-fits _ (at-day-words .day-words .result) told, read .kept .1 .0)
 
 slice-aggregate-put-day : tie.Need-slice-aggregate-put-day
 slice-aggregate-put-day c = sym (length-take-le _ _ (array-share-prefix-words (c .before)))
@@ -36,23 +35,24 @@ slice-aggregate-put-day c = sym (length-take-le _ _ (array-share-prefix-words (c
 put-day-requires : tie.Need-put-day-requires
 put-day-requires c κs = search needs
 
+enum-known-answer-2 : tie.Need-enum-known-answer-2
+enum-known-answer-2 c = search needs
+
+put-refused-requires : tie.Need-put-refused-requires
+put-refused-requires c κs = search needs
+
 same-length : tie.Need-same-length
 same-length c = search needs
 
 returns : tie.Need-returns
 returns c =
     let at-put-day = c .before .before in
-    let at-if = at-put-day .before .before .before in
-    let at-read-told = at-if .before .before in
-    let at-read-words = at-read-told .before .before in
-    let at-day-words = at-read-words .before .before in
-    let words = at-day-words .day-words in
+    let at-answer = at-put-day .before .before .before .before in
+    let at-read-words = at-answer .before .before .before in
+    let words = at-read-words .before .before .day-words in
     let read = at-read-words .read-words .ensures in
-    let told = at-read-told .read-told .ensures ∙ read .0 in
-    put-same (at-put-day .put-day .ensures) (file-day _ (words .result) _ _ told _ (words .ensures) (at-if .if1 .taken) (read .1))
-
-put-refused-requires : tie.Need-put-refused-requires
-put-refused-requires c κs = search needs
+    let told = rw (at-answer .answer .given .1) at (read .0) in
+    put-same (at-put-day .put-day .ensures) (file-day _ (words .result) told _ (words .ensures) (read .1 .1))
 
 same-length-2 : tie.Need-same-length-2
 same-length-2 c = search needs
@@ -60,13 +60,13 @@ same-length-2 c = search needs
 returns-2 : tie.Need-returns-2
 returns-2 c =
     let at-put-refused = c .before .before in
-    let at-if = at-put-refused .before .before in
-    let at-read-told = at-if .before .before in
-    let at-read-words = at-read-told .before .before in
-    let at-day-words = at-read-words .before .before in
-    let words = at-day-words .day-words in
-    let told = at-read-told .read-told .ensures ∙ at-read-words .read-words .ensures .0 in
-    put-same (at-put-refused .put-refused .ensures) (file-refused _ (words .result) _ _ told (words .ensures) (at-if .if1 .left))
+    let at-answer = at-put-refused .before .before .before in
+    let at-read-words = at-answer .before .before .before in
+    let words = at-read-words .before .before .day-words in
+    let read = at-read-words .read-words .ensures in
+    let told = rw (at-answer .answer2 .given .1) at (read .0) in
+    let numbered = rw (at-answer .answer2 .given .1) at (read .1 .0) in
+    put-same (at-put-refused .put-refused .ensures) (file-refused _ (words .result) told numbered (words .ensures))
 
 pub put-file-spec : {M : Type 1} → statement M
 put-file-spec =
@@ -75,12 +75,13 @@ put-file-spec =
     day-words-requires
     slice-aggregate-read-words
     read-words-requires
-    read-told-requires
+    enum-known-answer
     array-share-prefix-words
     slice-aggregate-put-day
     put-day-requires
+    enum-known-answer-2
+    put-refused-requires
     same-length
     returns
-    put-refused-requires
     same-length-2
     returns-2)
