@@ -4,7 +4,7 @@ use Prim.Native.Nat.{ℕ, _*_}
 use mathlib.Core.Path.{_≡_}
 use mathlib.Core.Bool.{Bool, _&&_}
 use mathlib.Core.List.{List, [], _∷_}
-use lib.Dec.{ltb, leb}
+use lib.Dec.{leb}
 use lib.ListN.{length}
 use Rattle.laws.specs.Answers.{given, refused, isGiven}
 use Rattle.laws.specs.Tests.{if_then_else_}
