@@ -14,9 +14,9 @@ use Rattle.day.specs.Day.{judgeDay}
 use Rattle.day.specs.Fields.{stops}
 use Rattle.day.proofs.Answered.{Judged, accepted, refusal, day-judged, given-accepted}
 use Rattle.day.proofs.Ranges.{accepted-ranges}
-use Rattle.planner.specs.Planned.{fewNeighbours, longEnough, resultValues, plannedAnswer, planAnswer, planBuffer}
-use Rattle.trials.specs.Attempts.{searched}
+use Rattle.trials.specs.Planning.{searched}
 use Rattle.trials.proofs.Promises.{promised}
+use Rattle.planner.specs.Planned.{fewNeighbours, longEnough, resultValues, plannedAnswer, planAnswer, planBuffer}
 use Rattle.plan_text.specs.Lines.{Within}
 use Rattle.plan_text.specs.Planned.{emptyPlan, printedAnswer, printedBuffer}
 

@@ -8,7 +8,7 @@ use Rattle.checker.specs.DayM.{dayM, legTo, legBack, windowWord}
 use Rattle.checker.specs.Plan.{planWords}
 use Rattle.checker.proofs.Cases.{computed, planH}
 use Rattle.builder.specs.Build.{greedyLefts}
-use Rattle.trials.specs.Attempts.{searched}
+use Rattle.trials.specs.Planning.{searched}
 use Rattle.trials.proofs.TrialCases.{tried}
 use Rattle.planner.specs.Planned.{fewNeighbours, longEnough, resultValues, plannedAnswer, planAnswer}
 

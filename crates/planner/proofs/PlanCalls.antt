@@ -28,13 +28,14 @@ use Rattle.builder.specs.Built.{planValues, builtAnswer, planned, builtBuffer}
 use Rattle.builder.specs.declared.PlanAnswer.{PlanAnswer}
 use Rattle.builder.specs.declared.PlanAnswer.the-variants as Plans
 use Rattle.builder.proofs.GreedyRoom.{greedy-room}
-use Rattle.trials.specs.Attempts.{distanceOf, attempt, searched}
+use Rattle.trial_list.specs.TrialList.{trialList}
+use Rattle.trial_list.proofs.Shapes.{greedy-shaped}
+use Rattle.attempts.specs.Attempts.{distanceOf, attempt}
+use Rattle.trials.specs.Planning.{searched}
 use Rattle.trials.specs.Search.{Result, improve}
 use Rattle.trials.specs.Searches.{PlanAt, fromGreedy, Improved}
-use Rattle.trials.specs.TrialList.{trialList}
 use Rattle.trials.specs.declared.search.Search.{Search}
 use Rattle.trials.proofs.Searching.{lists-one}
-use Rattle.trials.proofs.Shapes.{greedy-shaped}
 use Rattle.planner.specs.Planned.{fewNeighbours, longEnough, resultValues, plannedAnswer, plannedBuffer, planAnswer, planBuffer, WorkedOver}
 
 -- one neighbourhood

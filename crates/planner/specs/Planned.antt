@@ -13,7 +13,8 @@ use Rattle.day.specs.Fields.{stops}
 use Rattle.checker.specs.Plan.{Round, planWords}
 use Rattle.builder.specs.Build.{greedyLefts}
 use Rattle.builder.specs.Built.{planned}
-use Rattle.trials.specs.Attempts.{distanceOf, searched}
+use Rattle.attempts.specs.Attempts.{distanceOf}
+use Rattle.trials.specs.Planning.{searched}
 use Rattle.trials.specs.Search.{Result}
 
 -- "13 K outside 1..50"

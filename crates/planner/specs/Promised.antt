@@ -7,7 +7,7 @@ use Rattle.laws.specs.Answers.{given}
 use Rattle.checker.specs.Plan.{planWords}
 use Rattle.builder.specs.Build.{greedyLefts}
 use Rattle.builder.specs.Built.{planned}
-use Rattle.trials.specs.Attempts.{searched}
+use Rattle.trials.specs.Planning.{searched}
 use Rattle.trials.specs.Demands.{DemandThree}
 use Rattle.planner.specs.Planned.{resultValues, planAnswer, planBuffer}
 

@@ -9,13 +9,13 @@ use lib.Seq.{drop-length}
 use Rattle.day.specs.Accepted.{IsAccepted}
 use Rattle.checker.specs.Plan.{planWords}
 use Rattle.builder.specs.Build.{greedyRounds, greedyLefts}
-use Rattle.trials.specs.Attempts.{distanceOf, attempt}
+use Rattle.trial_list.specs.Survey.{SurveysAll}
+use Rattle.trial_list.specs.TrialList.{trialList}
+use Rattle.trial_list.specs.TrialRest.{listStart}
+use Rattle.trial_list.proofs.ListRests.{whole-list, start-valid}
+use Rattle.attempts.specs.Attempts.{distanceOf, attempt}
 use Rattle.trials.specs.Searches.{PlanAt, Searching, Improved}
-use Rattle.trials.specs.Survey.{SurveysAll}
-use Rattle.trials.specs.TrialList.{trialList}
-use Rattle.trials.specs.TrialRest.{listStart}
 use Rattle.trials.specs.declared.search.Search.{Search}
-use Rattle.trials.proofs.ListRests.{whole-list, start-valid}
 use Rattle.trials.proofs.SearchSteps.{start-cursor}
 use Rattle.trials.proofs.Searching.{loop-start}
 use Rattle.trials.proofs.TakeOverLaws.{plan-words, taken-over}

@@ -16,25 +16,24 @@ use Rattle.laws.proofs.Fresh.{every-append}
 use Rattle.laws.proofs.Tests.{both-true, only-first}
 use Rattle.day.specs.Accepted.{IsAccepted}
 use Rattle.day.specs.Fields.{stops, tips}
-use Rattle.day.proofs.Ranges.{accepted-ranges}
 use Rattle.checker.specs.Check.{checkPlan}
-use Rattle.checker.specs.Plan.{Round, planWords, stopsOnAll, Formed}
+use Rattle.checker.specs.Plan.{Round}
 use Rattle.builder.specs.Build.{greedyRounds, greedyLefts, greedyPlan}
-use Rattle.builder.proofs.GreedyForm.{times-append, greedy-rising, greedy-once, greedy-others}
 use Rattle.builder.proofs.GreedyLawful.{greedy-answer}
 use Rattle.builder.proofs.LeftOut.{left-out-justified}
-use Rattle.trials.specs.Attempts.{tried, distanceOf, isLawful, keptIf, attempt, searched}
+use Rattle.walks.specs.Edits.{Trial}
+use Rattle.trial_list.specs.TrialList.{trialList}
+use Rattle.trial_list.proofs.ListLength.{trials-bound}
+use Rattle.trial_list.proofs.Listed.{every-mem, listed-all}
+use Rattle.trial_list.specs.Shapes.{Shaped, Valid}
+use Rattle.trial_list.proofs.Shapes.{greedy-shaped, shaped-length, shaped-formed}
+use Rattle.attempts.specs.Attempts.{tried, distanceOf, isLawful, keptIf, attempt}
+use Rattle.attempts.proofs.PlanTold.{told-lawful, told-totals}
+use Rattle.attempts.proofs.ShapeKept.{valid-shaped}
+use Rattle.trials.specs.Planning.{searched}
 use Rattle.trials.specs.Demands.{plannedRounds, Promised, DemandThree}
-use Rattle.trials.specs.Edits.{Trial}
 use Rattle.trials.specs.Search.{lists, sum}
-use Rattle.trials.specs.TrialList.{trialList}
-use Rattle.trials.proofs.ListLength.{trials-bound}
-use Rattle.trials.proofs.Listed.{every-mem, listed-all}
-use Rattle.trials.proofs.PlanTold.{told-lawful, told-totals}
 use Rattle.trials.proofs.Searching.{outcome, settled-iff, result-keeps, improve-dist, more-budget, settles, lists-bound}
-use Rattle.trials.proofs.ShapeKept.{valid-shaped}
-use Rattle.trials.specs.Shapes.{Shaped, Valid}
-use Rattle.trials.proofs.Shapes.{greedy-shaped, shaped-length}
 
 -- a trial that is kept: the plan that it gives, lawful and shorter
 pub record IsKept (day lefts : List ℕ) (rounds : List Round) (m : Trial) (q : List Round) : Type 0 where
@@ -75,24 +74,6 @@ module _ (day : List ℕ) (a : IsAccepted day) where
       let answer = rw a at (greedy-answer day a) in
       record { shaped = greedy-shaped day; lawful = ap isGiven answer }
 
-  pub sound-formed : (rounds : List Round) → Shaped day rounds → Formed day (planWords rounds (greedyLefts day)) rounds (greedyLefts day)
-  sound-formed rounds s =
-      record {
-        short = omega (arith, shaped-length day rounds s, accepted-ranges day a .stopsMost);
-        text = refl;
-        known = s .known;
-        busy = s .busy;
-        rising = greedy-rising day;
-        once = λ k l m. omega (
-          arith,
-          greedy-once day k l m,
-          s .once k,
-          times-append k (stopsOnAll rounds) (greedyLefts day),
-          times-append k (stopsOnAll (greedyRounds day)) (greedyLefts day),
-        );
-        others = greedy-others day;
-      }
-
 module _ (day Ks : List ℕ) where
   abbrev listed : List Round → List Trial
   listed = lists (trialList day) Ks
@@ -122,7 +103,7 @@ module _ (day Ks : List ℕ) where
   promised budget a =
       let s = planned-sound budget a in
       let o = outcome listed attempted budget (greedyRounds day) in
-      let form = sound-formed day a (plannedRounds day Ks budget) (s .shaped) in
+      let form = shaped-formed day (plannedRounds day Ks budget) (s .shaped) a in
       record {
         lawful = told-lawful day a (plannedRounds day Ks budget) (greedyLefts day) form (s .lawful);
         answered = told-totals day a (plannedRounds day Ks budget) (greedyLefts day) form (s .lawful);

@@ -10,30 +10,30 @@ use lib.ListN.{length-append, take, drop}
 use borrow.Author.Tests.{not-true, not-false}
 use Rattle.laws.specs.Lists.{Every}
 use Rattle.laws.specs.Tests.{if_then_else_}
-use Rattle.builder.proofs.Decided.{known}
 use Rattle.day.specs.Accepted.{IsAccepted}
 use Rattle.day.specs.Layout.{LayoutOf}
 use Rattle.day.specs.declared.fields.Layout.{Layout}
 use Rattle.day.proofs.Ranges.{accepted-ranges}
+use Rattle.neighbours.specs.Tables.{TableOf}
 use Rattle.checker.specs.Plan.{Round, roundWords, roundsWords}
+use Rattle.builder.proofs.Decided.{known}
 use Rattle.builder.proofs.GreedyRoom.{round-length}
 use Rattle.builder.specs.Build.{greedyLefts}
-use Rattle.trials.specs.Attempts.{attempt}
-use Rattle.trials.specs.Listing.{PlanTables, CursorFits, ListAnswer}
+use Rattle.trial_list.specs.Listing.{PlanTables, CursorFits, ListAnswer}
+use Rattle.trial_list.specs.Shapes.{Valid}
+use Rattle.trial_list.specs.Survey.{Surveyed}
+use Rattle.trial_list.specs.TrialList.{trialList}
+use Rattle.trial_list.specs.TrialRest.{restOf, listStart, trialOf}
+use Rattle.trial_list.specs.declared.listing.Cursor.{Cursor}
+use Rattle.trial_list.specs.declared.listing.Listed.{Listed}
+use Rattle.trial_list.proofs.ListRests.{whole-list, plan-tables, start-valid, next-valid, valid-names, Names}
+use Rattle.attempts.specs.Attempts.{attempt}
+use Rattle.attempts.specs.Tries.{Made, SomeMade, TriedAs}
+use Rattle.attempts.specs.declared.tries.Tried.{Tried}
+use Rattle.attempts.proofs.ShapeKept.{valid-shaped}
 use Rattle.trials.specs.Searches.{SomePlanAt, TakenOver, TakesOver, Searching, AfterTrial}
-use Rattle.trials.specs.Shapes.{Valid}
-use Rattle.trials.specs.Survey.{Surveyed}
-use Rattle.trials.specs.Tables.{TableOf}
-use Rattle.trials.specs.TrialList.{trialList}
-use Rattle.trials.specs.TrialRest.{restOf, listStart, trialOf}
-use Rattle.trials.specs.Tries.{Made, SomeMade, TriedAs}
-use Rattle.trials.specs.declared.listing.Cursor.{Cursor}
-use Rattle.trials.specs.declared.listing.Listed.{Listed}
 use Rattle.trials.specs.declared.search.Search.{Search}
-use Rattle.trials.specs.declared.tries.Tried.{Tried}
-use Rattle.trials.proofs.ListRests.{whole-list, plan-tables, start-valid, next-valid, valid-names, Names}
 use Rattle.trials.proofs.Searching.{run-nil, loop-none, loop-some, loop-spent}
-use Rattle.trials.proofs.ShapeKept.{valid-shaped}
 use Rattle.trials.proofs.TakeOverLaws.{slice-is}
 use Rattle.trials.proofs.Promises.{attempt-kept}
 

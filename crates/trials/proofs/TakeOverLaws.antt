@@ -12,10 +12,10 @@ use Rattle.day.specs.Fields.{stops}
 use Rattle.day.proofs.Ranges.{accepted-ranges}
 use Rattle.checker.specs.Plan.{Round, planWords}
 use Rattle.builder.specs.Build.{greedyLefts}
+use Rattle.trial_list.specs.Survey.{PlanOf, SomePlan, SurveysAll}
+use Rattle.trial_list.proofs.Shapes.{shaped-few, shaped-length}
+use Rattle.attempts.proofs.KeptLaws.{front-part}
 use Rattle.trials.specs.Searches.{PlanAt, SomePlanAt, TakenOver}
-use Rattle.trials.specs.Survey.{PlanOf, SomePlan, SurveysAll}
-use Rattle.trials.proofs.KeptLaws.{front-part}
-use Rattle.trials.proofs.Shapes.{shaped-few, shaped-length}
 
 module _ {day buffer : List ℕ} {words : ℕ} {rounds : List Round} (h : PlanAt day buffer words rounds) where
   -- how many words it has

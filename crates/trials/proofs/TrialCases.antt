@@ -1,14 +1,15 @@
 -- What planning with trials computes by, for the lettered cases of document 01. Assumes nothing.
+use Rattle.laws.specs.Lists.{total}
+use Rattle.neighbours.specs.Neighbours.{compatible, neighbourKey, behind, nextNeighbour, neighboursAfter, neighbours}
 use Rattle.checker.specs.Plan.{stopsOn}
 use Rattle.checker.specs.Lawful.{distanceFrom}
-use Rattle.laws.specs.Lists.{total}
 use Rattle.builder.proofs.BuildCases.{built}
-use Rattle.trials.specs.Attempts.{retried, joined, triedFrom, distanceOf, isLawful, keptIf, attempt, searched}
-use Rattle.trials.specs.Edits.{changeStop, changeTip, change, changed, touches}
-use Rattle.trials.specs.Neighbours.{compatible, neighbourKey, behind, nextNeighbour, neighboursAfter, neighbours}
+use Rattle.walks.specs.Edits.{changeStop, changeTip, change, changed, touches}
+use Rattle.walks.specs.Walk.{inserting, emptiedFirst, exceeds, servingThen, walkTask, walkNext, walkOn, walkHome, doneBy, walkedAgain}
+use Rattle.trial_list.specs.TrialList.{each, rising, vehicleFrom, pairTrials, stopTrials, otherTip, taskTrials, roundTrials, tipTrials, trialList}
+use Rattle.attempts.specs.Attempts.{retried, joined, triedFrom, distanceOf, isLawful, keptIf, attempt}
+use Rattle.trials.specs.Planning.{searched}
 use Rattle.trials.specs.Search.{run, improve, lists}
-use Rattle.trials.specs.TrialList.{each, rising, vehicleFrom, pairTrials, stopTrials, otherTip, taskTrials, roundTrials, tipTrials, trialList}
-use Rattle.trials.specs.Walk.{inserting, emptiedFirst, exceeds, servingThen, walkTask, walkNext, walkOn, walkHome, doneBy, walkedAgain}
 
 -- all that planning with trials computes by
 unfoldable pub tried : Unit {0}

@@ -14,10 +14,11 @@ use Rattle.checker.specs.Check.{checkPlan}
 use Rattle.checker.specs.Lawful.{Lawful, totals}
 use Rattle.checker.specs.Plan.{Round, planWords, stopsOnAll}
 use Rattle.builder.specs.Build.{greedyRounds, greedyLefts, couldTakeFirst}
-use Rattle.trials.specs.Attempts.{distanceOf, attempt, searched}
-use Rattle.trials.specs.Edits.{Trial}
+use Rattle.walks.specs.Edits.{Trial}
+use Rattle.trial_list.specs.TrialList.{trialList}
+use Rattle.attempts.specs.Attempts.{distanceOf, attempt}
+use Rattle.trials.specs.Planning.{searched}
 use Rattle.trials.specs.Search.{Held, lists, sum}
-use Rattle.trials.specs.TrialList.{trialList}
 
 -- the vehicles of the plan that is handed over
 abbrev pub plannedRounds : List ℕ → List ℕ → ℕ → List Round

@@ -7,18 +7,18 @@ use lib.ListN.{length, take, replicate}
 use Rattle.laws.specs.Lists.{Every}
 use Rattle.checker.specs.Plan.{Round, planWords}
 use Rattle.builder.specs.Build.{greedyRounds, greedyLefts}
-use Rattle.trials.specs.Attempts.{distanceOf, attempt}
-use Rattle.trials.specs.Edits.{Trial}
-use Rattle.trials.specs.Listing.{CursorFits}
+use Rattle.walks.specs.Edits.{Trial}
+use Rattle.trial_list.specs.Listing.{CursorFits}
+use Rattle.trial_list.specs.Shapes.{Shaped, Valid}
+use Rattle.trial_list.specs.Survey.{Surveyed}
+use Rattle.trial_list.specs.TrialList.{trialList}
+use Rattle.trial_list.specs.TrialRest.{restOf}
+use Rattle.trial_list.specs.declared.listing.Cursor.{Cursor}
+use Rattle.attempts.specs.Attempts.{distanceOf, attempt}
+use Rattle.attempts.specs.Tries.{TriedAs}
+use Rattle.attempts.specs.declared.tries.Tried.{Tried}
 use Rattle.trials.specs.Search.{Result, run, improve}
-use Rattle.trials.specs.Shapes.{Shaped, Valid}
-use Rattle.trials.specs.Survey.{Surveyed}
-use Rattle.trials.specs.TrialList.{trialList}
-use Rattle.trials.specs.TrialRest.{restOf}
-use Rattle.trials.specs.Tries.{TriedAs}
-use Rattle.trials.specs.declared.listing.Cursor.{Cursor}
 use Rattle.trials.specs.declared.search.Search.{Search}
-use Rattle.trials.specs.declared.tries.Tried.{Tried}
 
 -- a plan of these words is one that trials work on
 pub record PlanAt (day buffer : List ℕ) (words : ℕ) (rounds : List Round) : Type 0 where

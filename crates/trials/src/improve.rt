@@ -5,15 +5,15 @@ ghost use lib.ListN.{length};
 ghost use Rattle.day.specs.Accepted.{IsAccepted};
 ghost use Rattle.day.specs.Layout.{LayoutOf};
 ghost use Rattle.builder.specs.Build.{greedyRounds};
-ghost use Rattle.trials.specs.Attempts.{distanceOf};
+ghost use Rattle.attempts.specs.Attempts.{distanceOf};
 ghost use Rattle.trials.specs.Searches.{PlanAt, BeginsAll, Improved};
-use crate::listing::first_trial;
-use crate::neighbours::fill_table;
 use crate::search::Search;
 use crate::search::run_trials;
-use crate::survey::survey;
 use builder::lefts::fill_zeros;
 use day::fields::Layout;
+use neighbours::table::fill_table;
+use trial_list::listing::first_trial;
+use trial_list::survey::survey;
 
 // The greedy plan is held; its tables are made, and no trial is made yet.
 fn begin(

@@ -5,16 +5,16 @@ ghost use Prim.Native.Nat.{_≤_, _<_, _*_};
 ghost use lib.ListN.{length};
 ghost use Rattle.day.specs.Accepted.{IsAccepted};
 ghost use Rattle.day.specs.Layout.{LayoutOf};
+ghost use Rattle.neighbours.specs.Tables.{TableOf};
 ghost use Rattle.trials.specs.Searches.{SomePlanAt, TakesOver, AfterTrial, Searching};
-ghost use Rattle.trials.specs.Tables.{TableOf};
-use crate::candidate::copy_words;
-use crate::listing::Cursor;
-use crate::listing::first_trial;
-use crate::listing::next_trial;
-use crate::survey::survey;
-use crate::tries::Tried;
-use crate::tries::make_trial;
+use attempts::candidate::copy_words;
+use attempts::tries::Tried;
+use attempts::tries::make_trial;
 use day::fields::Layout;
+use trial_list::listing::Cursor;
+use trial_list::listing::first_trial;
+use trial_list::listing::next_trial;
+use trial_list::survey::survey;
 
 // The plan held: its words, its vehicles and how far it drives; how many trials were made, where the list goes on, and whether the search
 // has ended, settled or not.

@@ -1,0 +1,12 @@
+pub mod CandidateLaws
+pub mod CopyLaws
+pub mod Gains
+pub mod KeptLaws
+pub mod NextRounds
+pub mod PlanTold
+pub mod RoundLists
+pub mod ShapeKept
+pub mod ShorterLaws
+pub mod TrialRoom
+pub mod TryLaws
+pub mod WrittenLaws

@@ -1,0 +1,122 @@
+-- One vehicle of the plan that a trial gives: where its words stand, what it becomes and that there is room for it. Assumes nothing.
+use Prim.Native.Nat.{ℕ, _+_, _-_, _*_, _≤_, _<_}
+use mathlib.Core.Path.{_≡_, sym, ap, _∙_, subst}
+use mathlib.Core.Bool.{Bool, _||_}
+use mathlib.Core.List.{List, [], _∷_, _++_}
+use mathlib.Core.Option.{some}
+use native.Mathlib.Omega.{arith}
+use lib.Dec.{eqb}
+use lib.ListN.{length, length-append, getD, take, drop}
+use Rattle.laws.specs.Lists.{Every}
+use Rattle.laws.specs.Tests.{if_then_else_}
+use Rattle.day.specs.Accepted.{IsAccepted}
+use Rattle.day.proofs.Ranges.{accepted-ranges}
+use Rattle.day.specs.Fields.{stops}
+use Rattle.checker.specs.Plan.{Round, roundWords, roundsWords, stopsOn, stopsOnAll, Known}
+use Rattle.builder.specs.Build.{greedyLefts}
+use Rattle.builder.proofs.GreedyRoom.{Room, plan-length}
+use Rattle.walks.specs.Edits.{Trial, touches, changed}
+use Rattle.walks.specs.Walk.{walkedAgain}
+use Rattle.walks.specs.declared.vehicle.Walked.{Walked}
+use Rattle.walks.proofs.MidwayLaws.{every-at}
+use Rattle.trial_list.specs.Shapes.{EachFrom}
+use Rattle.trial_list.proofs.Shapes.{each-at, shaped-few, shaped-length, shaped-stops}
+use Rattle.attempts.specs.Attempts.{retried}
+use Rattle.attempts.specs.Candidates.{Roundable, SomeRoundable, RoundAs, Trying, SomeNext}
+use Rattle.attempts.proofs.CopyLaws.{round-long}
+use Rattle.attempts.proofs.RoundLists.{cut-whole, cut-words, front-more, front-length, rounds-more, slice-words}
+use Rattle.attempts.proofs.ShapeKept.{Suited, valid-suits}
+use Rattle.attempts.proofs.TrialRoom.{stops-parts}
+
+module _ {day plan starts : List ℕ} {m : Trial} {rounds : List Round} (t : Trying day plan starts m rounds) where
+  pub few-vehicles : length rounds ≤ stops day
+  few-vehicles = shaped-few day rounds (t .shaped)
+
+  pub plan-short : length plan ≤ 5 * stops day
+  plan-short = omega (arith, ap length (t .are), shaped-length day rounds (t .shaped))
+
+module _ {day plan starts : List ℕ} {m : Trial} {rounds : List Round} (t : Trying day plan starts m rounds) {v : ℕ} (l : v < length rounds) where
+  abbrev tasks : Round
+  tasks = getD rounds v []
+
+  -- where its words begin and end
+  pub record Bounds : Type 0 where
+    pub order : getD starts v 0 ≤ getD starts (v + 1) 0
+    pub inside : getD starts (v + 1) 0 ≤ length plan
+    pub words : take (getD starts (v + 1) 0 - getD starts v 0) (drop (getD starts v 0) plan) ≡ roundWords (v + 1) tasks
+
+  pub bounds : Bounds
+  bounds =
+      let from = t .starting v (omega arith) in
+      let to = t .starting (v + 1) (omega arith) in
+      let long : length (roundsWords 0 (take (v + 1) rounds)) ≡ length (roundsWords 0 (take v rounds)) + length (roundWords (v + 1) tasks) =
+      ap (λ (xs : List Round). length (roundsWords 0 xs)) (front-more rounds v l) ∙ ap length (rounds-more (take v rounds) tasks)
+      ∙ length-append (roundsWords 0 (take v rounds)) (roundWords (length (take v rounds) + 1) tasks)
+      ∙ ap (λ (n : ℕ). length (roundsWords 0 (take v rounds)) + length (roundWords (n + 1) tasks)) (front-length rounds v l) in
+      record {
+        order = omega (arith, from, to, long);
+        inside = omega (
+          arith,
+          to,
+          long,
+          ap length (t .are),
+          plan-length rounds (greedyLefts day),
+          ap length (cut-words rounds v l),
+          length-append (roundsWords 0 (take v rounds)) (roundWords (v + 1) tasks ++ roundsWords (v + 1) (drop (v + 1) rounds)),
+          length-append (roundWords (v + 1) tasks) (roundsWords (v + 1) (drop (v + 1) rounds)),
+        );
+        words = slice-words rounds v l plan (greedyLefts day) (getD starts v 0) (getD starts (v + 1) 0) (t .are) from to;
+      }
+
+  suited : Suited day m (v + 1) tasks
+  suited =
+      let e : 0 + length (take v rounds) + 1 ≡ v + 1 = omega (arith, front-length rounds v l) in
+      let all = subst (EachFrom (Suited day m) 0) (cut-whole rounds v l) (valid-suits day rounds m (t .valid)) in
+      subst (λ (n : ℕ). Suited day m n tasks) e (each-at (Suited day m) 0 (take v rounds) tasks (drop (v + 1) rounds) all)
+
+  -- it is busy, it has room, and it has few stops
+  busy : 0 < length (stopsOn tasks)
+  busy = every-at (λ ts. 0 < length (stopsOn ts)) rounds v [] (t .shaped .busy) l
+
+  pub stops-here : length (stopsOn tasks) ≤ stops day
+  unfolding stopsOnAll
+  stops-here =
+      omega (
+        arith,
+        shaped-stops day rounds (t .shaped),
+        ap (λ (xs : List Round). length (stopsOnAll xs)) (cut-whole rounds v l),
+        stops-parts (take v rounds) (tasks ∷ drop (v + 1) rounds),
+        length-append (stopsOn tasks) (stopsOnAll (drop (v + 1) rounds)),
+      )
+
+  pub round-able : {touched : Bool} {part words : List ℕ} → IsAccepted day → 5 * length (stopsOn tasks) ≤ length part → touched ≡ touches m (v + 1) → words ≡ roundWords (v + 1) tasks
+      → Roundable day (m .edit) touched (v + 1) words part tasks
+  round-able ok h e w =
+      let known = every-at (Every (Known day)) rounds v [] (t .shaped .known) l in
+      let room = every-at Room rounds v [] (t .shaped .rooms) l in
+      record {
+        are = w;
+        known = known;
+        edited = λ y. suited .touched (sym e ∙ y) known .known;
+        same = λ y. suited .touched (sym e ∙ y) known .count;
+        few = omega (arith, stops-here, accepted-ranges day ok .stopsMost);
+        room = omega (arith, h, busy, room .size, round-long (v + 1) tasks _ w);
+        more = omega (arith, h, busy);
+      }
+
+  pub round-retried : {touched : Bool} {part now : List ℕ} {r : Walked} → touched ≡ touches m (v + 1)
+      → RoundAs (v + 1) (if touched then walkedAgain day (changed (m .edit) 0 tasks) else some tasks) part now r
+      → RoundAs (v + 1) (retried day m (v + 1) tasks) part now r
+  unfolding retried
+  round-retried e w = rw e at w
+
+pub is-touches : (m : Trial) (number : ℕ) {b : Bool} → b ≡ (eqb number (m .one) || eqb number (m .other)) → b ≡ touches m number
+unfolding touches
+is-touches m number e = e
+
+-- the vehicle before it is written
+pub some-roundable : {day plan starts : List ℕ} {m : Trial} {v : ℕ} {part words : List ℕ} {touched : Bool} (s : SomeNext day plan starts m v part) → IsAccepted day
+    → touched ≡ touches m (v + 1) → words ≡ take (getD starts (v + 1) 0 - getD starts v 0) (drop (getD starts v 0) plan)
+    → SomeRoundable day (m .edit) touched (v + 1) words part
+some-roundable {v = v} s ok e w =
+    record { tasks = getD (s .rounds) v []; roundable = round-able (s .trying) (s .inside) ok (s .room) e (w ∙ bounds (s .trying) (s .inside) .words) }

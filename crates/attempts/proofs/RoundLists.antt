@@ -1,0 +1,116 @@
+-- The vehicles of a plan, cut at one of them: their words, and what a trial makes of them. Assumes nothing.
+use Prim.Native.Nat.{ℕ, suc, _+_, _-_, _<_}
+use mathlib.Core.Path.{_≡_, refl, sym, ap, _∙_}
+use mathlib.Core.List.{List, [], _∷_, _++_, map, append-assoc, append-nil}
+use mathlib.Core.Option.{Option, none, some}
+use native.Mathlib.Omega.{arith}
+use native.Mathlib.Numerals.{add-one}
+use lib.ListN.{length, length-append, getD, take, drop, take-append-drop}
+use lib.Seq.{take-suc, drop-cons, take-at, drop-at, length-take-le}
+use Rattle.checker.specs.Plan.{Round, roundWords, roundsWords, planWords}
+use Rattle.checker.specs.PlanWords.{leftWord}
+use Rattle.walks.specs.Edits.{Trial}
+use Rattle.attempts.specs.Attempts.{retried, joined, triedFrom}
+
+-- the words of two parts of the vehicles
+pub rounds-append : (from : ℕ) (xs ys : List Round) → roundsWords from (xs ++ ys) ≡ roundsWords from xs ++ roundsWords (from + length xs) ys
+unfolding roundsWords
+rounds-append from [] ys = let e : from + 0 ≡ from = omega arith in rw e refl
+rounds-append from (tasks ∷ xs) ys =
+    let e : from + suc (length xs) ≡ suc from + length xs = omega arith in
+    rw (e, rounds-append (suc from) xs ys, append-assoc (roundWords (suc from) tasks) (roundsWords (suc from) xs) (roundsWords (suc from + length xs) ys)) refl
+
+pub rounds-more : (done : List Round) (tasks : Round) → roundsWords 0 (done ++ (tasks ∷ [])) ≡ roundsWords 0 done ++ roundWords (length done + 1) tasks
+unfolding roundsWords
+rounds-more done tasks =
+    let e : suc (0 + length done) ≡ length done + 1 = omega arith in
+    rounds-append 0 done (tasks ∷ []) ∙ ap (λ (ws : List ℕ). roundsWords 0 done ++ ws) (rw (e, append-nil (roundWords (length done + 1) tasks)) refl)
+
+-- cut at vehicle v, counted from 0
+module _ (rounds : List Round) (v : ℕ) (l : v < length rounds) where
+  abbrev here : Round
+  here = getD rounds v []
+
+  pub front-more : take (v + 1) rounds ≡ take v rounds ++ (here ∷ [])
+  front-more = rw add-one (take-suc rounds v [] l)
+
+  pub cut-whole : rounds ≡ take v rounds ++ (here ∷ drop (v + 1) rounds)
+  cut-whole = sym (take-append-drop v rounds) ∙ ap (λ (xs : List Round). take v rounds ++ xs) (rw add-one (drop-cons rounds v [] l))
+
+  pub front-length : length (take v rounds) ≡ v
+  front-length = length-take-le v rounds (omega arith)
+
+  -- the words of the plan, cut there
+  pub cut-words : roundsWords 0 rounds ≡ roundsWords 0 (take v rounds) ++ (roundWords (v + 1) here ++ roundsWords (v + 1) (drop (v + 1) rounds))
+  unfolding roundsWords
+  cut-words =
+      let e : suc (0 + v) ≡ v + 1 = omega arith in
+      ap (roundsWords 0) cut-whole ∙ rounds-append 0 (take v rounds) (here ∷ drop (v + 1) rounds)
+      ∙ ap (λ (n : ℕ). roundsWords 0 (take v rounds) ++ (roundWords (suc (0 + n)) here ++ roundsWords (suc (0 + n)) (drop (v + 1) rounds))) front-length
+      ∙ ap (λ (n : ℕ). roundsWords 0 (take v rounds) ++ (roundWords n here ++ roundsWords n (drop (v + 1) rounds))) e
+
+  -- the vehicle's words are a part of the plan
+  pub slice-words : (plan lefts : List ℕ) (from to : ℕ) → plan ≡ planWords rounds lefts → from ≡ length (roundsWords 0 (take v rounds))
+      → to ≡ length (roundsWords 0 (take (v + 1) rounds)) → take (to - from) (drop from plan) ≡ roundWords (v + 1) here
+  unfolding planWords
+  slice-words plan lefts from to p f t =
+      let front = roundsWords 0 (take v rounds) in
+      let mine = roundWords (v + 1) here in
+      let rest = roundsWords (v + 1) (drop (v + 1) rounds) in
+      let behind = map leftWord lefts in
+      let whole : plan ≡ front ++ (mine ++ (rest ++ behind)) =
+      p ∙ ap (λ (ws : List ℕ). ws ++ behind) cut-words ∙ append-assoc front (mine ++ rest) behind ∙ ap (λ (ws : List ℕ). front ++ ws) (append-assoc mine rest behind) in
+      let long : to ≡ length front + length mine =
+      t ∙ ap (λ (xs : List Round). length (roundsWords 0 xs)) front-more ∙ ap length (rounds-more (take v rounds) here)
+      ∙ length-append front (roundWords (length (take v rounds) + 1) here) ∙ ap (λ (n : ℕ). length front + length (roundWords (n + 1) here)) front-length in
+      let size : to - from ≡ length mine = omega (arith, long, f) in
+      ap (λ (ws : List ℕ). take (to - from) (drop from ws)) whole ∙ ap (take (to - from)) (drop-at front (mine ++ (rest ++ behind)) from (sym f))
+      ∙ take-at mine (rest ++ behind) (to - from) (sym size)
+
+-- what a trial makes of two parts of the vehicles
+unfoldable pub appended : Option (List Round) → Option (List Round) → Option (List Round)
+appended none o = none
+appended (some xs) none = none
+appended (some xs) (some ys) = some (xs ++ ys)
+
+joined-appended : (a : Option Round) (b c : Option (List Round)) → joined a (appended b c) ≡ appended (joined a b) c
+unfolding joined appended
+joined-appended none b c = refl
+joined-appended (some x) none c = refl
+joined-appended (some x) (some xs) none = refl
+joined-appended (some x) (some xs) (some ys) = refl
+
+appended-none : (o : Option (List Round)) → o ≡ appended (some []) o
+unfolding appended
+appended-none none = refl
+appended-none (some xs) = refl
+
+appended-fails : (o : Option (List Round)) → appended o none ≡ none
+unfolding appended
+appended-fails none = refl
+appended-fails (some xs) = refl
+
+pub tried-append : (day : List ℕ) (m : Trial) (from : ℕ) (xs ys : List Round)
+    → triedFrom day m from (xs ++ ys) ≡ appended (triedFrom day m from xs) (triedFrom day m (from + length xs) ys)
+unfolding triedFrom
+tried-append day m from [] ys = let e : from + 0 ≡ from = omega arith in rw e (appended-none (triedFrom day m from ys))
+tried-append day m from (tasks ∷ xs) ys =
+    let e : from + suc (length xs) ≡ suc from + length xs = omega arith in
+    rw e (ap (joined (retried day m (suc from) tasks)) (tried-append day m (suc from) xs ys)
+    ∙ joined-appended (retried day m (suc from) tasks) (triedFrom day m (suc from) xs) (triedFrom day m (suc from + length xs) ys))
+
+module _ (day : List ℕ) (m : Trial) (rounds : List Round) (v : ℕ) (l : v < length rounds) where
+  -- one vehicle more
+  pub tried-more : (done : List Round) (one : Round) → triedFrom day m 0 (take v rounds) ≡ some done → retried day m (v + 1) (getD rounds v []) ≡ some one
+      → triedFrom day m 0 (take (v + 1) rounds) ≡ some (done ++ (one ∷ []))
+  unfolding triedFrom joined appended
+  tried-more done one f g =
+      let e : suc (0 + length (take v rounds)) ≡ v + 1 = omega (arith, front-length rounds v l) in
+      ap (triedFrom day m 0) (front-more rounds v l) ∙ tried-append day m 0 (take v rounds) (getD rounds v [] ∷ []) ∙ rw (f, e, g) refl
+
+  -- a vehicle on which the trial fails
+  pub tried-fails : retried day m (v + 1) (getD rounds v []) ≡ none → triedFrom day m 0 rounds ≡ none
+  unfolding triedFrom joined
+  tried-fails g =
+      let e : suc (0 + length (take v rounds)) ≡ v + 1 = omega (arith, front-length rounds v l) in
+      ap (triedFrom day m 0) (cut-whole rounds v l) ∙ tried-append day m 0 (take v rounds) (getD rounds v [] ∷ drop (v + 1) rounds) ∙ rw (e, g) (appended-fails (triedFrom day m 0 (take v rounds)))

@@ -1,0 +1,169 @@
+-- A trial that is listed for a plan leaves it in shape, whether or not the plan is then lawful: the same stops, each once, known numbers and
+-- room for its words. The day may be any list of words.
+-- Assumes nothing.
+use Prim.Native.Nat.{ℕ, suc, _<_}
+use mathlib.Core.Path.{_≡_, refl, sym, ap, _∙_, subst}
+use mathlib.Core.Bool.{Bool, true, false, _||_, true≢false}
+use mathlib.Core.List.{List, [], _∷_, List·Memᴰ}
+use mathlib.Core.Logic.{inl, inr}
+use mathlib.Core.Option.{Option, none, some, Option·some-injective, Option·none-ne-some}
+use native.Mathlib.Omega.{arith}
+use lib.Dec.{eqb}
+use lib.ListN.{length, length-append}
+use Rattle.laws.specs.Lists.{Every, times}
+use Rattle.laws.specs.Tests.{if_then_else_}
+use Rattle.checker.specs.Plan.{Round, stopsOn, stopsOnAll, Known}
+use Rattle.builder.proofs.Decided.{known}
+use Rattle.builder.proofs.GreedyForm.{times-append}
+use Rattle.builder.proofs.GreedyRoom.{Room}
+use Rattle.walks.specs.Edits.{changed, Trial, touches}
+use Rattle.walks.proofs.EditLaws.{renamed, Suits}
+use Rattle.walks.proofs.EditSuits.{suits-before, suits-after, suits-swap, suits-remove, suits-replace, swap-elsewhere}
+use Rattle.walks.proofs.Walking.{walked-again}
+use Rattle.trial_list.specs.TrialList.{trialList}
+use Rattle.trial_list.proofs.Listed.{listed-valid}
+use Rattle.trial_list.specs.Shapes.{Shaped, EachFrom, StandsOn, Valid, moved-before, moved-after, swapped, removed, replaced}
+use Rattle.attempts.specs.Attempts.{retried, joined, triedFrom, tried}
+
+-- what a trial's edit does to a vehicle that it touches, and to one that it does not
+pub record Suited (day : List ℕ) (m : Trial) (number : ℕ) (tasks : Round) : Type 0 where
+  pub touched : touches m number ≡ true → Every (Known day) tasks → Suits day (m .edit) tasks
+  pub elsewhere : touches m number ≡ false → (k : ℕ) → times (renamed (m .edit) k) (stopsOn tasks) ≡ times k (stopsOn tasks)
+
+each-all : (P : ℕ → Round → Type 0) → ((n : ℕ) (tasks : Round) → P n tasks) → (from : ℕ) (rounds : List Round) → EachFrom P from rounds
+unfolding EachFrom
+each-all P h from [] = tt
+each-all P h from (tasks ∷ rounds) = (h (suc from) tasks, each-all P h (suc from) rounds)
+
+each-two : (P Q R : ℕ → Round → Type 0) → ((n : ℕ) (tasks : Round) → P n tasks → Q n tasks → R n tasks)
+    → (from : ℕ) (rounds : List Round) → EachFrom P from rounds → EachFrom Q from rounds → EachFrom R from rounds
+unfolding EachFrom
+each-two P Q R h from [] p q = tt
+each-two P Q R h from (tasks ∷ rounds) p q = (h (suc from) tasks (p .0) (q .0), each-two P Q R h (suc from) rounds (p .1) (q .1))
+
+-- a vehicle that neither of two stops is on
+neither : (i j : ℕ) (ks : List ℕ) (b c : Bool) → (b || c) ≡ false → times i ks ≡ (if b then 1 else 0) → times j ks ≡ (if c then 1 else 0) → times i ks ≡ times j ks
+neither i j ks true c e p q = absurd (true≢false e)
+neither i j ks false true e p q = absurd (true≢false e)
+neither i j ks false false e p q = p ∙ sym q
+
+module _ (day : List ℕ) (rounds : List Round) where
+  pub valid-suits : (m : Trial) → Valid day rounds m → EachFrom (Suited day m) 0 rounds
+  unfolding StandsOn renamed touches
+  valid-suits m (moved-before i j a apart p q) =
+      each-two (StandsOn i a) (StandsOn j a) (Suited day m)
+      (λ n tasks x y. record { touched = λ t h. suits-before day tasks h i j apart (p .known, q .known) (x ∙ sym y); elsewhere = λ f k. refl })
+      0 rounds (p .stands) (q .stands)
+  valid-suits m (moved-after i j a apart p q) =
+      each-two (StandsOn i a) (StandsOn j a) (Suited day m)
+      (λ n tasks x y. record { touched = λ t h. suits-after day tasks h i j apart (p .known, q .known) (x ∙ sym y); elsewhere = λ f k. refl })
+      0 rounds (p .stands) (q .stands)
+  valid-suits m (swapped i j a b apart two p q) =
+      each-two (StandsOn i a) (StandsOn j b) (Suited day m)
+      (λ n tasks x y. record {
+        touched = λ t h. suits-swap day tasks h i j apart (p .known, q .known);
+        elsewhere = λ f. swap-elsewhere i j (stopsOn tasks) (neither i j (stopsOn tasks) (eqb n a) (eqb n b) f x y);
+      })
+      0 rounds (p .stands) (q .stands)
+  valid-suits m (removed at a first within) =
+      each-all (Suited day m) (λ n tasks. record { touched = λ t h. suits-remove day tasks h at; elsewhere = λ f k. refl }) 0 rounds
+  valid-suits m (replaced at x a n first within) =
+      each-all (Suited day m) (λ n′ tasks. record { touched = λ t h. suits-replace day tasks h at x n; elsewhere = λ f k. refl }) 0 rounds
+
+  -- over all vehicles each stop stands as often as the one that takes its place
+  valid-renamed : (m : Trial) → Valid day rounds m → (k : ℕ) → times (renamed (m .edit) k) (stopsOnAll rounds) ≡ times k (stopsOnAll rounds)
+  unfolding renamed
+  valid-renamed m (moved-before i j a apart p q) k = refl
+  valid-renamed m (moved-after i j a apart p q) k = refl
+  valid-renamed m (swapped i j a b apart two p q) k = swap-elsewhere i j (stopsOnAll rounds) (p .once ∙ sym (q .once)) k
+  valid-renamed m (removed at a first within) k = refl
+  valid-renamed m (replaced at x a n first within) k = refl
+
+-- one vehicle before and after a trial
+pub record Remade (day : List ℕ) (rename : ℕ → ℕ) (tasks done : Round) : Type 0 where
+  pub known : Every (Known day) done
+  pub room : Room done
+  pub count : length (stopsOn done) ≡ length (stopsOn tasks)
+  pub same : (k : ℕ) → times k (stopsOn done) ≡ times (rename k) (stopsOn tasks)
+
+-- all of them
+pub record AllRemade (day : List ℕ) (rename : ℕ → ℕ) (rounds q : List Round) : Type 0 where
+  pub known : Every (Every (Known day)) q
+  pub rooms : Every Room q
+  pub busy : Every (λ tasks. 0 < length (stopsOn tasks)) rounds → Every (λ tasks. 0 < length (stopsOn tasks)) q
+  pub count : length (stopsOnAll q) ≡ length (stopsOnAll rounds)
+  pub vehicles : length q ≡ length rounds
+  pub same : (k : ℕ) → times k (stopsOnAll q) ≡ times (rename k) (stopsOnAll rounds)
+
+module _ (day : List ℕ) (m : Trial) where
+  pub retried-remade : (number : ℕ) (tasks done : Round) → Every (Known day) tasks → Room tasks → Suited day m number tasks
+      → retried day m number tasks ≡ some done → Remade day (renamed (m .edit)) tasks done
+  unfolding retried
+  retried-remade number tasks done h r s e = elim (known (touches m number)) [
+    | inl t ↦
+        let suits = s .touched t h in
+        let w = walked-again day (changed (m .edit) 0 tasks) done (suits .known) (rw t at e) in
+        record { known = w .known; room = w .room; count = ap length (w .stops) ∙ suits .count; same = λ k. ap (times k) (w .stops) ∙ suits .same k }
+    | inr f ↦
+        let same : tasks ≡ done = Option·some-injective _ _ (rw f at e) in
+        subst (Remade day (renamed (m .edit)) tasks) same
+        (record { known = h; room = r; count = refl; same = λ k. sym (s .elsewhere f k) })
+  ]
+
+  pub front-remade : (tasks done : Round) (rounds others : List Round) → Remade day (renamed (m .edit)) tasks done
+      → AllRemade day (renamed (m .edit)) rounds others → AllRemade day (renamed (m .edit)) (tasks ∷ rounds) (done ∷ others)
+  unfolding Every stopsOnAll
+  front-remade tasks done rounds others a b =
+      record {
+        known = (a .known, b .known);
+        rooms = (a .room, b .rooms);
+        busy = λ h. (rw (a .count) (h .0), b .busy (h .1));
+        count = omega (arith, a .count, b .count, length-append (stopsOn tasks) (stopsOnAll rounds), length-append (stopsOn done) (stopsOnAll others));
+        vehicles = ap suc (b .vehicles);
+        same = λ k. omega (
+          arith,
+          a .same k,
+          b .same k,
+          times-append k (stopsOn done) (stopsOnAll others),
+          times-append (renamed (m .edit) k) (stopsOn tasks) (stopsOnAll rounds),
+        );
+      }
+
+  joined-remade : (tasks : Round) (rounds q : List Round) (o : Option Round) (p : Option (List Round))
+      → ((done : Round) → o ≡ some done → Remade day (renamed (m .edit)) tasks done)
+      → ((others : List Round) → p ≡ some others → AllRemade day (renamed (m .edit)) rounds others)
+      → joined o p ≡ some q → AllRemade day (renamed (m .edit)) (tasks ∷ rounds) q
+  unfolding joined
+  joined-remade tasks rounds q none p a b e = absurd (Option·none-ne-some q e)
+  joined-remade tasks rounds q (some done) none a b e = absurd (Option·none-ne-some q e)
+  joined-remade tasks rounds q (some done) (some others) a b e =
+      subst (AllRemade day (renamed (m .edit)) (tasks ∷ rounds)) (Option·some-injective _ _ e)
+      (front-remade tasks done rounds others (a done refl) (b others refl))
+
+  pub tried-remade : (from : ℕ) (rounds q : List Round) → Every (Every (Known day)) rounds → Every Room rounds → EachFrom (Suited day m) from rounds
+      → triedFrom day m from rounds ≡ some q → AllRemade day (renamed (m .edit)) rounds q
+  unfolding triedFrom Every EachFrom stopsOnAll times
+  tried-remade from [] q h r s e =
+      subst (AllRemade day (renamed (m .edit)) []) (Option·some-injective _ _ e)
+      (record { known = tt; rooms = tt; busy = λ b. tt; count = refl; vehicles = refl; same = λ k. refl })
+  tried-remade from (tasks ∷ rounds) q h r s e =
+      joined-remade tasks rounds q (retried day m (suc from) tasks) (triedFrom day m (suc from) rounds)
+      (λ done. retried-remade (suc from) tasks done (h .0) (r .0) (s .0))
+      (λ others. tried-remade (suc from) rounds others (h .1) (r .1) (s .1)) e
+
+-- a trial that may be made, and so each that is listed, keeps the shape
+pub valid-shaped : (day : List ℕ) (rounds q : List Round) (m : Trial) → Shaped day rounds → Valid day rounds m → tried day rounds m ≡ some q → Shaped day q
+valid-shaped day rounds q m s v e =
+    let a = tried-remade day m 0 rounds q (s .known) (s .rooms) (valid-suits day rounds m v) e in
+    record {
+      known = a .known;
+      rooms = a .rooms;
+      busy = a .busy (s .busy);
+      once = λ k. a .same k ∙ valid-renamed day rounds m v k ∙ s .once k;
+      count = a .count ∙ s .count;
+      vehicles = a .vehicles ∙ s .vehicles;
+    }
+
+pub listed-shaped : (day : List ℕ) (K : ℕ) (rounds q : List Round) (m : Trial) → Shaped day rounds → List·Memᴰ m (trialList day K rounds)
+    → tried day rounds m ≡ some q → Shaped day q
+listed-shaped day K rounds q m s i = valid-shaped day rounds q m s (listed-valid day rounds s K m i)

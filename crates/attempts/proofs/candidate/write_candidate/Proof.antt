@@ -1,0 +1,90 @@
+-- `attempts::candidate::write_candidate` meets its contract.
+use native.Mathlib.Omega.{arith}
+use mathlib.Core.Path.{refl}
+use Rattle.builder.proofs.BuiltPlans.{room-is}
+use Rattle.attempts.proofs.NextRounds.{few-vehicles, plan-short}
+use Rattle.attempts.proofs.WrittenLaws.{room-left, ends-inside, lefts-long, lefts-room, candidate-fails, candidate-ends}
+use borrow.Author.Needs.{needs}
+use Rattle.attempts.proofs.candidate.write_candidate.Statement.{statement}
+use Rattle.attempts.proofs.candidate.write_candidate.Tie as tie
+
+write-rounds-requires : tie.Need-write-rounds-requires
+write-rounds-requires c κs = search needs
+
+same-length : tie.Need-same-length
+same-length c = search needs
+
+returns : tie.Need-returns
+returns c = λ rounds t n. candidate-fails t n (c .before .before .before .write-rounds .ensures rounds t n) (c .if1 .taken)
+
+mul-from : tie.Need-mul-from
+mul-from c = let s = c .before .before .before .before .before .before .before .before .before .pre .4 in omega (arith, s .counted, few-vehicles (s .trying))
+
+shared-slice-read-from : tie.Need-shared-slice-read-from
+shared-slice-read-from c = let s = c .before .before .before .before .before .before .before .before .before .before .pre .4 in omega (arith, s .counted, few-vehicles (s .trying), s .trying .table)
+
+cast-from : tie.Need-cast-from
+cast-from c = let s = c .before .before .before .before .before .before .before .before .before .before .pre .4 in omega (arith, ends-inside (s .trying) (s .counted), plan-short (s .trying))
+
+sub-lefts : tie.Need-sub-lefts
+sub-lefts c = let s = c .before .before .before .before .before .before .before .before .before .before .pre .4 in ends-inside (s .trying) (s .counted)
+
+mul-copy-words : tie.Need-mul-copy-words
+mul-copy-words c = let s = c .before .before .before .before .before .before .before .before .before .before .pre .4 in omega (arith, ends-inside (s .trying) (s .counted), plan-short (s .trying))
+
+sub-copy-words : tie.Need-sub-copy-words
+sub-copy-words c = let s = c .before .before .before .before .before .before .before .before .before .before .pre .4 in ends-inside (s .trying) (s .counted)
+
+part-copy-words-start : tie.Need-part-copy-words-start
+part-copy-words-start c = let s = c .before .before .before .before .before .before .before .before .before .before .pre .4 in omega (arith, ends-inside (s .trying) (s .counted))
+
+part-copy-words-end : tie.Need-part-copy-words-end
+part-copy-words-end c = search needs
+
+mul-copy-words-2 : tie.Need-mul-copy-words-2
+mul-copy-words-2 c = let s = c .before .before .before .before .before .before .before .before .before .before .before .pre .4 in let w = c .before .before .before .before .before .write-rounds .ensures (s .rounds) (s .trying) (s .counted) .written (c .before .before .if1 .left) in omega (arith, room-left (s .trying) w)
+
+sub-copy-words-2 : tie.Need-sub-copy-words-2
+sub-copy-words-2 c = let s = c .before .before .before .before .before .before .before .before .before .before .before .pre .4 in let w = c .before .before .before .before .before .write-rounds .ensures (s .rounds) (s .trying) (s .counted) .written (c .before .before .if1 .left) in omega (arith, room-left (s .trying) w, w .text .size, room-is (c .before .before .before .before .before .before .before .before .before .before .before .pre .0) (c .before .before .before .before .before .before .before .before .before .before .before .pre .5))
+
+part-copy-words-start-2 : tie.Need-part-copy-words-start-2
+part-copy-words-start-2 c = let s = c .before .before .before .before .before .before .before .before .before .before .before .pre .4 in let w = c .before .before .before .before .before .write-rounds .ensures (s .rounds) (s .trying) (s .counted) .written (c .before .before .if1 .left) in omega (arith, room-left (s .trying) w, w .text .size, room-is (c .before .before .before .before .before .before .before .before .before .before .before .pre .0) (c .before .before .before .before .before .before .before .before .before .before .before .pre .5))
+
+part-copy-words-end-2 : tie.Need-part-copy-words-end-2
+part-copy-words-end-2 c = search needs
+
+copy-words-requires : tie.Need-copy-words-requires
+copy-words-requires c κs = let s = c .before .before .before .before .before .before .before .before .before .before .before .before .pre .4 in lefts-room (s .trying) (s .counted) (c .before .before .before .before .before .before .write-rounds .ensures (s .rounds) (s .trying) (s .counted) .written (c .before .before .before .if1 .left)) (room-is (c .before .before .before .before .before .before .before .before .before .before .before .before .pre .0) (c .before .before .before .before .before .before .before .before .before .before .before .before .pre .5))
+
+add-t17 : tie.Need-add-t17
+add-t17 c = let s = c .before .before .before .before .before .before .before .before .before .before .before .before .before .before .before .pre .4 in let w = c .before .before .before .before .before .before .before .before .before .write-rounds .ensures (s .rounds) (s .trying) (s .counted) .written (c .before .before .before .before .before .before .if1 .left) in omega (arith, room-left (s .trying) w, lefts-long (s .trying) (s .counted))
+
+same-length-2 : tie.Need-same-length-2
+same-length-2 c = search needs
+
+returns-2 : tie.Need-returns-2
+returns-2 c = λ rounds t n. candidate-ends t n _ (c .before .before .before .before .before .before .before .before .before .write-rounds .ensures rounds t n .written (c .before .before .before .before .before .before .if1 .left)) (c .before .before .copy-words .ensures) refl refl
+
+pub write-candidate-spec : {M : Type 1} → statement M
+write-candidate-spec =
+    tie.close
+    (tie.spec
+    write-rounds-requires
+    same-length
+    returns
+    mul-from
+    shared-slice-read-from
+    cast-from
+    sub-lefts
+    mul-copy-words
+    sub-copy-words
+    part-copy-words-start
+    part-copy-words-end
+    mul-copy-words-2
+    sub-copy-words-2
+    part-copy-words-start-2
+    part-copy-words-end-2
+    copy-words-requires
+    add-t17
+    same-length-2
+    returns-2)

@@ -1,0 +1,45 @@
+-- `attempts::tries::judge_candidate` meets its contract.
+use mathlib.Core.Path.{refl, sym, _∙_, ap}
+use mathlib.Core.Bool.{true≢false}
+use Rattle.checker.specs.Answers.{answerValues}
+use Rattle.attempts.proofs.KeptLaws.{judged-shorter, judged-longer, judged-refused}
+use borrow.Author.Needs.{needs}
+use Rattle.attempts.proofs.tries.judge_candidate.Statement.{statement}
+use Rattle.attempts.proofs.tries.judge_candidate.Tie as tie
+
+check-accepted-requires : tie.Need-check-accepted-requires
+check-accepted-requires c κs = search needs
+
+enum-known-answer : tie.Need-enum-known-answer
+enum-known-answer c = search needs
+
+returns : tie.Need-returns
+returns c = (judged-shorter _ (sym (ap answerValues (c .before .before .answer .given .1)) ∙ c .before .before .before .before .check-accepted .ensures) (c .if1 .taken) refl refl, λ _. refl)
+
+not-kept-requires : tie.Need-not-kept-requires
+not-kept-requires c κs = search needs
+
+enum-told : tie.Need-enum-told
+enum-told c = search needs
+
+not-kept-requires-2 : tie.Need-not-kept-requires-2
+not-kept-requires-2 c κs = search needs
+
+returns-2 : tie.Need-returns-2
+returns-2 c = (judged-longer _ (sym (ap answerValues (c .before .before .before .answer .given .1)) ∙ c .before .before .before .before .before .check-accepted .ensures) (c .before .if1 .left) (c .not-kept .ensures), λ y. absurd (true≢false (sym y ∙ c .not-kept .ensures)))
+
+returns-3 : tie.Need-returns-3
+returns-3 c = (judged-refused _ (sym (ap answerValues (c .before .enum-told .given .1)) ∙ c .before .before .before .check-accepted .ensures) (c .not-kept2 .ensures), λ y. absurd (true≢false (sym y ∙ c .not-kept2 .ensures)))
+
+pub judge-candidate-spec : {M : Type 1} → statement M
+judge-candidate-spec =
+    tie.close
+    (tie.spec
+    check-accepted-requires
+    enum-known-answer
+    returns
+    not-kept-requires
+    enum-told
+    not-kept-requires-2
+    returns-2
+    returns-3)

@@ -1,0 +1,3 @@
+// A trial of a plan: the plan that it gives, and whether that plan is kept.
+pub mod candidate;
+pub mod tries;

@@ -1,0 +1,137 @@
+-- The keys of a stop's neighbours: what a key comes to, and the pass over all keys for the least above the last one.
+-- Assumes nothing.
+use Prim.Native.Nat.{ℕ, zero, suc, _+_, _*_, _≤_, _<_}
+use mathlib.Core.Path.{_≡_, refl, sym, ap, _∙_}
+use mathlib.Core.Bool.{Bool, true, false}
+use mathlib.Core.List.{List}
+use mathlib.Core.Logic.{⊎-elim}
+use native.Mathlib.Decide.{ℕ-discrete}
+use native.Mathlib.Nat.{eq-or-lt-of-le}
+use native.Mathlib.Numerals.{add-one}
+use native.Mathlib.Omega.{arith}
+use lib.Dec.{ltb}
+use lib.ListN.{length, getD, set, length-set}
+use lib.Seq.{getD-set-same, getD-set-other}
+use borrow.Author.Tests.{eq-eqb, ne-eqb, le-leb, lt-leb, le-ltb, ltb-true, ltb-false}
+use Rattle.laws.specs.Tests.{if_then_else_}
+use Rattle.day.specs.Fields.{stopPlace, service}
+use Rattle.day.specs.Layout.{LayoutOf, WindowOf, LegOf}
+use Rattle.day.specs.declared.fields.Layout.{Layout}
+use Rattle.day.specs.declared.fields.Leg.{Leg}
+use Rattle.day.specs.declared.fields.Window.{Window}
+use Rattle.neighbours.specs.Neighbours.{compatible, neighbourKey}
+use Rattle.neighbours.specs.Tables.{noKey, keyOrNone, KeysTo, keyAbove, lesser, leastAbove}
+
+-- a key by the tests that decide it
+pub key-self : (day : List ℕ) (i j : ℕ) → i ≡ j → noKey ≡ keyOrNone day i j
+unfolding keyOrNone compatible
+key-self day i j e = rw (eq-eqb i j e) refl
+
+module _ (day : List ℕ) (z : Layout) (i j : ℕ) (lay : LayoutOf day z) (here there : Window) (v : ℕ) (leg : Leg)
+    (hw : WindowOf day (stopPlace day i) here) (tw : WindowOf day (stopPlace day j) there) (hv : v ≡ service day (stopPlace day i))
+    (hl : LegOf day (z .tips + i) (z .tips + j) leg) (other : i ≡ j → ⊥) where
+  pub key-early : here .closing + v + leg .minutes < there .opening → noKey ≡ keyOrNone day i j
+  unfolding keyOrNone compatible
+  key-early h = rw (ne-eqb i j other, lt-leb _ _ (rw (hw .closes, hv, hl .takes, lay .tipsAre, tw .opens) at h)) refl
+
+  pub key-late : there .opening ≤ here .closing + v + leg .minutes → there .closing < here .opening + v + leg .minutes → noKey ≡ keyOrNone day i j
+  unfolding keyOrNone compatible
+  key-late g h =
+      rw (ne-eqb i j other, le-leb _ _ (rw (hw .closes, hv, hl .takes, lay .tipsAre, tw .opens) at g), lt-leb _ _ (rw (hw .opens, hv, hl .takes, lay .tipsAre, tw .closes) at h)) refl
+
+  pub key-is : there .opening ≤ here .closing + v + leg .minutes → here .opening + v + leg .minutes ≤ there .closing → leg .minutes * 256 + j ≡ keyOrNone day i j
+  unfolding keyOrNone compatible neighbourKey
+  key-is g h =
+      rw (ne-eqb i j other, le-leb _ _ (rw (hw .closes, hv, hl .takes, lay .tipsAre, tw .opens) at g), le-leb _ _ (rw (hw .opens, hv, hl .takes, lay .tipsAre, tw .closes) at h))
+      (rw (hl .takes, lay .tipsAre) refl)
+
+-- the keys so far
+pub keys-none : (day : List ℕ) (i : ℕ) (keys : List ℕ) → length keys ≡ 256 → KeysTo day i 0 keys
+keys-none day i keys h = record { size = h; each = λ j p l. absurd (omega arith) }
+
+pub keys-next : (day : List ℕ) (i n : ℕ) (keys : List ℕ) (x : ℕ) → KeysTo day i n keys → n < 240 → x ≡ keyOrNone day i (n + 1) → KeysTo day i (n + 1) (set keys (n + 1) x)
+keys-next day i n keys x k few e = record { size = length-set keys (n + 1) x ∙ k .size; each = λ j p l. go j p l (ℕ-discrete j (n + 1)) }
+  where
+    go : (j : ℕ) → 0 < j → j ≤ n + 1 → Dec (j ≡ n + 1) → getD (set keys (n + 1) x) j 0 ≡ keyOrNone day i j
+    go j p l (yes q) = rw q (getD-set-same keys (n + 1) x 0 (omega (arith, k .size)) ∙ e)
+    go j p l (no q) = getD-set-other keys (n + 1) j x 0 q ∙ k .each j p (omega arith)
+
+pub keys-all : (day : List ℕ) (z : Layout) (i n : ℕ) (keys : List ℕ) → KeysTo day i n keys → n ≤ z .stops → z .stops ≤ n → KeysTo day i (z .stops) keys
+keys-all day z i n keys k a b = let e : z .stops ≡ n = omega arith in rw e k
+
+-- the pass
+pub above-none : (keys : List ℕ) (last : ℕ) → noKey ≡ leastAbove keys last 0
+unfolding leastAbove
+above-none keys last = refl
+
+pub above-next : (keys : List ℕ) (last n best key next : ℕ) → best ≡ leastAbove keys last n → key ≡ keyAbove last (getD keys (n + 1) 0) → next ≡ lesser key best
+    → next ≡ leastAbove keys last (n + 1)
+unfolding leastAbove
+above-next keys last n best key next e a k = k ∙ rw (e, a, add-one) refl
+
+pub above-all : (keys : List ℕ) (last m n best : ℕ) → best ≡ leastAbove keys last m → m ≤ n → n ≤ m → best ≡ leastAbove keys last n
+above-all keys last m n best e a b = let q : m ≡ n = omega arith in e ∙ ap (leastAbove keys last) q
+
+-- what the least key above the last one is
+pub record IsAbove (keys : List ℕ) (last n x : ℕ) : Type 0 where
+  pub most : x ≤ noKey
+  pub stop : ℕ
+  pub positive : x < noKey → 0 < stop
+  pub within : x < noKey → stop ≤ n
+  pub here : x < noKey → getD keys stop 0 ≡ x
+  pub above : x < noKey → last < x
+  pub minimal : (j : ℕ) → 0 < j → j ≤ n → last < getD keys j 0 → getD keys j 0 < noKey → x ≤ getD keys j 0
+
+data Lesser (last key best r : ℕ) : Type 0 where
+  keeps : (last < key → best ≤ key) → r ≡ best → Lesser last key best r
+  takes : last < key → key < best → r ≡ key → Lesser last key best r
+
+lesser-cases : (last key best : ℕ) → best ≤ noKey → Lesser last key best (lesser (keyAbove last key) best)
+unfolding keyAbove lesser
+lesser-cases last key best most = go (ltb last key) refl
+  where
+    taken : last < key → (b : Bool) → ltb key best ≡ b → Lesser last key best (if b then key else best)
+    taken h true f = takes h (ltb-true key best f) refl
+    taken h false f = keeps (λ _. ltb-false key best f) refl
+
+    go : (a : Bool) → ltb last key ≡ a → Lesser last key best (if ltb (if a then key else noKey) best then (if a then key else noKey) else best)
+    go true e = taken (ltb-true last key e) (ltb key best) refl
+    go false e = rw (le-ltb noKey best most) (keeps (λ h. absurd (omega (arith, ltb-false last key e))) refl)
+
+above-step : (keys : List ℕ) (last n best r : ℕ) → IsAbove keys last n best → Lesser last (getD keys (suc n) 0) best r → IsAbove keys last (suc n) r
+above-step keys last n best r h (keeps f q) = record {
+  most = omega (arith, h .most);
+  stop = h .stop;
+  positive = λ l. h .positive (omega arith);
+  within = λ l. omega (arith, h .within (omega arith));
+  here = λ l. h .here (omega arith) ∙ sym q;
+  above = λ l. omega (arith, h .above (omega arith));
+  minimal = λ j p l a b.
+      ⊎-elim (λ (e : j ≡ suc n). rw e (omega (arith, f (rw e at a)))) (λ (w : j < suc n). omega (arith, h .minimal j p (omega arith) a b)) (eq-or-lt-of-le l);
+}
+above-step keys last n best r h (takes f g q) = record {
+  most = omega (arith, h .most);
+  stop = suc n;
+  positive = λ l. omega arith;
+  within = λ l. omega arith;
+  here = λ l. sym q;
+  above = λ l. omega arith;
+  minimal = λ j p l a b. ⊎-elim (λ (e : j ≡ suc n). rw e (omega arith)) (λ (w : j < suc n). omega (arith, h .minimal j p (omega arith) a b)) (eq-or-lt-of-le l);
+}
+
+pub above-is : (keys : List ℕ) (last n : ℕ) → IsAbove keys last n (leastAbove keys last n)
+unfolding leastAbove
+above-is keys last zero = record {
+  most = omega arith;
+  stop = 0;
+  positive = λ l. absurd (omega arith);
+  within = λ l. absurd (omega arith);
+  here = λ l. absurd (omega arith);
+  above = λ l. absurd (omega arith);
+  minimal = λ j p l. absurd (omega arith);
+}
+above-is keys last (suc n) =
+    let key = getD keys (suc n) 0 in
+    let best = leastAbove keys last n in
+    let so-far = above-is keys last n in
+    above-step keys last n best (lesser (keyAbove last key) best) so-far (lesser-cases last key best (so-far .most))

@@ -1,0 +1,231 @@
+-- The neighbours by their keys: the least key above the last one is that of the next neighbour, and the rows of the table are the lists.
+-- Assumes nothing.
+use Prim.Native.Nat.{ℕ, zero, suc, _+_, _*_, _%_, _≤_, _<_}
+use mathlib.Core.Path.{_≡_, refl, sym, ap, _∙_}
+use mathlib.Core.Bool.{Bool, true, false}
+use mathlib.Core.List.{List, [], _∷_}
+use mathlib.Core.Logic.{_⊎_, inl, inr}
+use native.Mathlib.Decide.{ℕ-discrete}
+use native.Mathlib.Nat.{eq-or-lt-of-le}
+use native.Mathlib.Omega.{arith}
+use native.Mathlib.Numerals.{add-one}
+use lib.Dec.{eqb, ltb}
+use lib.ListN.{length, getD, set, length-set}
+use lib.Seq.{getD-set-same, getD-set-other}
+use borrow.Author.Tests.{eq-eqb, ne-eqb, eqb-true, eqb-false, lt-ltb, ltb-true}
+use Rattle.laws.specs.Least.{IsLeast}
+use Rattle.laws.specs.Tests.{if_then_else_}
+use Rattle.laws.proofs.Least.{least-is, least-only}
+use Rattle.laws.proofs.Tests.{both-true}
+use Rattle.day.specs.Fields.{stops}
+use Rattle.day.specs.Layout.{LayoutOf}
+use Rattle.day.specs.declared.fields.Layout.{Layout}
+use Rattle.neighbours.specs.Neighbours.{compatible, neighbourKey, behind, nextNeighbour, neighboursAfter, neighbours}
+use Rattle.neighbours.specs.Tables.{TableOf, RowsTo, RowOf, noKey, keyOrNone, KeysTo, leastAbove, keyAfter, stopOfKey, RowBy}
+use Rattle.neighbours.proofs.KeyLaws.{IsAbove, above-is}
+
+-- every key is less than what stands for none, and shows its stop
+key-below : (day : List ℕ) (i j : ℕ) → j < 256 → neighbourKey day i j < noKey
+unfolding neighbourKey
+key-below day i j h = omega arith
+
+key-stop : (day : List ℕ) (i j : ℕ) → j < 256 → neighbourKey day i j % 256 ≡ j
+unfolding neighbourKey
+key-stop day i j h = omega arith
+
+keys-apart : (day : List ℕ) (i j k : ℕ) → j < 256 → k < j → neighbourKey day i j ≤ neighbourKey day i k → neighbourKey day i j < neighbourKey day i k
+unfolding neighbourKey
+keys-apart day i j k h g l = omega arith
+
+-- a compatible stop has its key; what has a key below the one for none is compatible
+key-found : (day : List ℕ) (i j : ℕ) → compatible day i j ≡ true → keyOrNone day i j ≡ neighbourKey day i j
+unfolding keyOrNone
+key-found day i j e = rw e refl
+
+key-compatible : (day : List ℕ) (i j : ℕ) → keyOrNone day i j < noKey → compatible day i j ≡ true
+unfolding keyOrNone
+key-compatible day i j h = go (compatible day i j) h
+  where
+    go : (b : Bool) → (if b then neighbourKey day i j else noKey) < noKey → b ≡ true
+    go true h = refl
+    go false h = absurd (omega arith)
+
+behind-both : (day : List ℕ) (i last j : ℕ) → behind day i last j ≡ true → (compatible day i j ≡ true) × (last < neighbourKey day i j)
+unfolding behind
+behind-both day i last j e =
+    let b = both-true (compatible day i j) (ltb last (neighbourKey day i j)) e in
+    (b .0, ltb-true last (neighbourKey day i j) (b .1))
+
+behind-is : (day : List ℕ) (i last j : ℕ) → compatible day i j ≡ true → last < neighbourKey day i j → behind day i last j ≡ true
+unfolding behind
+behind-is day i last j e h = rw (e, lt-ltb last (neighbourKey day i j) h) refl
+
+known-test : (b : Bool) → (b ≡ true → ⊥) → b ≡ false
+known-test true n = absurd (n refl)
+known-test false n = refl
+
+-- what the least key above the last one tells of the next neighbour
+record Joins (day : List ℕ) (i last x : ℕ) : Type 0 where
+  pub stop : nextNeighbour day i last ≡ stopOfKey x
+  pub none : nextNeighbour day i last ≡ 0 → x ≡ noKey
+  pub some : (nextNeighbour day i last ≡ 0 → ⊥) → neighbourKey day i (nextNeighbour day i last) ≡ x
+
+module _ (day : List ℕ) (i : ℕ) (keys : List ℕ) (few : stops day ≤ 240) (k : KeysTo day i (stops day) keys) where
+  -- a stop behind the last one has its key in the pass
+  behind-key : (last j : ℕ) → 0 < j → j ≤ stops day → behind day i last j ≡ true → (last < getD keys j 0) × (getD keys j 0 ≡ neighbourKey day i j)
+  behind-key last j p l t =
+      let b = behind-both day i last j t in
+      let e : getD keys j 0 ≡ neighbourKey day i j = k .each j p l ∙ key-found day i j (b .0) in
+      (omega (arith, b .1), e)
+
+  none-behind : (last x : ℕ) → IsAbove keys last (stops day) x → x ≡ noKey → IsLeast (behind day i last) (neighbourKey day i) (stops day) 0
+  none-behind last x h e = record {
+    within = omega arith;
+    none = λ _ j p l. known-test (behind day i last j) (λ t.
+        let b = behind-key last j p l t in
+        omega (arith, h .minimal j p l (b .0) (omega (arith, key-below day i j (omega arith), b .1)), key-below day i j (omega arith), b .1));
+    passes = λ z. absurd (omega arith);
+    minimal = λ z. absurd (omega arith);
+    lowest = λ z. absurd (omega arith);
+  }
+
+  module _ (last x : ℕ) (h : IsAbove keys last (stops day) x) (l : x < noKey) where
+    found-compatible : compatible day i (h .stop) ≡ true
+    found-compatible =
+        let e = k .each (h .stop) (h .positive l) (h .within l) in
+        key-compatible day i (h .stop) (omega (arith, e, h .here l))
+
+    found-key : neighbourKey day i (h .stop) ≡ x
+    found-key = sym (key-found day i (h .stop) found-compatible) ∙ sym (k .each (h .stop) (h .positive l) (h .within l)) ∙ h .here l
+
+    found-behind : IsLeast (behind day i last) (neighbourKey day i) (stops day) (h .stop)
+    found-behind = record {
+      within = h .within l;
+      none = λ z. absurd (omega (arith, h .positive l));
+      passes = λ _. behind-is day i last (h .stop) found-compatible (omega (arith, h .above l, found-key));
+      minimal = λ _ j p g t. least-of j p g t;
+      lowest = λ _ j p g t. keys-apart day i (h .stop) j (omega (arith, h .within l)) g (least-of j p (omega (arith, h .within l)) t);
+    }
+      where
+        least-of : (j : ℕ) → 0 < j → j ≤ stops day → behind day i last j ≡ true → neighbourKey day i (h .stop) ≤ neighbourKey day i j
+        least-of j p g t =
+            let b = behind-key last j p g t in
+            omega (arith, h .minimal j p g (b .0) (omega (arith, key-below day i j (omega arith), b .1)), found-key, b .1)
+
+  joins : (last : ℕ) → Joins day i last (leastAbove keys last (stops day))
+  unfolding nextNeighbour stopOfKey
+  joins last = go (leastAbove keys last (stops day)) (above-is keys last (stops day))
+    where
+      go : (x : ℕ) → IsAbove keys last (stops day) x → Joins day i last x
+      go x h = at-end (eq-or-lt-of-le (h .most))
+        where
+          at-end : (x ≡ noKey) ⊎ (x < noKey) → Joins day i last x
+          at-end (inl e) =
+              let q = least-only (behind day i last) (neighbourKey day i) (stops day) _ _ (least-is (behind day i last) (neighbourKey day i) (stops day)) (none-behind last x h e) in
+              record { stop = rw (eq-eqb x noKey e) q; none = λ _. e; some = λ n. absurd (n q) }
+          at-end (inr l) =
+              let q = least-only (behind day i last) (neighbourKey day i) (stops day) _ _ (least-is (behind day i last) (neighbourKey day i) (stops day)) (found-behind last x h l) in
+              let p = h .positive l in
+              record {
+                stop = rw (ne-eqb x noKey (λ e. omega arith)) (q ∙ sym (ap (λ (y : ℕ). y % 256) (sym (found-key last x h l)) ∙ key-stop day i (h .stop) (omega (arith, h .within l))));
+                none = λ z. absurd (omega arith);
+                some = λ n. ap (neighbourKey day i) q ∙ found-key last x h l;
+              }
+
+  -- nothing is above what stands for none
+  above-no-key : leastAbove keys noKey (stops day) ≡ noKey
+  above-no-key = go (above-is keys noKey (stops day))
+    where
+      go : {x : ℕ} → IsAbove keys noKey (stops day) x → x ≡ noKey
+      go {x = x} h = at-end (eq-or-lt-of-le (h .most))
+        where
+          at-end : (x ≡ noKey) ⊎ (x < noKey) → x ≡ noKey
+          at-end (inl e) = e
+          at-end (inr l) = absurd (omega (arith, h .above l))
+
+  -- the first step of many
+  after-first : (last r : ℕ) → keyAfter keys (stops day) last (suc r) ≡ keyAfter keys (stops day) (leastAbove keys last (stops day)) r
+  unfolding keyAfter
+  after-first last zero = refl
+  after-first last (suc r) = ap (λ (x : ℕ). leastAbove keys x (stops day)) (after-first last r)
+
+  after-none : (r : ℕ) → keyAfter keys (stops day) noKey r ≡ noKey
+  unfolding keyAfter
+  after-none zero = refl
+  after-none (suc r) = ap (λ (x : ℕ). leastAbove keys x (stops day)) (after-none r) ∙ above-no-key
+
+  none-stop : stopOfKey noKey ≡ 0
+  unfolding stopOfKey
+  none-stop = refl
+
+  neighbours-by : (K last r : ℕ) → r < K → getD (neighboursAfter day i K last) r 0 ≡ stopOfKey (keyAfter keys (stops day) last (suc r))
+  unfolding neighboursAfter keyAfter
+  neighbours-by zero last r h = absurd (omega arith)
+  neighbours-by (suc more) last r h = go (eqb (nextNeighbour day i last) 0) refl r h (λ s g. neighbours-by more (neighbourKey day i (nextNeighbour day i last)) s g)
+    where
+      j : Joins day i last (leastAbove keys last (stops day))
+      j = joins last
+
+      go : (b : Bool) → eqb (nextNeighbour day i last) 0 ≡ b → (r : ℕ) → r < suc more
+          → ((s : ℕ) → s < more → getD (neighboursAfter day i more (neighbourKey day i (nextNeighbour day i last))) s 0
+          ≡ stopOfKey (keyAfter keys (stops day) (neighbourKey day i (nextNeighbour day i last)) (suc s)))
+          → getD (elim b [ true ↦ [] | false ↦ nextNeighbour day i last ∷ neighboursAfter day i more (neighbourKey day i (nextNeighbour day i last)) ]) r 0
+          ≡ stopOfKey (keyAfter keys (stops day) last (suc r))
+      go true e r h rest =
+          let n = j .none (eqb-true (nextNeighbour day i last) 0 e) in
+          sym (ap stopOfKey (after-first last r ∙ ap (λ (x : ℕ). keyAfter keys (stops day) x r) n ∙ after-none r) ∙ none-stop)
+      go false e zero h rest = j .stop
+      go false e (suc r) h rest =
+          let n = j .some (eqb-false (nextNeighbour day i last) 0 e) in
+          rest r (omega arith) ∙ ap (λ (x : ℕ). stopOfKey (keyAfter keys (stops day) x (suc r))) n ∙ sym (ap stopOfKey (after-first last (suc r)))
+
+-- the next key, and a row as it is written
+pub key-first : (keys : List ℕ) (n : ℕ) → 0 ≡ keyAfter keys n 0 0
+unfolding keyAfter
+key-first keys n = refl
+
+pub key-next : (keys : List ℕ) (n r last : ℕ) {next : ℕ} → last ≡ keyAfter keys n 0 r → next ≡ leastAbove keys last n → next ≡ keyAfter keys n 0 (r + 1)
+unfolding keyAfter
+key-next keys n r last e h = rw (add-one, keyAfter) (h ∙ ap (λ (x : ℕ). leastAbove keys x n) e)
+
+pub row-none : (keys : List ℕ) (n i : ℕ) (table : List ℕ) → RowBy keys n 0 i table table
+row-none keys n i table = record { size = refl; row = λ r h. absurd (omega arith); kept = λ at h. refl }
+
+pub row-next : (keys : List ℕ) (n r i : ℕ) (before table : List ℕ) (last x : ℕ) → RowBy keys n r i before table → length before ≡ 12050 → r < 50 → i ≤ 240
+    → last ≡ keyAfter keys n 0 (r + 1) → x ≡ stopOfKey last → RowBy keys n (r + 1) i before (set table (50 * i + r) x)
+row-next keys n r i before table last x w long few in-table e f = record {
+  size = length-set table (50 * i + r) x ∙ w .size;
+  row = λ s h. go s h (ℕ-discrete s r);
+  kept = λ at h. getD-set-other table (50 * i + r) at x 0 (λ q. omega arith) ∙ w .kept at h;
+}
+  where
+    go : (s : ℕ) → s < r + 1 → Dec (s ≡ r) → getD (set table (50 * i + r) x) (50 * i + s) 0 ≡ stopOfKey (keyAfter keys n 0 (suc s))
+    go s h (yes q) = rw q (getD-set-same table (50 * i + r) x 0 (omega (arith, w .size)) ∙ f ∙ ap stopOfKey (e ∙ ap (keyAfter keys n 0) (add-one r)))
+    go s h (no q) = getD-set-other table (50 * i + r) (50 * i + s) x 0 (λ g. q (omega arith)) ∙ w .row s (omega arith)
+
+pub row-all : (keys : List ℕ) (n r k i : ℕ) (before table : List ℕ) → RowBy keys n r i before table → r ≤ k → k ≤ r → RowBy keys n k i before table
+row-all keys n r k i before table w a b = let e : k ≡ r = omega arith in rw e w
+
+-- the row by the keys of stop i is the row of its neighbours
+pub row-of : (day : List ℕ) (z : Layout) (K i : ℕ) (keys before table : List ℕ) → LayoutOf day z → z .stops ≤ 240 → KeysTo day i (z .stops) keys
+    → RowBy keys (z .stops) K i before table → RowOf day K i before table
+unfolding neighbours
+row-of day z K i keys before table lay few k w = record {
+  size = w .size;
+  row = λ r h. w .row r h ∙ rw (lay .stopsAre) (sym (neighbours-by day i keys (omega (arith, lay .stopsAre)) (rw (lay .stopsAre) at k) K 0 r h));
+  kept = w .kept;
+}
+
+-- the rows so far
+pub rows-none : (day : List ℕ) (K : ℕ) (table : List ℕ) → length table ≡ 12050 → RowsTo day K 0 table
+rows-none day K table h = record { size = h; rows = λ i r p l g. absurd (omega arith) }
+
+pub rows-next : (day : List ℕ) (K n : ℕ) (before table : List ℕ) → K ≤ 50 → RowsTo day K n before → RowOf day K (n + 1) before table → RowsTo day K (n + 1) table
+rows-next day K n before table few t w = record { size = w .size ∙ t .size; rows = λ i r p l g. go i r p l g (ℕ-discrete i (n + 1)) }
+  where
+    go : (i r : ℕ) → 1 ≤ i → i ≤ n + 1 → r < K → Dec (i ≡ n + 1) → getD table (50 * i + r) 0 ≡ getD (neighbours day K i) r 0
+    go i r p l g (yes q) = rw q (w .row r g)
+    go i r p l g (no q) = w .kept (50 * i + r) (omega arith) ∙ t .rows i r p (omega arith) g
+
+pub rows-all : (day : List ℕ) (z : Layout) (K n : ℕ) (table : List ℕ) → LayoutOf day z → RowsTo day K n table → n ≤ z .stops → z .stops ≤ n → TableOf day K table
+rows-all day z K n table lay t a b = record { size = t .size; rows = λ i r p l g. t .rows i r p (omega (arith, lay .stopsAre)) g }

@@ -1,0 +1,2 @@
+// The neighbours of each stop.
+pub mod table;

@@ -1,0 +1,9 @@
+pub mod ListLength
+pub mod ListRests
+pub mod Listed
+pub mod PairRests
+pub mod RideLaws
+pub mod Shapes
+pub mod SurveyLaws
+pub mod TaskPlaces
+pub mod TipRests

@@ -1,0 +1,350 @@
+-- The tips of the trial list, one after the other: one law for each way through the functions that look for the next. The day may be any
+-- list of words.
+-- Assumes nothing.
+use Prim.Native.Nat.{ℕ, zero, suc, _+_, _-_, _≤_, _<_}
+use mathlib.Core.Path.{_≡_, refl, sym, ap, _∙_}
+use mathlib.Core.Bool.{true, false, true≢false}
+use mathlib.Core.List.{List, [], _∷_, _++_, map, append-assoc}
+use mathlib.Core.Logic.{inl, inr}
+use native.Mathlib.Numerals.{add-one}
+use native.Mathlib.Omega.{arith}
+use lib.Dec.{eqb, ltb}
+use lib.ListN.{length, getD, drop, take, drop-of-length-le, length-append, List·getD-eq-default}
+use lib.Seq.{drop-cons}
+use borrow.Author.Tests.{eq-eqb, ne-eqb, eqb-true, eqb-false, ltb-true, ltb-false}
+use Rattle.laws.specs.Lists.{Every}
+use Rattle.laws.specs.Tests.{if_then_else_}
+use Rattle.day.specs.Fields.{stops, tips}
+use Rattle.day.specs.declared.fields.Layout.{Layout}
+use Rattle.checker.specs.Plan.{Task, serve, empty, lunch, Round, taskWord, roundsWords, planWords, Known}
+use Rattle.checker.specs.PlanWords.{leftWord}
+use Rattle.builder.proofs.Decided.{known}
+use Rattle.walks.specs.Edits.{remove, replace, Trial, onOne}
+use Rattle.trial_list.specs.Listing.{Goes, atTip, nextTask, nextVehicle, TipTells, no-tip, a-tip, TipFits, TipsOf, tipsLeft, TipStep, TipSteps, TipAnswer}
+use Rattle.trial_list.specs.TrialList.{rising, otherTip, taskTrials, roundTrials, tipTrials}
+use Rattle.trial_list.specs.TrialRest.{trialOf, tipFrom, taskFrom, tasksFrom, tipRest}
+use Rattle.trial_list.specs.declared.listing.TipListed.{TipListed}
+use Rattle.trial_list.specs.declared.listing.TipPlace.{TipPlace}
+use Rattle.trial_list.proofs.PairRests.{every-at}
+use Rattle.trial_list.proofs.TaskPlaces.{word-at, starts-next, starts-within}
+
+-- the trials of one tip
+module _ (most number t y : ℕ) where
+  pub from-removal : tipFrom most number t y 0 ≡ onOne (remove t) number ∷ tipFrom most number t y 1
+  unfolding tipFrom
+  from-removal =
+      let e : most - 0 ≡ most = omega arith in
+      rw e refl
+
+  from-over : (x : ℕ) → 0 < x → most < x → tipFrom most number t y x ≡ []
+  unfolding tipFrom rising
+  from-over zero a h = absurd (omega arith)
+  from-over (suc x) a h =
+      let e : most - x ≡ 0 = omega arith in
+      rw e refl
+
+  from-here : (x : ℕ) → 0 < x → x ≤ most → tipFrom most number t y x ≡ otherTip number t y x ++ tipFrom most number t y (x + 1)
+  unfolding tipFrom rising
+  from-here zero a h = absurd (omega arith)
+  from-here (suc x) a h =
+      let e : most - x ≡ suc (most - suc x) = omega arith in
+      rw (add-one, e) refl
+
+  from-same : (x : ℕ) → 0 < x → x ≡ y → tipFrom most number t y x ≡ tipFrom most number t y (x + 1)
+  unfolding otherTip
+  from-same x a e = elim (known (ltb most x)) [
+    | inl l ↦ from-over x a (ltb-true most x l) ∙ sym (from-over (x + 1) (omega arith) (omega (arith, ltb-true most x l)))
+    | inr l ↦ from-here x a (ltb-false most x l) ∙ rw (eq-eqb x y e) refl
+  ]
+
+  from-other : (x : ℕ) → 0 < x → x ≤ most → (x ≡ y → ⊥) → tipFrom most number t y x ≡ onOne (replace t x) number ∷ tipFrom most number t y (x + 1)
+  unfolding otherTip
+  from-other x a h n = from-here x a h ∙ rw (ne-eqb x y n) refl
+
+  -- from the tip itself to the next
+  module _ (x k : ℕ) (a : 0 < x) (e : k ≡ (if eqb x y then x + 1 else x)) where
+    pub from-next : k ≤ most → tipFrom most number t y x ≡ onOne (replace t k) number ∷ tipFrom most number t y (k + 1)
+    from-next h = elim (known (eqb x y)) [
+      | inl b ↦
+          let f : k ≡ x + 1 = e ∙ rw b refl in
+          let same = eqb-true x y b in
+          rw f (from-same x a same ∙ from-other (x + 1) (omega arith) (omega arith) (λ q. omega arith))
+      | inr b ↦
+          let f : k ≡ x = e ∙ rw b refl in
+          rw f (from-other x a (omega arith) (eqb-false x y b))
+    ]
+
+    pub from-none : most < k → tipFrom most number t y x ≡ []
+    from-none h = elim (known (eqb x y)) [
+      | inl b ↦
+          let f : k ≡ x + 1 = e ∙ rw b refl in
+          from-same x a (eqb-true x y b) ∙ from-over (x + 1) (omega arith) (omega arith)
+      | inr b ↦
+          let f : k ≡ x = e ∙ rw b refl in
+          from-over x a (omega arith)
+    ]
+
+-- what is said of a tip
+module _ (most y : ℕ) (q : TipPlace) (r : TipListed) where
+  pub tells-removal : q .tip ≡ 0 → r .found ≡ true → trialOf (r .trial) ≡ onOne (remove (q .task)) (q .vehicle + 1) → r .next ≡ atTip q 1 → TipTells most y q r
+  tells-removal e f m n =
+      let number = suc (q .vehicle) in
+      a-tip r 1 f
+      (ap (tipFrom most number (q .task) y) e ∙ from-removal most number (q .task) y
+      ∙ ap (λ (k : ℕ). onOne (remove (q .task)) k ∷ tipFrom most number (q .task) y 1) (sym (add-one (q .vehicle)))
+      ∙ ap (λ (x : Trial). x ∷ tipFrom most number (q .task) y 1) (sym m)) n
+
+  pub tells-other : (k : ℕ) → (q .tip ≡ 0 → ⊥) → k ≡ (if eqb (q .tip) y then q .tip + 1 else q .tip) → k ≤ most
+      → r .found ≡ true → trialOf (r .trial) ≡ onOne (replace (q .task) k) (q .vehicle + 1) → r .next ≡ atTip q (k + 1) → TipTells most y q r
+  tells-other k z e h f m n =
+      let number = suc (q .vehicle) in
+      a-tip r (k + 1) f
+      (from-next most number (q .task) y (q .tip) k (omega arith) e h
+      ∙ ap (λ (o : ℕ). onOne (replace (q .task) k) o ∷ tipFrom most number (q .task) y (k + 1)) (sym (add-one (q .vehicle)))
+      ∙ ap (λ (x : Trial). x ∷ tipFrom most number (q .task) y (k + 1)) (sym m)) n
+
+  pub tells-none : (k : ℕ) → (q .tip ≡ 0 → ⊥) → k ≡ (if eqb (q .tip) y then q .tip + 1 else q .tip) → most < k
+      → (r .found ≡ false) × (r .next ≡ nextTask q) → TipTells most y q r
+  tells-none k z e h f = no-tip r (f .0) (from-none most (suc (q .vehicle)) (q .task) y (q .tip) k (omega arith) e h) (f .1)
+
+-- the tips of a plan
+module _ (day : List ℕ) (rounds : List Round) where
+  all-trials : (number t : ℕ) (task : Task) → taskFrom (tips day) number t 0 task ≡ taskTrials day number t task
+  unfolding taskFrom tipFrom taskTrials
+  all-trials number t (serve k) = refl
+  all-trials number t (empty y) = refl
+  all-trials number t lunch = refl
+
+  all-tasks : (number t : ℕ) (tasks : Round) → tasksFrom day number t 0 tasks ≡ roundTrials day number t tasks
+  unfolding tasksFrom roundTrials
+  all-tasks number t [] = refl
+  all-tasks number t (task ∷ tasks) = rw (all-trials number t task) refl
+
+  -- behind the last vehicle there is none
+  pub tips-over : (q : TipPlace) → length rounds ≤ q .vehicle → tipRest day rounds q ≡ []
+  unfolding tipRest tasksFrom tipTrials
+  tips-over q h = rw (List·getD-eq-default rounds [] h, drop-of-length-le rounds {i = suc (q .vehicle)} (omega arith), drop-of-length-le {A = Task} [] {i = q .task} (omega arith)) refl
+
+  pub all-vehicles : (v : ℕ) → tipRest day rounds (record { vehicle = v; task = 0; tip = 0 }) ≡ tipTrials day v (drop v rounds)
+  unfolding tipRest tipTrials
+  all-vehicles v = elim (known (ltb v (length rounds))) [
+    | inl e ↦ rw (drop-cons rounds v [] (ltb-true _ _ e), all-tasks (suc v) 0 (getD rounds v [])) refl
+    | inr e ↦ tips-over (record { vehicle = v; task = 0; tip = 0 }) (ltb-false _ _ e) ∙ rw (drop-of-length-le rounds (ltb-false _ _ e)) refl
+  ]
+
+  module _ (q : TipPlace) where
+    abbrev its : Round
+    its = getD rounds (q .vehicle) []
+
+    pub tasks-over : length its ≤ q .task → tipRest day rounds q ≡ tipRest day rounds (nextVehicle q)
+    unfolding tipRest tasksFrom
+    tasks-over h =
+        rw (drop-of-length-le its h)
+        (sym (all-vehicles (q .vehicle + 1) ∙ ap (λ (v : ℕ). tipTrials day v (drop v rounds)) (add-one (q .vehicle))))
+
+    pub task-at : q .task < length its
+        → tipRest day rounds q ≡ taskFrom (tips day) (suc (q .vehicle)) (q .task) (q .tip) (getD its (q .task) lunch) ++ tipRest day rounds (nextTask q)
+    unfolding tipRest tasksFrom
+    task-at h =
+        let number = suc (q .vehicle) in
+        let here = taskFrom (tips day) number (q .task) (q .tip) (getD its (q .task) lunch) in
+        let others = tipTrials day number (drop number rounds) in
+        ap (λ (ts : Round). tasksFrom day number (q .task) (q .tip) ts ++ others) (drop-cons its (q .task) lunch h)
+        ∙ append-assoc here (roundTrials day number (suc (q .task)) (drop (suc (q .task)) its)) others
+        ∙ ap (λ (ms : List Trial). here ++ (ms ++ others)) (sym (all-tasks number (suc (q .task)) (drop (suc (q .task)) its)))
+        ∙ ap (λ (k : ℕ). here ++ (tasksFrom day number k 0 (drop k its) ++ others)) (sym (add-one (q .task)))
+
+-- the words of a stop and of a rest have no trials, those of a tip have its own
+low-word : (day : List ℕ) (w number t x : ℕ) (task : Task) → w < 3221225472 → w ≡ taskWord task → taskFrom (tips day) number t x task ≡ []
+unfolding taskFrom taskWord
+low-word day w number t x (serve k) h e = refl
+low-word day w number t x (empty y) h e = absurd (omega arith)
+low-word day w number t x lunch h e = absurd (omega arith)
+
+high-word : (day : List ℕ) (w number t x : ℕ) (task : Task) → stops day ≤ 240 → Known day task → 3489660928 ≤ w → w ≡ taskWord task → taskFrom (tips day) number t x task ≡ []
+unfolding taskFrom taskWord Known
+high-word day w number t x (serve k) m n h e = absurd (omega arith)
+high-word day w number t x (empty y) m n h e = absurd (omega arith)
+high-word day w number t x lunch m n h e = refl
+
+tip-word : (day : List ℕ) (w number t x : ℕ) (task : Task) → stops day ≤ 240 → Known day task → 3221225472 ≤ w → w < 3489660928 → w ≡ taskWord task
+    → taskFrom (tips day) number t x task ≡ tipFrom (tips day) number t (w - 3221225472) x
+unfolding taskFrom taskWord Known
+tip-word day w number t x (serve k) m n h l e = absurd (omega arith)
+tip-word day w number t x (empty y) m n h l e =
+    let f : w - 3221225472 ≡ y = omega arith in
+    rw f refl
+tip-word day w number t x lunch m n h l e = absurd (omega arith)
+
+-- by the tables
+module _ (z : Layout) (starts plan : List ℕ) (count : ℕ) (s : TipsOf z starts plan count) where
+  module _ (v : ℕ) (h : v < count) where
+    start-at : getD starts v 0 ≡ length (roundsWords 0 (take v (s .rounds)))
+    start-at = s .starting v (omega (arith, s .counted))
+
+    next-at : getD starts (v + 1) 0 ≡ length (roundsWords 0 (take (v + 1) (s .rounds)))
+    next-at = s .starting (v + 1) (omega (arith, s .counted))
+
+    pub end-at : getD starts (v + 1) 0 ≡ getD starts v 0 + length (getD (s .rounds) v []) + 2
+    end-at =
+        let e = next-at ∙ ap (λ (k : ℕ). length (roundsWords 0 (take k (s .rounds)))) (add-one v) ∙ starts-next 0 (s .rounds) v (omega (arith, s .counted)) in
+        omega (arith, e, start-at)
+
+    pub end-within : getD starts (v + 1) 0 ≤ length plan
+    unfolding planWords
+    end-within =
+        omega (
+          arith,
+          next-at,
+          starts-within 0 (s .rounds) (v + 1),
+          length-append (roundsWords 0 (s .rounds)) (map leftWord (s .lefts)),
+          ap (length {A = ℕ}) (s .text),
+        )
+
+  module _ (q : TipPlace) (h : q .vehicle < count) (l : q .task < length (getD (s .rounds) (q .vehicle) [])) where
+    abbrev task : Task
+    task = getD (getD (s .rounds) (q .vehicle) []) (q .task) lunch
+
+    its-word : (w : ℕ) → w ≡ getD plan (getD starts (q .vehicle) 0 + 1 + q .task) 0 → w ≡ taskWord task
+    unfolding planWords
+    its-word w e =
+        e
+        ∙ ap (λ (ws : List ℕ). getD ws (getD starts (q .vehicle) 0 + 1 + q .task) 0) (s .text)
+        ∙ word-at 0 (s .rounds) (q .vehicle) (q .task) (getD starts (q .vehicle) 0 + 1 + q .task) (map leftWord (s .lefts)) (omega (arith, s .counted)) l
+        (omega (arith, start-at (q .vehicle) h))
+
+    is-known : Known (s .day) task
+    is-known =
+        every-at (Known (s .day)) (getD (s .rounds) (q .vehicle) []) (q .task) lunch
+        (every-at (Every (Known (s .day))) (s .rounds) (q .vehicle) [] (s .known) (omega (arith, s .counted))) l
+
+    -- a task without trials
+    passes : (r : TipListed) → taskFrom (tips (s .day)) (suc (q .vehicle)) (q .task) (q .tip) task ≡ [] → r .found ≡ false → r .next ≡ nextTask q
+        → Goes (tipRest (s .day) (s .rounds)) q (r .found) (r .trial) (r .next)
+    passes r e f n =
+        record {
+          some = λ t. absurd (true≢false (sym t ∙ f));
+          none = λ t.
+              task-at (s .day) (s .rounds) q l
+              ∙ ap (λ (ms : List Trial). ms ++ tipRest (s .day) (s .rounds) (nextTask q)) e
+              ∙ ap (tipRest (s .day) (s .rounds)) (sym n);
+        }
+
+    -- a tip
+    tip-goes : (y : ℕ) (r : TipListed) → ((x : ℕ) → taskFrom (tips (s .day)) (suc (q .vehicle)) (q .task) x task ≡ tipFrom (tips (s .day)) (suc (q .vehicle)) (q .task) y x)
+        → TipTells (tips (s .day)) y q r → Goes (tipRest (s .day) (s .rounds)) q (r .found) (r .trial) (r .next)
+    tip-goes y r same (no-tip _ f e n) = passes r (same (q .tip) ∙ e) f n
+    tip-goes y r same (a-tip _ x f e n) =
+        let others = tipRest (s .day) (s .rounds) (nextTask q) in
+        record {
+          some = λ t.
+              task-at (s .day) (s .rounds) q l
+              ∙ ap (λ (ms : List Trial). ms ++ others) (same (q .tip) ∙ e)
+              ∙ ap (λ (ms : List Trial). trialOf (r .trial) ∷ (ms ++ others)) (sym (same x))
+              ∙ ap (λ (ms : List Trial). trialOf (r .trial) ∷ ms) (sym (task-at (s .day) (s .rounds) (atTip q x) l))
+              ∙ ap (λ (p : TipPlace). trialOf (r .trial) ∷ tipRest (s .day) (s .rounds) p) (sym n);
+          none = λ t. absurd (true≢false (sym f ∙ t));
+        }
+
+-- one step over the tips
+module _ (z : Layout) (starts plan : List ℕ) (q : TipPlace) (r : TipListed) (a b : ℕ) (ea : a ≡ getD starts (q .vehicle) 0) (eb : b ≡ getD starts (q .vehicle + 1) 0) where
+  pub vehicle-ends : a + 1 + q .task + 1 ≡ b → (r .found ≡ false) × (r .next ≡ nextVehicle q) → TipSteps z starts plan q r
+  vehicle-ends e n = λ count s h f.
+      let end = end-within z starts plan count s (q .vehicle) h in
+      record {
+        goes = λ s.
+            record {
+              some = λ t. absurd (true≢false (sym t ∙ n .0));
+              none = λ t.
+                  tasks-over (s .day) (s .rounds) q (omega (arith, end-at z starts plan count s (q .vehicle) h)) ∙ ap (tipRest (s .day) (s .rounds)) (sym (n .1));
+            };
+        fits = rw (n .1) (λ l. omega (arith, end-at z starts plan count s (q .vehicle + 1) l));
+        falls = λ t. rw (n .1) (omega (arith, end));
+      }
+
+  -- at a task
+  module _ (w : ℕ) (more : a + 1 + q .task + 1 ≡ b → ⊥) (ew : w ≡ getD plan (a + 1 + q .task) 0) where
+    inside : (count : ℕ) (s : TipsOf z starts plan count) → q .vehicle < count → TipFits starts count q → q .task < length (getD (s .rounds) (q .vehicle) [])
+    inside count s h f = omega (arith, f h, end-at z starts plan count s (q .vehicle) h)
+
+    word-here : w ≡ getD plan (getD starts (q .vehicle) 0 + 1 + q .task) 0
+    word-here = ew ∙ ap (λ (k : ℕ). getD plan (k + 1 + q .task) 0) ea
+
+    -- the next task fits, and there are fewer words behind it
+    next-fits : (count : ℕ) → TipFits starts count q → r .next ≡ nextTask q → TipFits starts count (r .next)
+    next-fits count f n = rw n (λ l. omega (arith, f l))
+
+    next-falls : (count : ℕ) → TipsOf z starts plan count → q .vehicle < count → TipFits starts count q → r .next ≡ nextTask q → tipsLeft starts plan (r .next) < tipsLeft starts plan q
+    next-falls count s h f n = rw n (omega (arith, f h, end-within z starts plan count s (q .vehicle) h))
+
+    pub low-passes : w < 3221225472 → (r .found ≡ false) × (r .next ≡ nextTask q) → TipSteps z starts plan q r
+    low-passes low n = λ count s h f.
+        record {
+          goes = λ s.
+              let l = inside count s h f in
+              passes z starts plan count s q h l r
+              (low-word (s .day) w (suc (q .vehicle)) (q .task) (q .tip) (task z starts plan count s q h l) low (its-word z starts plan count s q h l w word-here)) (n .0) (n .1);
+          fits = next-fits count f (n .1);
+          falls = λ t. next-falls count s h f (n .1);
+        }
+
+    pub high-passes : 3489660928 ≤ w → (r .found ≡ false) × (r .next ≡ nextTask q) → TipSteps z starts plan q r
+    high-passes high n = λ count s h f.
+        record {
+          goes = λ s.
+              let l = inside count s h f in
+              passes z starts plan count s q h l r
+              (high-word (s .day) w (suc (q .vehicle)) (q .task) (q .tip) (task z starts plan count s q h l) (s .most) (is-known z starts plan count s q h l) high
+              (its-word z starts plan count s q h l w word-here)) (n .0) (n .1);
+          fits = next-fits count f (n .1);
+          falls = λ t. next-falls count s h f (n .1);
+        }
+
+    tells-fits : (count : ℕ) (y : ℕ) → TipsOf z starts plan count → q .vehicle < count → TipFits starts count q → TipTells (z .tips) y q r → TipFits starts count (r .next)
+    tells-fits count y s h f (no-tip _ e n m) = next-fits count f m
+    tells-fits count y s h f (a-tip _ x e n m) = rw m (λ l. f l)
+
+    tells-next : (y : ℕ) → TipTells (z .tips) y q r → r .found ≡ false → r .next ≡ nextTask q
+    tells-next y (no-tip _ e n m) t = m
+    tells-next y (a-tip _ x e n m) t = absurd (true≢false (sym e ∙ t))
+
+    pub tip-steps : 3221225472 ≤ w → w < 3489660928 → TipTells (z .tips) (w - 3221225472) q r → TipSteps z starts plan q r
+    tip-steps low high tells = λ count s h f.
+        record {
+          goes = λ s.
+              let l = inside count s h f in
+              tip-goes z starts plan count s q h l (w - 3221225472) r
+              (λ x. tip-word (s .day) w (suc (q .vehicle)) (q .task) x (task z starts plan count s q h l) (s .most) (is-known z starts plan count s q h l) low high
+              (its-word z starts plan count s q h l w word-here))
+              (rw (s .layout .tipsAre) at tells);
+          fits = tells-fits count (w - 3221225472) s h f tells;
+          falls = λ t. next-falls count s h f (tells-next (w - 3221225472) tells t);
+        }
+
+-- the next trial of a tip
+module _ (z : Layout) (starts plan : List ℕ) (count : ℕ) (q : TipPlace) where
+  -- so many tasks are passed over
+  abbrev pub Passed : TipPlace → Type 0
+  Passed p = (s : TipsOf z starts plan count) → tipRest (s .day) (s .rounds) q ≡ tipRest (s .day) (s .rounds) p
+
+  pub pass-on : (p : TipPlace) (r : TipListed) → Passed p → TipStep z starts plan count p r → r .found ≡ false → Passed (r .next)
+  pass-on p r h step f = λ s. h s ∙ step .goes s .none f
+
+  pub tip-found : (p : TipPlace) (r : TipListed) → Passed p → TipStep z starts plan count p r → r .found ≡ true → TipAnswer z starts plan count q r
+  tip-found p r h step f =
+      record {
+        tells = λ s. record { some = λ t. h s ∙ step .goes s .some t; none = λ t. absurd (true≢false (sym f ∙ t)) };
+        fits = step .fits;
+      }
+
+  pub tips-end : (p : TipPlace) (r : TipListed) → Passed p → count ≤ p .vehicle → (r .found ≡ false) × (r .next ≡ p) → TipAnswer z starts plan count q r
+  tips-end p r h l e =
+      record {
+        tells = λ s.
+            let over = tips-over (s .day) (s .rounds) p (omega (arith, s .counted)) in
+            record {
+              some = λ t. absurd (true≢false (sym t ∙ e .0));
+              none = λ t. (h s ∙ over, ap (tipRest (s .day) (s .rounds)) (e .1) ∙ over);
+            };
+        fits = rw (e .1) (λ t. absurd (omega arith));
+      }

@@ -1,0 +1,49 @@
+-- `trial_list::listing::next_pair` meets its contract.
+use borrow.Author.Needs.{needs}
+use Prim.Native.Nat.{_≤_}
+use mathlib.Core.Path.{refl}
+use Rattle.trial_list.proofs.PairRests.{Passed, pass-on, pair-found, pairs-end}
+use Rattle.trial_list.specs.Listing.{pairsLeft}
+use Rattle.trial_list.proofs.listing.next_pair.Statement.{statement}
+use Rattle.trial_list.proofs.listing.next_pair.Tie as tie
+
+abbrev Inv-loop : tie.InvT-loop
+Inv-loop z k table vehicles stops q₀ q = (1 ≤ q .stop) × Passed z k table vehicles q₀ q
+
+abbrev μ-loop : tie.MeasureT-loop
+μ-loop z k table vehicles stops q₀ q = pairsLeft (z .stops) k q
+
+loop-holds : tie.Need-loop-holds Inv-loop μ-loop
+loop-holds c = (search needs, λ s. refl)
+
+pair-at-requires : tie.Need-pair-at-requires Inv-loop μ-loop
+pair-at-requires c κs = search needs
+
+returns : tie.Need-returns Inv-loop μ-loop
+returns c = pair-found _ _ _ _ _ _ _ (c .before .before .before .before .loop .inv .1) (c .before .pair-at .ensures) (c .if2 .taken)
+
+loop-less : tie.Need-loop-less Inv-loop μ-loop
+loop-less c = c .before .before .pair-at .ensures .falls (c .before .if2 .left)
+
+loop-again : tie.Need-loop-again Inv-loop μ-loop
+loop-again c = (c .before .before .pair-at .ensures .first, pass-on _ _ _ _ _ _ _ (c .before .before .before .before .before .loop .inv .1) (c .before .before .pair-at .ensures) (c .before .if2 .left))
+
+no-pair-requires : tie.Need-no-pair-requires Inv-loop μ-loop
+no-pair-requires c κs = search needs
+
+returns-2 : tie.Need-returns-2 Inv-loop μ-loop
+returns-2 c = pairs-end _ _ _ _ _ _ _ (c .before .before .before .loop .inv .1) (c .before .before .before .loop .inv .0) (c .before .if1 .left) (c .no-pair .ensures)
+
+pub next-pair-spec : {M : Type 1} → statement M
+next-pair-spec =
+    tie.close
+    (tie.spec
+    Inv-loop
+    μ-loop
+    loop-holds
+    pair-at-requires
+    returns
+    loop-less
+    loop-again
+    no-pair-requires
+    returns-2)

@@ -1,0 +1,47 @@
+-- `trial_list::survey::clear` meets its contract.
+use borrow.Author.Needs.{needs}
+use Prim.Native.Nat.{_-_, _≤_}
+use Rattle.trial_list.proofs.SurveyLaws.{Cleared, cleared-none, cleared-next, cleared-all}
+use Rattle.trial_list.proofs.survey.clear.Statement.{statement}
+use Rattle.trial_list.proofs.survey.clear.Tie as tie
+
+abbrev Inv-loop : tie.InvT-loop
+Inv-loop vehicles₀ k₀ vehicles k = (k ≤ 256) × Cleared k vehicles
+
+abbrev μ-loop : tie.MeasureT-loop
+μ-loop vehicles₀ k₀ vehicles k = 256 - k
+
+loop-holds : tie.Need-loop-holds Inv-loop μ-loop
+loop-holds c = (search needs, search cleared-none)
+
+slice-write-vehicles : tie.Need-slice-write-vehicles Inv-loop μ-loop
+slice-write-vehicles c = search needs
+
+add-k : tie.Need-add-k Inv-loop μ-loop
+add-k c = search needs
+
+loop-less : tie.Need-loop-less Inv-loop μ-loop
+loop-less c = search needs
+
+loop-again : tie.Need-loop-again Inv-loop μ-loop
+loop-again c = (search needs, search cleared-next)
+
+same-length : tie.Need-same-length Inv-loop μ-loop
+same-length c = search needs
+
+returns : tie.Need-returns Inv-loop μ-loop
+returns c = cleared-all _ _ (c .before .loop .inv .1) (c .loop-test .left)
+
+pub clear-spec : {M : Type 1} → statement M
+clear-spec =
+    tie.close
+    (tie.spec
+    Inv-loop
+    μ-loop
+    loop-holds
+    slice-write-vehicles
+    add-k
+    loop-less
+    loop-again
+    same-length
+    returns)

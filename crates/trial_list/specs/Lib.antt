@@ -1,0 +1,5 @@
+pub mod Listing
+pub mod Shapes
+pub mod Survey
+pub mod TrialList
+pub mod TrialRest

@@ -1,0 +1,248 @@
+-- A vehicle while it is walked again: each task that is written keeps it standing, and its numbers small. Assumes nothing.
+use Prim.Native.Nat.{ℕ, _+_, _≤_, _<_}
+use mathlib.Core.Path.{_≡_, refl, sym, ap, _∙_, subst}
+use mathlib.Core.Bool.{true, false}
+use mathlib.Core.List.{List, [], _∷_, _++_, map, map-append}
+use mathlib.Core.Option.{none, some}
+use native.Mathlib.Omega.{arith}
+use lib.ListN.{length, length-append, length-map, set}
+use borrow.Author.Tests.{ne-eqb}
+use Rattle.laws.specs.Buffer.{Wrote}
+use Rattle.laws.proofs.Buffer.{wrote-put, wrote-same}
+use Rattle.day.specs.Accepted.{IsAccepted}
+use Rattle.day.proofs.Ranges.{accepted-ranges}
+use Rattle.day.specs.Fields.{stops, tips, stopPlace, quantity}
+use Rattle.checker.specs.Cargo.{cargoAfter}
+use Rattle.checker.specs.Plan.{Task, serve, empty, lunch, Round, taskWord, stopsOn}
+use Rattle.checker.specs.PlanWords.{vehicleWord, stopWord, tipWord, restWord}
+use Rattle.checker.specs.Trip.{visited}
+use Rattle.checker.specs.declared.walk.Trip.{Trip}
+use Rattle.builder.specs.Build.{Truck, doing, resting}
+use Rattle.builder.specs.Home.{due, restIfDue}
+use Rattle.builder.specs.Tips.{nearestTip}
+use Rattle.builder.specs.States.{SmallTrip}
+use Rattle.builder.proofs.Decided.{bit-most}
+use Rattle.builder.proofs.GreedyRoom.{paid-rest, paid-serve, paid-empty, tasks-counted}
+use Rattle.builder.proofs.VehicleStops.{stops-append}
+use Rattle.walks.specs.Walk.{inserting}
+use Rattle.walks.specs.Cabs.{Modest, Standing, Stands, failed, onRoad, SomeStanding, Drives}
+use Rattle.walks.specs.declared.cabs.Cab.{Cab}
+
+-- how many words there are, and that there is room for one more
+pub record Space (part : List ℕ) (at : ℕ) : Type 0 where
+  pub inside : at < length part
+  pub few : at ≤ 482
+
+module _ {day : List ℕ} {number most more : ℕ} {p part : List ℕ} {v : Truck} {c : Cab} where
+  standing-tasks : Standing day number most more p part v c → length (v .tasks) ≤ 481
+  standing-tasks s =
+      let once = bit-most (v .trip .rested) in
+      omega (arith, tasks-counted (v .tasks), s .paid .tips, s .paid .rests, s .served, s .few, s .limit)
+
+  pub standing-space : Standing day number most more p part v c → Space part (c .at)
+  standing-space s =
+      let once = bit-most (v .trip .rested) in
+      let size = length-map (v .tasks) taskWord in
+      record {
+        inside = omega (arith, size, s .text .count, s .text .size, tasks-counted (v .tasks), s .paid .tips, s .paid .rests, s .served, s .few, s .room);
+        few = omega (arith, size, s .text .count, standing-tasks s);
+      }
+
+  -- the trip that the code carries is small
+  pub standing-trip : Standing day number most more p part v c → SmallTrip day 2147483648 (c .trip)
+  standing-trip s =
+      subst (SmallTrip day 2147483648) (sym (s .tripIs))
+      (record {
+        place = s .modest .place;
+        minute = omega (arith, s .modest .minute, standing-tasks s);
+        distance = omega (arith, s .modest .distance, standing-tasks s);
+      })
+
+  pub standing-load : Standing day number most more p part v c → c .load < 134217728
+  standing-load s = omega (arith, s .loadIs, s .modest .load, standing-tasks s)
+
+-- it may serve as many stops or fewer
+pub standing-fewer : {day : List ℕ} {number most more less : ℕ} {p part : List ℕ} {v : Truck} {c : Cab} → less ≤ more
+    → Standing day number most more p part v c → Standing day number most less p part v c
+standing-fewer l s =
+    record {
+      going = s .going;
+      tripIs = s .tripIs;
+      loadIs = s .loadIs;
+      text = s .text;
+      modest = s .modest;
+      paid = s .paid;
+      served = s .served;
+      few = omega (arith, s .few);
+      limit = s .limit;
+      room = s .room;
+    }
+
+-- a word more
+task-written : (number : ℕ) {word : ℕ} {p part : List ℕ} {at : ℕ} (tasks : Round) (task : Task)
+    → Wrote (vehicleWord number ∷ map taskWord tasks) p part at → at < length part → word ≡ taskWord task
+    → Wrote (vehicleWord number ∷ map taskWord (tasks ++ (task ∷ []))) p (set part at word) (at + 1)
+task-written number {word} tasks task w l e =
+    wrote-same (wrote-put w word (omega (arith, w .size)))
+    (ap (λ (ws : List ℕ). vehicleWord number ∷ ws) (ap (λ (b : ℕ). map taskWord tasks ++ (b ∷ [])) e ∙ sym (map-append taskWord tasks (task ∷ []))))
+    refl
+
+module _ (day : List ℕ) (ok : IsAccepted day) (v : Truck) where
+  modest-rest : Modest day v → Modest day (doing day v lunch)
+  unfolding cargoAfter
+  modest-rest m =
+      let a = accepted-ranges day ok in
+      let l = length-append (v .tasks) (lunch ∷ []) in
+      record {
+        place = m .place;
+        minute = omega (arith, m .minute, l, a .restMost);
+        distance = omega (arith, m .distance, l);
+        load = omega (arith, m .load, l);
+      }
+
+  modest-empty : (x : ℕ) → 0 < x → x ≤ tips day → Modest day v → Modest day (doing day v (empty x))
+  unfolding cargoAfter
+  modest-empty x h k m =
+      let a = accepted-ranges day ok in
+      let l = length-append (v .tasks) (empty x ∷ []) in
+      record {
+        place = omega arith;
+        minute = omega (arith, m .minute, l, a .serviceMost x h (omega arith));
+        distance = omega (arith, m .distance, l);
+        load = omega arith;
+      }
+
+  modest-serve : (k : ℕ) → 0 < k → k ≤ stops day → Modest day v → Modest day (doing day v (serve k))
+  unfolding cargoAfter
+  modest-serve k h g m =
+      let a = accepted-ranges day ok in
+      let l = length-append (v .tasks) (serve k ∷ []) in
+      record {
+        place = omega arith;
+        minute = omega (arith, m .minute, l, a .serviceMost (stopPlace day k) (omega arith) (omega arith));
+        distance = omega (arith, m .distance, l);
+        load = omega (arith, m .load, l, a .quantityMost k h g);
+      }
+
+-- a rest, a tip and a stop are written
+module _ {day : List ℕ} {number most : ℕ} {p part : List ℕ} {v : Truck} {c : Cab} (ok : IsAccepted day) where
+  pub standing-rest : {more : ℕ} (r : Cab) {now : List ℕ} → Standing day number most more p part v c → due day (v .trip) ≡ true
+      → r .stuck ≡ false → r .trip ≡ doing day v lunch .trip → r .load ≡ c .load → r .at ≡ c .at + 1 → now ≡ set part (c .at) (taskWord lunch)
+      → Standing day number most more p now (doing day v lunch) r
+  unfolding cargoAfter stopsOn
+  standing-rest r {now} s d g t l n w =
+      record {
+        going = g;
+        tripIs = t;
+        loadIs = l ∙ s .loadIs;
+        text = subst (λ (b : List ℕ). Wrote (vehicleWord number ∷ map taskWord (v .tasks ++ (lunch ∷ []))) p b (r .at)) (sym w)
+            (wrote-same (task-written number (v .tasks) lunch (s .text) (standing-space s .inside) refl) refl (sym n));
+        modest = modest-rest day ok v (s .modest);
+        paid = paid-rest day v d (s .paid);
+        served = omega (arith, s .served, ap length (stops-append (v .tasks) (lunch ∷ [])), length-append (stopsOn (v .tasks)) []);
+        few = s .few;
+        limit = s .limit;
+        room = s .room;
+      }
+
+  pub standing-empty : {more : ℕ} (r : Cab) {now : List ℕ} {word : ℕ} (x : ℕ) → Standing day number most more p part v c → 0 < c .load → 0 < x → x ≤ tips day
+      → r .stuck ≡ false → r .trip ≡ visited day (c .trip) x → r .load ≡ 0 → r .at ≡ c .at + 1 → word ≡ taskWord (empty x) → now ≡ set part (c .at) word
+      → Standing day number most more p now (doing day v (empty x)) r
+  unfolding cargoAfter stopsOn
+  standing-empty r {now} x s q h k g t l n e w =
+      record {
+        going = g;
+        tripIs = t ∙ ap (λ (u : Trip). visited day u x) (s .tripIs);
+        loadIs = l;
+        text = subst (λ (b : List ℕ). Wrote (vehicleWord number ∷ map taskWord (v .tasks ++ (empty x ∷ []))) p b (r .at)) (sym w)
+            (wrote-same (task-written number (v .tasks) (empty x) (s .text) (standing-space s .inside) e) refl (sym n));
+        modest = modest-empty day ok v x h k (s .modest);
+        paid = paid-empty day v x (omega (arith, s .loadIs)) (s .paid);
+        served = omega (arith, s .served, ap length (stops-append (v .tasks) (empty x ∷ [])), length-append (stopsOn (v .tasks)) []);
+        few = s .few;
+        limit = s .limit;
+        room = s .room;
+      }
+
+  pub standing-serve : {more : ℕ} (r : Cab) {now : List ℕ} {word q : ℕ} (k : ℕ) → Standing day number most (1 + more) p part v c → 0 < k → k ≤ stops day
+      → r .stuck ≡ false → r .trip ≡ visited day (c .trip) (stopPlace day k) → q ≡ quantity day (stopPlace day k) → r .load ≡ c .load + q
+      → r .at ≡ c .at + 1 → word ≡ taskWord (serve k) → now ≡ set part (c .at) word
+      → Standing day number most more p now (doing day v (serve k)) r
+  unfolding cargoAfter stopsOn
+  standing-serve r {now} k s h b g t q l n e w =
+      record {
+        going = g;
+        tripIs = t ∙ ap (λ (u : Trip). visited day u (stopPlace day k)) (s .tripIs);
+        loadIs = omega (arith, l, q, s .loadIs);
+        text = subst (λ (b : List ℕ). Wrote (vehicleWord number ∷ map taskWord (v .tasks ++ (serve k ∷ []))) p b (r .at)) (sym w)
+            (wrote-same (task-written number (v .tasks) (serve k) (s .text) (standing-space s .inside) e) refl (sym n));
+        modest = modest-serve day ok v k h b (s .modest);
+        paid = paid-serve day v k (s .paid);
+        served = omega (arith, s .served, ap length (stops-append (v .tasks) (serve k ∷ [])), length-append (stopsOn (v .tasks)) (k ∷ []));
+        few = omega (arith, s .few);
+        limit = s .limit;
+        room = s .room;
+      }
+
+-- a vehicle on its way is standing
+pub on-road : {day : List ℕ} {number most more : ℕ} {p part : List ℕ} {v : Truck} {c : Cab} → Stands day number most more p part (some v) c
+    → Standing day number most more p part v c
+on-road (onRoad v c s) = s
+
+-- a rest is taken where one is due
+pub rest-drives : {day part now : List ℕ} (c r : Cab) → IsAccepted day → due day (c .trip) ≡ true → r .stuck ≡ false → r .trip ≡ restIfDue day (c .trip)
+    → r .load ≡ c .load → r .at ≡ c .at + 1 → now ≡ set part (c .at) restWord
+    → Drives day 0 part c (λ v. some (resting day v)) now r
+unfolding restIfDue resting taskWord
+rest-drives {day} {part} {now} c r ok d g t l n w number most more p v s =
+    let e : due day (v .trip) ≡ true = ap (due day) (sym (s .tripIs)) ∙ d in
+    rw e (onRoad _ r (standing-rest ok r (standing-fewer (omega arith) s) e g (t ∙ rw (d, s .tripIs) refl) l n w))
+
+pub keep-drives : {day part : List ℕ} (c : Cab) → due day (c .trip) ≡ false → Drives day 0 part c (λ v. some (resting day v)) part c
+unfolding resting
+keep-drives {day} c d number most more p v s =
+    let e : due day (v .trip) ≡ false = ap (due day) (sym (s .tripIs)) ∙ d in
+    rw e (onRoad v c (standing-fewer (omega arith) s))
+
+-- the load is emptied at a tip, and a stop is served
+pub empty-drives : {day part now : List ℕ} (c r : Cab) {word : ℕ} (x : ℕ) → IsAccepted day → 0 < c .load → 0 < x → x ≤ tips day → r .stuck ≡ false
+    → r .trip ≡ visited day (c .trip) x → r .load ≡ 0 → r .at ≡ c .at + 1 → word ≡ tipWord x → now ≡ set part (c .at) word
+    → Drives day 0 part c (λ v. some (doing day v (empty x))) now r
+unfolding taskWord
+empty-drives c r x ok q h k g t l n e w number most more p v s = onRoad _ r (standing-empty ok r x (standing-fewer (omega arith) s) q h k g t l n e w)
+
+pub serve-drives : {day part now : List ℕ} (c r : Cab) {word q : ℕ} (k : ℕ) → IsAccepted day → 0 < k → k ≤ stops day → r .stuck ≡ false
+    → r .trip ≡ visited day (c .trip) (stopPlace day k) → q ≡ quantity day (stopPlace day k) → r .load ≡ c .load + q → r .at ≡ c .at + 1
+    → word ≡ stopWord k → now ≡ set part (c .at) word
+    → Drives day 1 part c (λ v. some (doing day v (serve k))) now r
+unfolding taskWord
+serve-drives c r k ok h b g t q l n e w number most more p v s = onRoad _ r (standing-serve ok r k s h b g t q l n e w)
+
+-- the nearest tip is inserted: there is none, or it is driven to and a rest taken where one is due
+pub insert-fails : {day part : List ℕ} (c r : Cab) {x : ℕ} → x ≡ nearestTip day (c .trip .place) (c .trip .minute) → x ≡ 0 → r .stuck ≡ true
+    → Drives day 0 part c (λ v. inserting day v (nearestTip day (v .trip .place) (v .trip .minute))) part r
+unfolding inserting
+insert-fails {day} c r e z g number most more p v s =
+    let n : nearestTip day (v .trip .place) (v .trip .minute) ≡ 0 = ap (λ (t : Trip). nearestTip day (t .place) (t .minute)) (sym (s .tripIs)) ∙ sym e ∙ z in
+    rw n (failed r g (s .text .size))
+
+pub insert-drives : {day part mid now : List ℕ} (c e r : Cab) {x : ℕ} → x ≡ nearestTip day (c .trip .place) (c .trip .minute) → (x ≡ 0 → ⊥)
+    → Drives day 0 part c (λ v. some (doing day v (empty x))) mid e → Drives day 0 mid e (λ v. some (resting day v)) now r
+    → Drives day 0 part c (λ v. inserting day v (nearestTip day (v .trip .place) (v .trip .minute))) now r
+unfolding inserting
+insert-drives {day} c e r {x} q z f g number most more p v s =
+    let n : nearestTip day (v .trip .place) (v .trip .minute) ≡ x = ap (λ (t : Trip). nearestTip day (t .place) (t .minute)) (sym (s .tripIs)) ∙ sym q in
+    rw (n, ne-eqb x 0 z) (g number most more p _ (standing-fewer (omega arith) (on-road (f number most more p v s))))
+
+-- there is still a vehicle behind a task that is done
+pub some-still : {day part now : List ℕ} {c e : Cab} {least : ℕ} (f : Truck → Truck) → SomeStanding day least part c
+    → Drives day 0 part c (λ v. some (f v)) now e → SomeStanding day least now e
+some-still {least = least} f s d =
+    record {
+      number = s .number;
+      most = s .most;
+      more = s .more;
+      p = s .p;
+      v = f (s .v);
+      standing = on-road (d (s .number) (s .most) (least + s .more) (s .p) (s .v) (standing-fewer (omega arith) (s .standing)));
+    }

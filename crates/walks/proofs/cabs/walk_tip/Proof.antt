@@ -1,0 +1,20 @@
+-- `walks::cabs::walk_tip` meets its contract.
+use Rattle.walks.proofs.WalkLaws.{tip-dropped, tip-driven}
+use borrow.Author.Needs.{needs}
+use Rattle.walks.proofs.cabs.walk_tip.Statement.{statement}
+use Rattle.walks.proofs.cabs.walk_tip.Tie as tie
+
+returns : tie.Need-returns
+returns c = tip-dropped _ (c .if1 .taken)
+
+empty-cab-requires : tie.Need-empty-cab-requires
+empty-cab-requires c κs = search needs
+
+same-length : tie.Need-same-length
+same-length c = search needs
+
+returns-2 : tie.Need-returns-2
+returns-2 c = tip-driven _ (c .before .before .before .before .if1 .left) (c .before .before .empty-cab .ensures)
+
+pub walk-tip-spec : {M : Type 1} → statement M
+walk-tip-spec = tie.close (tie.spec returns empty-cab-requires same-length returns-2)

@@ -1,0 +1,74 @@
+-- `walks::vehicle::walk_tasks` meets its contract.
+use Prim.Native.Nat.{ℕ, _+_, _-_, _*_, _≤_}
+use mathlib.Core.List.{List, [], _∷_}
+use native.Mathlib.Omega.{arith}
+use lib.ListN.{length}
+use Rattle.laws.specs.Buffer.{Wrote}
+use Rattle.laws.proofs.Buffer.{wrote-none, wrote-put}
+use Rattle.checker.specs.Plan.{Round}
+use Rattle.checker.specs.PlanWords.{vehicleWord}
+use Rattle.walks.specs.Rewalks.{editOf, steps, Walkable, Midway}
+use Rattle.walks.proofs.MidwayLaws.{midway-start, midway-word, midway-step, stands-size, midway-through, turns-left}
+use Rattle.walks.proofs.vehicle.walk_tasks.Statement.{statement}
+use Rattle.walks.proofs.vehicle.walk_tasks.Tie as tie
+
+abbrev Inv-loop : tie.InvT-loop
+Inv-loop day z e number tasks part₀ c₀ waiting₀ i₀ part c waiting i = (i ≤ length tasks) × ((p : List ℕ) (ts : Round) → Wrote (vehicleWord number ∷ []) p part₀ 1 → Walkable day (editOf e) tasks p ts → Midway day (editOf e) number p part ts i waiting c)
+
+abbrev μ-loop : tie.MeasureT-loop
+μ-loop day z e number tasks part₀ c₀ waiting₀ i₀ part c waiting i = 2 * length tasks + 2 - steps i waiting
+
+add-part : tie.Need-add-part Inv-loop μ-loop
+add-part c = omega (arith, c .before .before .before .pre .4)
+
+slice-write-part : tie.Need-slice-write-part Inv-loop μ-loop
+slice-write-part c = omega (arith, c .before .before .before .pre .5 .walkable .room)
+
+fresh-cab-requires : tie.Need-fresh-cab-requires Inv-loop μ-loop
+fresh-cab-requires c κs = c .before .before .before .pre .0
+
+loop-holds : tie.Need-loop-holds Inv-loop μ-loop
+loop-holds c = (omega arith, λ p ts w h. midway-start w h (c .fresh-cab .ensures .0) (c .fresh-cab .ensures .1) (c .fresh-cab .ensures .2) (c .fresh-cab .ensures .3))
+
+mul-next-turn : tie.Need-mul-next-turn Inv-loop μ-loop
+mul-next-turn c = omega (arith, c .loop-test .taken, c .before .before .before .before .before .before .good)
+
+shared-slice-read-next-turn : tie.Need-shared-slice-read-next-turn Inv-loop μ-loop
+shared-slice-read-next-turn c = c .before .loop-test .taken
+
+next-turn-requires : tie.Need-next-turn-requires Inv-loop μ-loop
+next-turn-requires c κs = (c .before .before .before .before .before .before .before .pre .2, omega (arith, c .before .loop-test .taken, c .before .before .before .before .before .before .before .good))
+
+walk-word-requires : tie.Need-walk-word-requires Inv-loop μ-loop
+walk-word-requires c κs = let s = c .before .before .before .before .before .before .before .before .before .pre .5 in (c .before .before .before .before .before .before .before .before .before .pre .0, c .before .before .before .before .before .before .before .before .before .pre .1, midway-word (c .before .before .before .before .before .before .before .before .before .args .e) (s .walkable) (c .before .before .before .before .before .before .before .before .before .pre .3) (c .before .before .before .loop-test .taken) 0 (c .before .before .before .before .loop .inv .1 _ (s .tasks) (wrote-put (wrote-none _) _ (omega (arith, s .walkable .room))) (s .walkable)) (c .before .next-turn .ensures .0))
+
+loop-less : tie.Need-loop-less Inv-loop μ-loop
+loop-less c = turns-left (length (c .before .before .before .before .before .before .before .before .before .before .before .before .args .tasks .now)) (c .before .before .before .before .before .before .before .loop .i) (c .before .before .before .before .before .before .before .loop .waiting) (c .before .before .before .before .next-turn .result .next) (c .before .before .before .before .next-turn .result .waiting) (c .before .before .before .before .before .before .loop-test .taken) (c .before .before .before .before .next-turn .ensures .1 .0)
+
+loop-again : tie.Need-loop-again Inv-loop μ-loop
+loop-again c = (omega (arith, c .before .before .before .before .before .before .loop-test .taken, c .before .before .before .before .next-turn .ensures .1 .1), λ p ts w h. midway-step (c .before .before .before .before .before .before .before .before .before .before .before .before .args .e) h (c .before .before .before .before .before .before .before .before .before .before .before .before .pre .3) (c .before .before .before .before .before .before .loop-test .taken) 0 (c .before .before .before .before .before .before .before .loop .inv .1 p ts w h) (c .before .before .before .before .next-turn .ensures .0) (c .before .before .walk-word .ensures))
+
+same-length : tie.Need-same-length Inv-loop μ-loop
+same-length c = let s = c .before .before .before .before .before .before .pre .5 in stands-size (c .before .loop .inv .1 _ (s .tasks) (wrote-put (wrote-none _) _ (omega (arith, s .walkable .room))) (s .walkable) .stands)
+
+returns : tie.Need-returns Inv-loop μ-loop
+returns c = λ ts h. midway-through h (c .loop-test .left) (c .before .loop .inv .1 _ ts (wrote-put (wrote-none _) _ (omega (arith, h .room))) h)
+
+pub walk-tasks-spec : {M : Type 1} → statement M
+walk-tasks-spec =
+    tie.close
+    (tie.spec
+    Inv-loop
+    μ-loop
+    add-part
+    slice-write-part
+    fresh-cab-requires
+    loop-holds
+    mul-next-turn
+    shared-slice-read-next-turn
+    next-turn-requires
+    walk-word-requires
+    loop-less
+    loop-again
+    same-length
+    returns)

@@ -1,0 +1,4 @@
+pub mod Cabs
+pub mod Edits
+pub mod Rewalks
+pub mod Walk

@@ -1,0 +1,143 @@
+-- A vehicle's words, what an edit makes of them and how they are walked again, as the code has it. It serves the contracts of this crate's
+-- own functions. Assumes nothing.
+use Prim.Native.Nat.{ℕ, _+_, _*_, _≤_, _<_}
+use mathlib.Core.Path.{_≡_}
+use mathlib.Core.Bool.{true, false}
+use mathlib.Core.List.{List, [], _∷_, _++_, map}
+use mathlib.Core.Option.{Option, none, some}
+use lib.Dec.{eqb}
+use lib.ListN.{length, getD, drop}
+use Rattle.laws.specs.Buffer.{Wrote}
+use Rattle.laws.specs.Lists.{Every}
+use Rattle.laws.specs.Tests.{if_then_else_}
+use Rattle.day.specs.Fields.{tips, stops}
+use Rattle.checker.specs.Lawful.{distanceFrom}
+use Rattle.checker.specs.Plan.{Task, serve, empty, lunch, Round, taskWord, roundWords, stopsOn, Known}
+use Rattle.checker.specs.PlanWords.{stopWord, tipWord}
+use Rattle.builder.specs.Build.{Truck, fresh}
+use Rattle.walks.specs.Cabs.{Stands}
+use Rattle.walks.specs.Edits.{Edit, before, after, swap, remove, replace, change, changed}
+use Rattle.walks.specs.Walk.{walkOn, walkedAgain}
+use Rattle.walks.specs.declared.cabs.Cab.{Cab}
+use Rattle.walks.specs.declared.edits.Edit as Code
+use Rattle.walks.specs.declared.edits.Edit.the-variants as Edits
+use Rattle.walks.specs.declared.vehicle.Turn.{Turn}
+use Rattle.walks.specs.declared.vehicle.Walked.{Walked}
+
+-- the edit that the code names
+abbrev pub editOf : Code.Edit → Edit
+editOf (Edits.Before i j) = before i j
+editOf (Edits.After i j) = after i j
+editOf (Edits.Swap i j) = swap i j
+editOf (Edits.Remove at) = remove at
+editOf (Edits.Replace at x) = replace at x
+
+-- the numbers of an edit are those of stops and tips
+abbrev pub EditKnown : List ℕ → Code.Edit → Type 0
+EditKnown day (Edits.Before i j) = Known day (serve i) × Known day (serve j)
+EditKnown day (Edits.After i j) = Known day (serve i) × Known day (serve j)
+EditKnown day (Edits.Swap i j) = Known day (serve i) × Known day (serve j)
+EditKnown day (Edits.Remove at) = Unit {0}
+EditKnown day (Edits.Replace at x) = Known day (empty x)
+
+-- and small, so that their words can be made
+abbrev pub EditSmall : Code.Edit → Type 0
+EditSmall (Edits.Before i j) = (i < 256) × (j < 256)
+EditSmall (Edits.After i j) = (i < 256) × (j < 256)
+EditSmall (Edits.Swap i j) = (i < 256) × (j < 256)
+EditSmall (Edits.Remove at) = Unit {0}
+EditSmall (Edits.Replace at x) = x < 256
+
+-- a word that is walked, 0 for none
+pub data Means (day : List ℕ) : ℕ → Round → Type 0 where
+  nothing : Means day 0 []
+  aStop : (k : ℕ) → Known day (serve k) → Means day (stopWord k) (serve k ∷ [])
+  aTip : (x : ℕ) → Known day (empty x) → Means day (tipWord x) (empty x ∷ [])
+
+-- what becomes of a task, as two words
+pub record Becomes (day : List ℕ) (e : Edit) (t : ℕ) (task : Task) (first second : ℕ) : Type 0 where
+  pub one : Round
+  pub two : Round
+  pub oneIs : Means day first one
+  pub twoIs : Means day second two
+  pub same : one ++ two ≡ change e t task
+
+-- a vehicle or a failed trial, with a word before it
+pub record SomeWord (day part : List ℕ) (c : Cab) (w : ℕ) : Type 0 where
+  pub number : ℕ
+  pub most : ℕ
+  pub more : ℕ
+  pub p : List ℕ
+  pub o : Option Truck
+  pub tasks : Round
+  pub means : Means day w tasks
+  pub stands : Stands day number most (length (stopsOn tasks) + more) p part o c
+
+-- it has walked the word
+abbrev pub WalksWord : List ℕ → List ℕ → Cab → ℕ → List ℕ → Cab → Type 0
+WalksWord day part c w now r =
+    (number most more : ℕ) (p : List ℕ) (o : Option Truck) (tasks : Round) → Means day w tasks
+    → Stands day number most (length (stopsOn tasks) + more) p part o c → Stands day number most more p now (walkOn day tasks o) r
+
+-- what is left to walk of the changed tasks: all from number i on, or what waits of task i and all behind it
+pub data Left (day : List ℕ) (e : Edit) (tasks : Round) : ℕ → ℕ → Round → Type 0 where
+  fromTask : (i : ℕ) → Left day e tasks i 0 (changed e i (drop i tasks))
+  fromWaiting : (i waiting : ℕ) (two : Round) → (waiting ≡ 0 → ⊥) → i < length tasks → Means day waiting two
+      → Left day e tasks i waiting (two ++ changed e (i + 1) (drop (i + 1) tasks))
+
+-- a word is taken off what is left
+pub record Turned (day : List ℕ) (e : Edit) (tasks : Round) (rest : Round) (r : Turn) : Type 0 where
+  pub here : Round
+  pub others : Round
+  pub means : Means day (r .word) here
+  pub left : Left day e tasks (r .next) (r .waiting) others
+  pub whole : rest ≡ here ++ others
+
+-- how far the walk has come: two steps a task
+abbrev pub steps : ℕ → ℕ → ℕ
+steps i waiting = 2 * i + (if eqb waiting 0 then 0 else 1)
+
+-- so it is for whatever tasks have this word
+abbrev pub TakesTurn : Code.Edit → ℕ → ℕ → ℕ → Turn → Type 0
+TakesTurn e t w waiting r =
+    (day : List ℕ) (tasks rest : Round) → EditKnown day e → Every (Known day) tasks → t < length tasks → w ≡ taskWord (getD tasks t lunch)
+    → Left day (editOf e) tasks t waiting rest → Turned day (editOf e) tasks rest r
+
+-- these are the tasks of a vehicle, and there is room for what they become
+pub record Walkable (day : List ℕ) (e : Edit) (words part : List ℕ) (tasks : Round) : Type 0 where
+  pub are : words ≡ map taskWord tasks
+  pub known : Every (Known day) tasks
+  pub edited : Every (Known day) (changed e 0 tasks)
+  pub few : length (stopsOn (changed e 0 tasks)) ≤ 240
+  pub room : 3 + 2 * length (stopsOn (changed e 0 tasks)) ≤ length part
+
+pub record SomeWalkable (day : List ℕ) (e : Edit) (words part : List ℕ) : Type 0 where
+  pub tasks : Round
+  pub walkable : Walkable day e words part tasks
+
+-- a part of the tasks is walked
+pub record Midway (day : List ℕ) (e : Edit) (number : ℕ) (p part : List ℕ) (tasks : Round) (i waiting : ℕ) (c : Cab) : Type 0 where
+  pub o : Option Truck
+  pub rest : Round
+  pub left : Left day e tasks i waiting rest
+  pub stands : Stands day number (length (stopsOn (changed e 0 tasks))) (length (stopsOn rest)) p part o c
+  pub same : walkOn day rest o ≡ walkOn day (changed e 0 tasks) (some (fresh day []))
+
+-- all of them are, whatever tasks have these words
+pub record Through (day : List ℕ) (e : Edit) (number : ℕ) (p part : List ℕ) (tasks : Round) (c : Cab) : Type 0 where
+  pub stands : Stands day number (length (stopsOn (changed e 0 tasks))) 0 p part (walkOn day (changed e 0 tasks) (some (fresh day []))) c
+
+abbrev pub WalksAll : List ℕ → Edit → ℕ → List ℕ → List ℕ → List ℕ → Cab → Type 0
+WalksAll day e number words p part c = (tasks : Round) → Walkable day e words p tasks → Through day e number p part tasks c
+
+-- the vehicle is walked again: the trial has failed, or its words stand at the front of the part
+pub record Again (day : List ℕ) (number : ℕ) (tasks : Round) (p part : List ℕ) (r : Walked) : Type 0 where
+  pub done : Round
+  pub is : walkedAgain day tasks ≡ some done
+  pub text : Wrote (roundWords number done) p part (r .words)
+  pub distance : r .distance ≡ distanceFrom day 0 done
+
+pub record WalkedAs (day : List ℕ) (number : ℕ) (tasks : Round) (p part : List ℕ) (r : Walked) : Type 0 where
+  pub size : length part ≡ length p
+  pub failed : r .stuck ≡ true → walkedAgain day tasks ≡ none
+  pub again : r .stuck ≡ false → Again day number tasks p part r

@@ -1,0 +1,4 @@
+// A vehicle whose words are changed by a trial and walked again.
+pub mod cabs;
+pub mod edits;
+pub mod vehicle;

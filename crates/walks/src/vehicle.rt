@@ -1,0 +1,158 @@
+// A vehicle whose words are changed and walked again.
+ghost use mathlib.Core.Path.{_≡_};
+ghost use mathlib.Core.Bool.{true, false};
+ghost use Prim.Native.Nat.{_+_, _<_, _≤_};
+ghost use Rattle.day.specs.Accepted.{IsAccepted};
+ghost use Rattle.day.specs.Layout.{LayoutOf};
+ghost use Rattle.checker.specs.Trip.{leaving};
+ghost use Rattle.checker.specs.Plan.{Round};
+ghost use Rattle.walks.specs.Edits.{changed};
+ghost use Rattle.walks.specs.Rewalks.{editOf, EditKnown, EditSmall, SomeWord, WalksWord, TakesTurn, steps, Walkable, SomeWalkable, WalksAll, WalkedAs};
+use crate::cabs::Cab;
+use crate::cabs::rest_cab;
+use crate::cabs::walk_home;
+use crate::cabs::walk_stop;
+use crate::cabs::walk_tip;
+use crate::edits::Edit;
+use crate::edits::change_word;
+use checker::walk::Trip;
+use day::fields::Layout;
+
+// One word is walked: a stop or a tip, or none.
+fn walk_word(day: &[u32], z: Layout, c: Cab, w: u32, part: &mut [u32]) -> Cab
+    requires { ⌜ LayoutOf (now day) z × IsAccepted (now day) × SomeWord (now day) (now part) c w ⌝ }
+    ensures { λ r. ⌜ WalksWord (now (day .entry)) (now (part .entry)) c w (now (part .exit)) r ⌝ }
+{
+    if w == 0 {
+        return c;
+    }
+    if c.stuck {
+        return c;
+    }
+    let rested = rest_cab(day, z, c, part);
+    if w < 3221225472 {
+        return walk_stop(day, z, rested, (w - 2952790016) as usize, part);
+    }
+    walk_tip(day, z, rested, (w - 3221225472) as usize, part)
+}
+
+// The word that is walked next, the one that waits behind it, 0 for none, and the task that is looked at then.
+pub struct Turn {
+    pub word: u32,
+    pub waiting: u32,
+    pub next: usize,
+}
+
+// What is walked next: the word that waits, or else what task number t becomes. So one place in the loop walks a word.
+fn next_turn(e: Edit, t: usize, w: u32, waiting: u32) -> Turn
+    requires { ⌜ EditSmall e × (t < 4611686018427387904) ⌝ }
+    ensures turn { λ r. ⌜ TakesTurn e t w waiting r ⌝ }
+    ensures comes { λ r. ⌜ (steps t waiting < steps (r .next) (r .waiting)) × (r .next ≤ t + 1) ⌝ }
+{
+    if waiting != 0 {
+        return Turn {
+            word: waiting,
+            waiting: 0,
+            next: t + 1,
+        };
+    }
+    let change = change_word(e, t, w);
+    if change.second == 0 {
+        return Turn {
+            word: change.first,
+            waiting: 0,
+            next: t + 1,
+        };
+    }
+    Turn {
+        word: change.first,
+        waiting: change.second,
+        next: t,
+    }
+}
+
+// An empty vehicle at the depot; its A word is written.
+fn fresh_cab(day: &[u32], z: Layout) -> Cab
+    requires { ⌜ LayoutOf (now day) z ⌝ }
+    ensures { λ r. ⌜ (r .stuck ≡ false) × (r .trip ≡ leaving (now (day .entry))) × (r .load ≡ 0) × (r .at ≡ 1) ⌝ }
+{
+    let hours = day::fields::depot_window(day, z);
+    Cab {
+        trip: Trip {
+            minute: hours.opening,
+            place: 0,
+            rested: false,
+            distance: 0,
+        },
+        load: 0,
+        at: 1,
+        stuck: false,
+    }
+}
+
+// The tasks of a vehicle, changed and walked again behind its A word.
+fn walk_tasks(day: &[u32], z: Layout, e: Edit, number: u32, tasks: &[u32], part: &mut [u32]) -> Cab
+    requires { ⌜ LayoutOf (now day) z × IsAccepted (now day) × EditSmall e × EditKnown (now day) e × (number < 256) × SomeWalkable (now day) (editOf e) (now tasks) (now part) ⌝ }
+    ensures { λ r. ⌜ WalksAll (now (day .entry)) (editOf e) number (now (tasks .entry)) (now (part .entry)) (now (part .exit)) r ⌝ }
+{
+    part[0] = 2684354560 + number;
+    let mut c = fresh_cab(day, z);
+    let mut waiting: u32 = 0;
+    let mut i: usize = 0;
+    while i < tasks.len() {
+        let turn = next_turn(e, i, tasks[i], waiting);
+        c = walk_word(day, z, c, turn.word, part);
+        waiting = turn.waiting;
+        i = turn.next;
+    }
+    c
+}
+
+// How many words the vehicle has, how far it drives, and whether the trial has failed.
+pub struct Walked {
+    pub words: usize,
+    pub distance: u32,
+    pub stuck: bool,
+}
+
+// A trial has failed on a vehicle.
+fn failed() -> Walked
+    ensures { λ r. ⌜ r .stuck ≡ true ⌝ }
+{
+    Walked {
+        words: 0,
+        distance: 0,
+        stuck: true,
+    }
+}
+
+// The vehicle walked again: its words at the front of the part.
+pub fn walk_vehicle(
+    day: &[u32],
+    z: Layout,
+    e: Edit,
+    number: u32,
+    tasks: &[u32],
+    part: &mut [u32],
+) -> Walked
+    requires { ⌜ LayoutOf (now day) z × IsAccepted (now day) × EditSmall e × EditKnown (now day) e × (number < 256) × SomeWalkable (now day) (editOf e) (now tasks) (now part) ⌝ }
+    ensures { λ r. ⌜ ((ts : Round) → Walkable (now (day .entry)) (editOf e) (now (tasks .entry)) (now (part .entry)) ts → WalkedAs (now (day .entry)) number (changed (editOf e) 0 ts) (now (part .entry)) (now (part .exit)) r) ⌝ }
+{
+    let c = walk_tasks(day, z, e, number, tasks, part);
+    if c.stuck {
+        return failed();
+    }
+    let back = walk_home(day, z, c, part);
+    if back.stuck {
+        return failed();
+    }
+    let at = back.at;
+    let t = back.trip;
+    part[at] = 3758096384;
+    let leg = day::fields::leg_between(day, z, t.place, 0);
+    Walked {
+        words: at + 1,
+        distance: t.distance + leg.distance,
+        stuck: false,
+    }
+}
