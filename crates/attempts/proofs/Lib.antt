@@ -7,6 +7,5 @@ pub mod PlanTold
 pub mod RoundLists
 pub mod ShapeKept
 pub mod ShorterLaws
-pub mod TrialRoom
 pub mod TryLaws
 pub mod WrittenLaws

@@ -14,7 +14,8 @@ use Rattle.day.proofs.Ranges.{accepted-ranges}
 use Rattle.day.specs.Fields.{stops}
 use Rattle.checker.specs.Plan.{Round, roundWords, roundsWords, stopsOn, stopsOnAll, Known}
 use Rattle.builder.specs.Build.{greedyLefts}
-use Rattle.builder.proofs.GreedyRoom.{Room, plan-length}
+use Rattle.builder.specs.Rooms.{Room}
+use Rattle.builder.proofs.GreedyRoom.{plan-length}
 use Rattle.walks.specs.Edits.{Trial, touches, changed}
 use Rattle.walks.specs.Walk.{walkedAgain}
 use Rattle.walks.specs.declared.vehicle.Walked.{Walked}
@@ -24,9 +25,8 @@ use Rattle.trial_list.proofs.Shapes.{each-at, shaped-few, shaped-length, shaped
 use Rattle.attempts.specs.Attempts.{retried}
 use Rattle.attempts.specs.Candidates.{Roundable, SomeRoundable, RoundAs, Trying, SomeNext}
 use Rattle.attempts.proofs.CopyLaws.{round-long}
-use Rattle.attempts.proofs.RoundLists.{cut-whole, cut-words, front-more, front-length, rounds-more, slice-words}
+use Rattle.attempts.proofs.RoundLists.{cut-whole, cut-words, front-more, front-length, rounds-more, slice-words, stops-parts}
 use Rattle.attempts.proofs.ShapeKept.{Suited, valid-suits}
-use Rattle.attempts.proofs.TrialRoom.{stops-parts}
 
 module _ {day plan starts : List ℕ} {m : Trial} {rounds : List Round} (t : Trying day plan starts m rounds) where
   pub few-vehicles : length rounds ≤ stops day

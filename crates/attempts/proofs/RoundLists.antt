@@ -7,7 +7,7 @@ use native.Mathlib.Omega.{arith}
 use native.Mathlib.Numerals.{add-one}
 use lib.ListN.{length, length-append, getD, take, drop, take-append-drop}
 use lib.Seq.{take-suc, drop-cons, take-at, drop-at, length-take-le}
-use Rattle.checker.specs.Plan.{Round, roundWords, roundsWords, planWords}
+use Rattle.checker.specs.Plan.{Round, roundWords, roundsWords, planWords, stopsOn, stopsOnAll}
 use Rattle.checker.specs.PlanWords.{leftWord}
 use Rattle.walks.specs.Edits.{Trial}
 use Rattle.attempts.specs.Attempts.{retried, joined, triedFrom}
@@ -25,6 +25,18 @@ unfolding roundsWords
 rounds-more done tasks =
     let e : suc (0 + length done) ≡ length done + 1 = omega arith in
     rounds-append 0 done (tasks ∷ []) ∙ ap (λ (ws : List ℕ). roundsWords 0 done ++ ws) (rw (e, append-nil (roundWords (length done + 1) tasks)) refl)
+
+-- the stops of two parts of the vehicles
+pub stops-parts : (front rest : List Round) → length (stopsOnAll (front ++ rest)) ≡ length (stopsOnAll front) + length (stopsOnAll rest)
+unfolding stopsOnAll
+stops-parts [] rest = omega arith
+stops-parts (tasks ∷ front) rest =
+    omega (
+      arith,
+      stops-parts front rest,
+      length-append (stopsOn tasks) (stopsOnAll (front ++ rest)),
+      length-append (stopsOn tasks) (stopsOnAll front),
+    )
 
 -- cut at vehicle v, counted from 0
 module _ (rounds : List Round) (v : ℕ) (l : v < length rounds) where

@@ -4,7 +4,7 @@
 use Prim.Native.Nat.{ℕ, suc, _<_}
 use mathlib.Core.Path.{_≡_, refl, sym, ap, _∙_, subst}
 use mathlib.Core.Bool.{Bool, true, false, _||_, true≢false}
-use mathlib.Core.List.{List, [], _∷_, List·Memᴰ}
+use mathlib.Core.List.{List, [], _∷_}
 use mathlib.Core.Logic.{inl, inr}
 use mathlib.Core.Option.{Option, none, some, Option·some-injective, Option·none-ne-some}
 use native.Mathlib.Omega.{arith}
@@ -15,13 +15,11 @@ use Rattle.laws.specs.Tests.{if_then_else_}
 use Rattle.checker.specs.Plan.{Round, stopsOn, stopsOnAll, Known}
 use Rattle.builder.proofs.Decided.{known}
 use Rattle.builder.proofs.GreedyForm.{times-append}
-use Rattle.builder.proofs.GreedyRoom.{Room}
+use Rattle.builder.specs.Rooms.{Room}
 use Rattle.walks.specs.Edits.{changed, Trial, touches}
 use Rattle.walks.proofs.EditLaws.{renamed, Suits}
 use Rattle.walks.proofs.EditSuits.{suits-before, suits-after, suits-swap, suits-remove, suits-replace, swap-elsewhere}
 use Rattle.walks.proofs.Walking.{walked-again}
-use Rattle.trial_list.specs.TrialList.{trialList}
-use Rattle.trial_list.proofs.Listed.{listed-valid}
 use Rattle.trial_list.specs.Shapes.{Shaped, EachFrom, StandsOn, Valid, moved-before, moved-after, swapped, removed, replaced}
 use Rattle.attempts.specs.Attempts.{retried, joined, triedFrom, tried}
 
@@ -110,10 +108,10 @@ module _ (day : List ℕ) (m : Trial) where
         (record { known = h; room = r; count = refl; same = λ k. sym (s .elsewhere f k) })
   ]
 
-  pub front-remade : (tasks done : Round) (rounds others : List Round) → Remade day (renamed (m .edit)) tasks done
+  next-remade : (tasks done : Round) (rounds others : List Round) → Remade day (renamed (m .edit)) tasks done
       → AllRemade day (renamed (m .edit)) rounds others → AllRemade day (renamed (m .edit)) (tasks ∷ rounds) (done ∷ others)
   unfolding Every stopsOnAll
-  front-remade tasks done rounds others a b =
+  next-remade tasks done rounds others a b =
       record {
         known = (a .known, b .known);
         rooms = (a .room, b .rooms);
@@ -138,7 +136,7 @@ module _ (day : List ℕ) (m : Trial) where
   joined-remade tasks rounds q (some done) none a b e = absurd (Option·none-ne-some q e)
   joined-remade tasks rounds q (some done) (some others) a b e =
       subst (AllRemade day (renamed (m .edit)) (tasks ∷ rounds)) (Option·some-injective _ _ e)
-      (front-remade tasks done rounds others (a done refl) (b others refl))
+      (next-remade tasks done rounds others (a done refl) (b others refl))
 
   pub tried-remade : (from : ℕ) (rounds q : List Round) → Every (Every (Known day)) rounds → Every Room rounds → EachFrom (Suited day m) from rounds
       → triedFrom day m from rounds ≡ some q → AllRemade day (renamed (m .edit)) rounds q
@@ -163,7 +161,3 @@ valid-shaped day rounds q m s v e =
       count = a .count ∙ s .count;
       vehicles = a .vehicles ∙ s .vehicles;
     }
-
-pub listed-shaped : (day : List ℕ) (K : ℕ) (rounds q : List Round) (m : Trial) → Shaped day rounds → List·Memᴰ m (trialList day K rounds)
-    → tried day rounds m ≡ some q → Shaped day q
-listed-shaped day K rounds q m s i = valid-shaped day rounds q m s (listed-valid day rounds s K m i)

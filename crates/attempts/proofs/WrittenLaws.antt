@@ -10,12 +10,14 @@ use borrow.Rule.Slice.PartMut.{putMid, same-len-mid}
 use Rattle.laws.specs.Buffer.{Wrote}
 use Rattle.laws.specs.Lists.{Every}
 use Rattle.laws.proofs.Buffer.{wrote-none, wrote-lend, wrote-same, rest-whole}
+use Rattle.laws.proofs.Fresh.{every-split}
 use Rattle.day.specs.Fields.{stops}
 use Rattle.checker.specs.Plan.{Round, roundWords, roundsWords, planWords, stopsOn, stopsOnAll, Known}
 use Rattle.checker.specs.PlanWords.{leftWord}
 use Rattle.builder.specs.Build.{greedyLefts}
 use Rattle.builder.proofs.GreedyForm.{greedy-named}
-use Rattle.builder.proofs.GreedyRoom.{Room, rounds-words, plan-length}
+use Rattle.builder.specs.Rooms.{Room}
+use Rattle.builder.proofs.GreedyRoom.{rounds-words, plan-length}
 use Rattle.walks.specs.Edits.{Trial}
 use Rattle.walks.specs.declared.vehicle.Walked.{Walked}
 use Rattle.walks.proofs.EditLaws.{renamed}
@@ -23,9 +25,8 @@ use Rattle.trial_list.specs.Shapes.{EachFrom}
 use Rattle.trial_list.proofs.Shapes.{each-front}
 use Rattle.attempts.specs.Attempts.{retried, triedFrom}
 use Rattle.attempts.specs.Candidates.{RoundDone, RoundAs, Trying, Written, RoundsAs, CandidateAs}
-use Rattle.attempts.proofs.RoundLists.{front-length, rounds-more, tried-more, tried-fails}
+use Rattle.attempts.proofs.RoundLists.{front-length, rounds-more, stops-parts, tried-more, tried-fails}
 use Rattle.attempts.proofs.ShapeKept.{Suited, valid-suits, AllRemade, tried-remade}
-use Rattle.attempts.proofs.TrialRoom.{every-front, stops-parts}
 
 pub below : {v count n : ℕ} → v < count → count ≡ n → v < n
 below l e = omega arith
@@ -49,12 +50,12 @@ module _ {day plan starts : List ℕ} {m : Trial} {rounds : List Round} {p part 
   pub front-remade : AllRemade day (renamed (m .edit)) front (w .done)
   front-remade =
       let s = t .shaped in
-      tried-remade day m 0 front (w .done) (every-front (Every (Known day)) front rest (subst (Every (Every (Known day))) (sym whole) (s .known)))
-      (every-front Room front rest (subst (Every Room) (sym whole) (s .rooms)))
+      tried-remade day m 0 front (w .done) (every-split (Every (Known day)) front rest (subst (Every (Every (Known day))) (sym whole) (s .known)) .0)
+      (every-split Room front rest (subst (Every Room) (sym whole) (s .rooms)) .0)
       (each-front (Suited day m) 0 front rest (subst (EachFrom (Suited day m) 0) (sym whole) (valid-suits day rounds m (t .valid)))) (w .is)
 
   front-busy : Every (λ ts. 0 < length (stopsOn ts)) front
-  front-busy = every-front (λ ts. 0 < length (stopsOn ts)) front rest (subst (Every (λ ts. 0 < length (stopsOn ts))) (sym whole) (t .shaped .busy))
+  front-busy = every-split (λ ts. 0 < length (stopsOn ts)) front rest (subst (Every (λ ts. 0 < length (stopsOn ts))) (sym whole) (t .shaped .busy)) .0
 
   -- there is room for five words for each stop of the others, and for the stops left out
   pub room-left : at + 5 * length (stopsOnAll rest) + length (greedyLefts day) ≤ 5 * stops day

@@ -10,15 +10,10 @@ use Rattle.laws.specs.Lists.{Every}
 use Rattle.checker.specs.Plan.{Round, roundWords, roundsWords, planWords, stopsOn, Known}
 use Rattle.builder.specs.Build.{greedyLefts}
 use Rattle.walks.specs.Edits.{Edit, Trial, changed}
-use Rattle.walks.specs.Rewalks.{editOf}
 use Rattle.walks.specs.declared.edits.Edit as Code
 use Rattle.walks.specs.declared.vehicle.Walked.{Walked}
 use Rattle.trial_list.specs.Shapes.{Shaped, Valid}
 use Rattle.attempts.specs.Attempts.{retried, triedFrom, tried}
-
--- the trial that the code names
-abbrev pub trialOf : Code.Edit → ℕ → ℕ → Trial
-trialOf e one other = record { edit = editOf e; one = one; other = other }
 
 -- these are the words of a vehicle, and there is room for them and for what they become
 pub record Roundable (day : List ℕ) (e : Edit) (touched : Bool) (number : ℕ) (words part : List ℕ) (tasks : Round) : Type 0 where

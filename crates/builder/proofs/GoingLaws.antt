@@ -37,12 +37,13 @@ use Rattle.builder.specs.Home.{due, restIfDue}
 use Rattle.builder.specs.NextBy.{nextOf, nextBy, NextWithin, nextWord, isTask}
 use Rattle.builder.specs.Reached.{goesOn}
 use Rattle.builder.specs.States.{SmallTrip, SmallCargo, unrouted}
+use Rattle.builder.specs.Rooms.{Paid, Room}
 use Rattle.builder.specs.declared.state.State.{State}
 use Rattle.builder.specs.declared.tasks.Next.{Next}
 use Rattle.builder.specs.declared.tasks.Next.the-variants as Nexts
 use Rattle.builder.proofs.Decided.{known, bit-most}
 use Rattle.builder.proofs.Driving.{resting-due, resting-not, resting-trip, resting-cargo, resting-taken, end-none, reached-end}
-use Rattle.builder.proofs.GreedyRoom.{Paid, Room, tasks-counted, rested-paid, rested-room, reached-room}
+use Rattle.builder.proofs.GreedyRoom.{tasks-counted, rested-paid, rested-room, reached-room}
 use Rattle.builder.proofs.NextTasks.{IsNext, takes, empties, waits, next-some}
 use Rattle.builder.proofs.SmallTrucks.{SmallTruck, reached-small, rested-small}
 use Rattle.builder.proofs.TaskLaws.{next-is, unrouted-in}

@@ -16,24 +16,17 @@ use Rattle.checker.specs.Cargo.{cargoAfter}
 use Rattle.checker.specs.Lawful.{restsIn}
 use Rattle.checker.specs.Plan.{Task, serve, empty, lunch, Round, taskWord, roundWords, roundsWords, planWords, stopsOn, stopsOnAll}
 use Rattle.checker.specs.PlanWords.{backWord, leftWord}
-use Rattle.checker.proofs.Timetables.{restsTaken}
 use Rattle.builder.specs.Build.{Truck, fresh, doing, oneVehicle, greedyRounds, greedyLefts, greedyPlan, resting}
 use Rattle.builder.specs.Home.{due}
-use Rattle.builder.proofs.Decided.{bit-most}
 use Rattle.builder.specs.Reached.{Reached}
+use Rattle.builder.specs.Rooms.{emptiesIn, Paid, Room}
+use Rattle.builder.proofs.Decided.{bit-most}
 use Rattle.builder.proofs.Driving.{reached-keeps, vehicle-keeps, resting-keeps}
 use Rattle.builder.proofs.Fleets.{fleet-every}
 use Rattle.builder.proofs.GreedyForm.{greedy-busy, greedy-named}
 use Rattle.builder.proofs.NextTasks.{IsNext, takes, empties, waits}
 use Rattle.builder.proofs.VehicleStops.{reached-routes, vehicle-routes, rested-routes}
 use Rattle.builder.proofs.WaysHome.{due-true}
-
--- how many tips a vehicle visits
-unfoldable pub emptiesIn : Round → ℕ
-emptiesIn [] = 0
-emptiesIn (serve k ∷ tasks) = emptiesIn tasks
-emptiesIn (empty k ∷ tasks) = 1 + emptiesIn tasks
-emptiesIn (lunch ∷ tasks) = emptiesIn tasks
 
 -- a vehicle's tasks are stops, tips and rests
 pub tasks-counted : (tasks : Round) → length tasks ≡ length (stopsOn tasks) + emptiesIn tasks + restsIn tasks
@@ -57,16 +50,11 @@ rests-append (serve k ∷ xs) ys = rests-append xs ys
 rests-append (empty k ∷ xs) ys = rests-append xs ys
 rests-append (lunch ∷ xs) ys = omega (arith, rests-append xs ys)
 
--- a vehicle on its way: a stop pays for each tip, and for the one that a load asks for; a rest was taken once it has rested
-pub record Paid (v : Truck) : Type 0 where
-  pub tips : emptiesIn (v .tasks) + (if ltb 0 (v .cargo .load) then 1 else 0) ≤ v .cargo .visits
-  pub rests : restsIn (v .tasks) ≡ restsTaken (v .trip .rested)
-
 module _ (day : List ℕ) where
   pub paid-rest : (v : Truck) → due day (v .trip) ≡ true → Paid v → Paid (doing day v lunch)
   unfolding emptiesIn restsIn cargoAfter
   paid-rest v e p =
-      let unfed : restsTaken (v .trip .rested) ≡ 0 = rw (due-true day (v .trip) e .unfed) refl in
+      let unfed : _≡_ {A = ℕ} (if v .trip .rested then 1 else 0) 0 = rw (due-true day (v .trip) e .unfed) refl in
       record {
         tips = omega (arith, p .tips, empties-append (v .tasks) (lunch ∷ []));
         rests = omega (arith, p .rests, rests-append (v .tasks) (lunch ∷ []));
@@ -106,12 +94,6 @@ module _ (day : List ℕ) where
 
     pub vehicle-paid : Paid (oneVehicle day before)
     vehicle-paid = vehicle-keeps day Paid paid-rest paid-next before (paid-fresh before)
-
--- what is paid for: no more tips than stops, at most one rest, and so few tasks
-pub record Room (tasks : Round) : Type 0 where
-  pub tips : emptiesIn tasks ≤ length (stopsOn tasks)
-  pub rests : restsIn tasks ≤ 1
-  pub size : length tasks ≤ 2 * length (stopsOn tasks) + 1
 
 pub paid-room : (v : Truck) → v .cargo .visits ≡ length (stopsOn (v .tasks)) → Paid v → Room (v .tasks)
 paid-room v e p =

@@ -7,5 +7,6 @@ pub mod Home
 pub mod Lefts
 pub mod NextBy
 pub mod Reached
+pub mod Rooms
 pub mod States
 pub mod Tips

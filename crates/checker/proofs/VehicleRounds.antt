@@ -10,6 +10,7 @@ use lib.Seq.{take-at, drop-at}
 use borrow.Author.Tests.{eq-eqb, ne-eqb}
 use Rattle.laws.specs.Answers.{given, refused}
 use Rattle.laws.specs.Lists.{Every}
+use Rattle.laws.proofs.Fresh.{every-split}
 use Rattle.day.specs.Accepted.{IsAccepted}
 use Rattle.day.specs.Fields.{stops}
 use Rattle.checker.specs.Lawful.{Lawful}
@@ -96,11 +97,6 @@ rounds-append before (tasks ∷ xs) ys =
     let number : suc before + length xs ≡ before + length (tasks ∷ xs) = omega arith in
     ap (λ (ws : List ℕ). roundWords (suc before) tasks ++ ws) (rounds-append (suc before) xs ys ∙ ap (λ (m : ℕ). roundsWords (suc before) xs ++ roundsWords m ys) number)
     ∙ sym (append-assoc (roundWords (suc before) tasks) (roundsWords (suc before) xs) (roundsWords (before + length (tasks ∷ xs)) ys))
-
-every-split : {A : Type 0} (P : A → Type 0) (xs ys : List A) → Every P (xs ++ ys) → Every P xs × Every P ys
-unfolding Every
-every-split P [] ys h = (tt, h)
-every-split P (x ∷ xs) ys h = let r = every-split P xs ys (h .1) in ((h .0, r .0), r .1)
 
 -- a vehicle's words stand at the front
 place-here : (day : List ℕ) (number : ℕ) (tasks : Round) (others : List ℕ) (i : ℕ) → number < 256 → Every (Known day) tasks

@@ -132,6 +132,11 @@ unfolding Every
 every-append P [] ys h g = g
 every-append P (x ∷ xs) ys h g = (h .0, every-append P xs ys (h .1) g)
 
+pub every-split : {A : Type 0} (P : A → Type 0) (xs ys : List A) → Every P (xs ++ ys) → Every P xs × Every P ys
+unfolding Every
+every-split P [] ys h = (tt, h)
+every-split P (x ∷ xs) ys h = let r = every-split P xs ys (h .1) in ((h .0, r .0), r .1)
+
 -- numbers of 1..n, each there exactly once
 module _ (n : ℕ) (ks : List ℕ) where
   -- the numbers are new in turn, and none is missing

@@ -18,7 +18,8 @@ use Rattle.neighbours.specs.Neighbours.{neighbours}
 use Rattle.neighbours.proofs.NeighbourLaws.{neighbours-are}
 use Rattle.checker.specs.Plan.{serve, empty, lunch, Round, Known}
 use Rattle.builder.proofs.Decided.{known}
-use Rattle.builder.proofs.GreedyRoom.{emptiesIn, rounds-tips}
+use Rattle.builder.specs.Rooms.{emptiesIn}
+use Rattle.builder.proofs.GreedyRoom.{rounds-tips}
 use Rattle.walks.specs.Edits.{onOne, onTwo, before, after, swap}
 use Rattle.trial_list.specs.TrialList.{each, rising, vehicleOf, pairTrials, stopTrials, otherTip, taskTrials, roundTrials, tipTrials, trialList}
 use Rattle.trial_list.specs.Shapes.{Shaped}

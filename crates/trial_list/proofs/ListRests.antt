@@ -1,12 +1,12 @@
 -- The trial list from a cursor on: the first cursor's rest is the whole list, the next trial of the rest is that of its pairs or else of its
 -- tips, and what a trial of the list names. The day may be any list of words.
 -- Assumes nothing.
-use Prim.Native.Nat.{ℕ, suc, _-_, _≤_}
+use Prim.Native.Nat.{ℕ, suc, _+_, _-_, _≤_}
 use mathlib.Core.Path.{_≡_, refl, sym, ap, _∙_}
 use mathlib.Core.Bool.{true, false, true≢false}
-use mathlib.Core.List.{List, _∷_, _++_}
+use mathlib.Core.List.{List, [], _∷_, _++_}
 use native.Mathlib.Omega.{arith}
-use lib.ListN.{length}
+use lib.ListN.{length-append}
 use Rattle.laws.specs.Lists.{Every}
 use Rattle.day.specs.Accepted.{IsAccepted}
 use Rattle.day.specs.Fields.{stops, tips}
@@ -14,7 +14,8 @@ use Rattle.day.specs.Layout.{LayoutOf}
 use Rattle.day.specs.declared.fields.Layout.{Layout}
 use Rattle.day.proofs.Ranges.{accepted-ranges}
 use Rattle.neighbours.specs.Tables.{TableOf}
-use Rattle.checker.specs.Plan.{Round, planWords, Known}
+use Rattle.checker.specs.Plan.{Round, roundWords, roundsWords, planWords, Known}
+use Rattle.builder.proofs.GreedyRoom.{round-length}
 use Rattle.walks.specs.Edits.{Trial}
 use Rattle.walks.specs.Rewalks.{editOf, EditKnown, EditSmall}
 use Rattle.walks.specs.declared.edits.Edit as Code
@@ -23,7 +24,7 @@ use Rattle.walks.proofs.EditLaws.{Named}
 use Rattle.trial_list.specs.Listing.{PairsOf, PairAnswer, TipsOf, TipAnswer, PlanTables, CursorFits, ListAnswer}
 use Rattle.trial_list.specs.Survey.{Surveyed}
 use Rattle.trial_list.specs.TrialList.{stopTrials, trialList}
-use Rattle.trial_list.specs.TrialRest.{trialOf, pairRest, tipRest, restOf, listStart}
+use Rattle.trial_list.specs.TrialRest.{listedTrial, pairRest, tipRest, restOf, listStart}
 use Rattle.trial_list.specs.declared.listing.Cursor.{Cursor}
 use Rattle.trial_list.specs.declared.listing.Listed.{Listed}
 use Rattle.trial_list.specs.declared.listing.PairListed.{PairListed}
@@ -33,7 +34,7 @@ use Rattle.trial_list.proofs.Listed.{listed-all}
 use Rattle.trial_list.proofs.PairRests.{all-stops}
 use Rattle.trial_list.specs.Shapes.{Shaped, Valid, moved-before, moved-after, swapped, removed, replaced}
 use Rattle.trial_list.proofs.Shapes.{shaped-few}
-use Rattle.trial_list.proofs.TipRests.{all-vehicles, end-at}
+use Rattle.trial_list.proofs.TipRests.{all-vehicles}
 
 -- the first cursor
 pub whole-list : (day : List ℕ) (K : ℕ) (rounds : List Round) → restOf day K rounds listStart ≡ trialList day K rounds
@@ -41,6 +42,16 @@ unfolding restOf trialList pairRest stopTrials
 whole-list day K rounds =
     let e : suc (stops day) - 1 ≡ stops day = omega arith in
     rw (e, all-stops day K rounds 1 (stops day), all-vehicles day rounds 0) refl
+
+-- the list can begin with any plan
+pub start-fits : {day starts vehicles distances : List ℕ} {count : ℕ} (rounds : List Round) → Surveyed day rounds starts vehicles distances count → CursorFits starts count listStart
+unfolding roundsWords
+start-fits [] v = record { first = omega arith; tipFits = λ l. absurd (omega (arith, v .counted)) }
+start-fits (tasks ∷ rounds) v =
+    record {
+      first = omega arith;
+      tipFits = λ l. omega (arith, v .starting 0 (omega arith), v .starting (0 + 1) (omega arith), round-length 1 tasks, length-append (roundWords 1 tasks) []);
+    }
 
 module _ (z : Layout) (K : ℕ) (table starts vehicles plan : List ℕ) (count : ℕ) where
   -- the tables of a plan that trials find and leave
@@ -93,9 +104,6 @@ module _ (z : Layout) (K : ℕ) (table starts vehicles plan : List ℕ) (count :
         text = s .text;
       }
 
-  pub start-fits : PlanTables z K table starts vehicles plan count → CursorFits starts count listStart
-  start-fits s = record { first = omega arith; tipFits = λ l. omega (arith, end-at z starts plan count (tips-of s) 0 l) }
-
   module _ (c : Cursor) (r : Listed) (a : PairListed) (fits : CursorFits starts count c) (pair : PairAnswer z K table vehicles (c .pairs) a) where
     pub lists-pair : a .found ≡ true → r .found ≡ true → r .trial ≡ a .trial → r .next ≡ record { pairs = a .next; tips = c .tips }
         → ListAnswer z K table starts vehicles plan count c r
@@ -127,14 +135,10 @@ module _ (z : Layout) (K : ℕ) (table starts vehicles plan : List ℕ) (count :
           fits = rw n (record { first = pair .first; tipFits = tip .fits });
         }
 
--- what a trial names: stops and tips of the day, and vehicles of the plan
-pub record Names (day : List ℕ) (rounds : List Round) (m : Made.Trial) : Type 0 where
+-- what a trial names: stops and tips of the day
+pub record Names (day : List ℕ) (m : Made.Trial) : Type 0 where
   pub known : EditKnown day (m .edit)
   pub small : EditSmall (m .edit)
-  pub firstOne : 1 ≤ m .one
-  pub lastOne : m .one ≤ length rounds
-  pub firstOther : 1 ≤ m .other
-  pub lastOther : m .other ≤ length rounds
 
 module _ (day : List ℕ) where
   named-known : (e : Code.Edit) → Named day (editOf e) → EditKnown day e
@@ -162,24 +166,16 @@ module _ (day : List ℕ) where
     valid-named _ (removed at number a b) = tt
     valid-named _ (replaced at x number k a b) = k
 
-    valid-vehicles : (m : Trial) → Valid day rounds m → (1 ≤ m .one) × (m .one ≤ length rounds) × (1 ≤ m .other) × (m .other ≤ length rounds)
-    valid-vehicles _ (moved-before i j number apart a b) = (a .first, a .within, a .first, a .within)
-    valid-vehicles _ (moved-after i j number apart a b) = (a .first, a .within, a .first, a .within)
-    valid-vehicles _ (swapped i j number other apart distinct a b) = (a .first, a .within, b .first, b .within)
-    valid-vehicles _ (removed at number a b) = (a, b, a, b)
-    valid-vehicles _ (replaced at x number k a b) = (a, b, a, b)
-
-    pub valid-names : (m : Made.Trial) → stops day ≤ 240 → Valid day rounds (trialOf m) → Names day rounds m
+    pub valid-names : (m : Made.Trial) → stops day ≤ 240 → Valid day rounds (listedTrial m) → Names day m
     valid-names m most h =
-        let known = named-known (m .edit) (valid-named (trialOf m) h) in
-        let v = valid-vehicles (trialOf m) h in
-        record { known = known; small = known-small (m .edit) most known; firstOne = v .0; lastOne = v .1; firstOther = v .2; lastOther = v .3 }
+        let known = named-known (m .edit) (valid-named (listedTrial m) h) in
+        record { known = known; small = known-small (m .edit) most known }
 
     -- every trial from the first cursor on may be made, and so it stays from cursor to cursor
     pub start-valid : (K : ℕ) → Shaped day rounds → Every (Valid day rounds) (restOf day K rounds listStart)
     start-valid K s = rw (whole-list day K rounds) (listed-all day rounds s K)
 
-    pub next-valid : (K : ℕ) (c next : Cursor) (m : Made.Trial) → restOf day K rounds c ≡ trialOf m ∷ restOf day K rounds next → Every (Valid day rounds) (restOf day K rounds c)
-        → Valid day rounds (trialOf m) × Every (Valid day rounds) (restOf day K rounds next)
+    pub next-valid : (K : ℕ) (c next : Cursor) (m : Made.Trial) → restOf day K rounds c ≡ listedTrial m ∷ restOf day K rounds next → Every (Valid day rounds) (restOf day K rounds c)
+        → Valid day rounds (listedTrial m) × Every (Valid day rounds) (restOf day K rounds next)
     unfolding Every
     next-valid K c next m e h = rw e at h

@@ -18,7 +18,6 @@ use Rattle.neighbours.specs.Neighbours.{compatible, neighbours}
 use Rattle.neighbours.proofs.NeighbourLaws.{neighbours-are}
 use Rattle.checker.specs.Plan.{Task, serve, empty, lunch, Round, Known}
 use Rattle.builder.proofs.Decided.{known}
-use Rattle.walks.specs.Edits.{Trial}
 use Rattle.trial_list.specs.TrialList.{each, rising, vehicleOf, pairTrials, stopTrials, otherTip, taskTrials, roundTrials, tipTrials, trialList}
 use Rattle.trial_list.specs.Shapes.{Shaped, On, Valid, moved-before, moved-after, swapped, removed, replaced}
 use Rattle.trial_list.proofs.Shapes.{shaped-once, vehicle-found}
@@ -117,6 +116,3 @@ module _ (day : List ℕ) (rounds : List Round) (s : Shaped day rounds) where
   unfolding trialList
   listed-all K =
       every-append (Valid day rounds) (stopTrials day K rounds) (tipTrials day 0 rounds) (stops-valid K) (tips-valid 0 rounds (omega arith))
-
-  pub listed-valid : (K : ℕ) (m : Trial) → List·Memᴰ m (trialList day K rounds) → Valid day rounds m
-  listed-valid K m = every-mem (Valid day rounds) (trialList day K rounds) m (listed-all K)

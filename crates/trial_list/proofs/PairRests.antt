@@ -22,7 +22,7 @@ use Rattle.builder.proofs.Decided.{known}
 use Rattle.walks.specs.Edits.{before, after, swap, Trial, onOne, onTwo}
 use Rattle.trial_list.specs.Listing.{Goes, nextRank, halfway, nextStop, PairTells, no-trial, last-trial, first-trial, PairsOf, pairsLeft, PairStep, PairAnswer}
 use Rattle.trial_list.specs.TrialList.{each, rising, pairTrials}
-use Rattle.trial_list.specs.TrialRest.{trialOf, pairOn, fromHalf, neighboursFrom, stopsFrom, pairRest}
+use Rattle.trial_list.specs.TrialRest.{listedTrial, pairOn, fromHalf, neighboursFrom, stopsFrom, pairRest}
 use Rattle.trial_list.specs.declared.listing.PairListed.{PairListed}
 use Rattle.trial_list.specs.declared.listing.PairPlace.{PairPlace}
 
@@ -76,18 +76,18 @@ module _ (i j one two : ℕ) (p : PairPlace) (r : PairListed) where
       no-trial r (h .0) (ap (fromHalf (p .second)) (apart i j one two n m d) ∙ half-second (p .second) (onTwo (swap i j) one two ∷ []) s) (h .1)
 
   pub tells-swap : (one ≡ 0 → ⊥) → (two ≡ 0 → ⊥) → (one ≡ two → ⊥) → p .second ≡ false
-      → r .found ≡ true → trialOf (r .trial) ≡ onTwo (swap i j) one two → r .next ≡ nextRank p → PairTells (pairOn i j one two) p r
+      → r .found ≡ true → listedTrial (r .trial) ≡ onTwo (swap i j) one two → r .next ≡ nextRank p → PairTells (pairOn i j one two) p r
   tells-swap n m d s f e h =
       last-trial r f (ap (fromHalf (p .second)) (apart i j one two n m d) ∙ half-first (p .second) (onTwo (swap i j) one two ∷ []) s ∙ ap (λ (x : Trial). x ∷ []) (sym e)) h
 
   pub tells-after : (one ≡ 0 → ⊥) → (two ≡ 0 → ⊥) → one ≡ two → p .second ≡ true
-      → r .found ≡ true → trialOf (r .trial) ≡ onOne (after i j) one → r .next ≡ nextRank p → PairTells (pairOn i j one two) p r
+      → r .found ≡ true → listedTrial (r .trial) ≡ onOne (after i j) one → r .next ≡ nextRank p → PairTells (pairOn i j one two) p r
   tells-after n m d s f e h =
       last-trial r f
       (ap (fromHalf (p .second)) (together i j one two n m d) ∙ half-second (p .second) (onOne (before i j) one ∷ onOne (after i j) one ∷ []) s ∙ ap (λ (x : Trial). x ∷ []) (sym e)) h
 
   pub tells-before : (one ≡ 0 → ⊥) → (two ≡ 0 → ⊥) → one ≡ two → p .second ≡ false
-      → r .found ≡ true → trialOf (r .trial) ≡ onOne (before i j) one → r .next ≡ halfway p → PairTells (pairOn i j one two) p r
+      → r .found ≡ true → listedTrial (r .trial) ≡ onOne (before i j) one → r .next ≡ halfway p → PairTells (pairOn i j one two) p r
   tells-before n m d s f e h =
       first-trial r (onOne (after i j) one) f s (together i j one two n m d ∙ ap (λ (x : Trial). x ∷ onOne (after i j) one ∷ []) (sym e)) h
 
@@ -188,7 +188,7 @@ module _ (day : List ℕ) (K : ℕ) (rounds : List Round) where
   pair-goes p r within h (last-trial _ f e n) =
       record {
         some = λ t.
-            rank-at p within h ∙ ap (λ (ms : List Trial). ms ++ pairRest day K rounds (nextRank p)) e ∙ ap (λ (q : PairPlace). trialOf (r .trial) ∷ pairRest day K rounds q) (sym n);
+            rank-at p within h ∙ ap (λ (ms : List Trial). ms ++ pairRest day K rounds (nextRank p)) e ∙ ap (λ (q : PairPlace). listedTrial (r .trial) ∷ pairRest day K rounds q) (sym n);
         none = λ t. absurd (true≢false (sym f ∙ t));
       }
   pair-goes p r within h (first-trial _ m f s e n) =
@@ -196,9 +196,9 @@ module _ (day : List ℕ) (K : ℕ) (rounds : List Round) where
         some = λ t.
             no-second p within h s
             ∙ ap (λ (ms : List Trial). ms ++ pairRest day K rounds (nextRank p)) e
-            ∙ ap (λ (ms : List Trial). trialOf (r .trial) ∷ (ms ++ pairRest day K rounds (nextRank p))) (sym (ap (drop 1) e))
-            ∙ ap (λ (ms : List Trial). trialOf (r .trial) ∷ ms) (sym (half-at p within h))
-            ∙ ap (λ (q : PairPlace). trialOf (r .trial) ∷ pairRest day K rounds q) (sym n);
+            ∙ ap (λ (ms : List Trial). listedTrial (r .trial) ∷ (ms ++ pairRest day K rounds (nextRank p))) (sym (ap (drop 1) e))
+            ∙ ap (λ (ms : List Trial). listedTrial (r .trial) ∷ ms) (sym (half-at p within h))
+            ∙ ap (λ (q : PairPlace). listedTrial (r .trial) ∷ pairRest day K rounds q) (sym n);
         none = λ t. absurd (true≢false (sym f ∙ t));
       }
 

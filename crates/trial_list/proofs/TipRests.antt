@@ -22,7 +22,7 @@ use Rattle.builder.proofs.Decided.{known}
 use Rattle.walks.specs.Edits.{remove, replace, Trial, onOne}
 use Rattle.trial_list.specs.Listing.{Goes, atTip, nextTask, nextVehicle, TipTells, no-tip, a-tip, TipFits, TipsOf, tipsLeft, TipStep, TipSteps, TipAnswer}
 use Rattle.trial_list.specs.TrialList.{rising, otherTip, taskTrials, roundTrials, tipTrials}
-use Rattle.trial_list.specs.TrialRest.{trialOf, tipFrom, taskFrom, tasksFrom, tipRest}
+use Rattle.trial_list.specs.TrialRest.{listedTrial, tipFrom, taskFrom, tasksFrom, tipRest}
 use Rattle.trial_list.specs.declared.listing.TipListed.{TipListed}
 use Rattle.trial_list.specs.declared.listing.TipPlace.{TipPlace}
 use Rattle.trial_list.proofs.PairRests.{every-at}
@@ -86,7 +86,7 @@ module _ (most number t y : ℕ) where
 
 -- what is said of a tip
 module _ (most y : ℕ) (q : TipPlace) (r : TipListed) where
-  pub tells-removal : q .tip ≡ 0 → r .found ≡ true → trialOf (r .trial) ≡ onOne (remove (q .task)) (q .vehicle + 1) → r .next ≡ atTip q 1 → TipTells most y q r
+  pub tells-removal : q .tip ≡ 0 → r .found ≡ true → listedTrial (r .trial) ≡ onOne (remove (q .task)) (q .vehicle + 1) → r .next ≡ atTip q 1 → TipTells most y q r
   tells-removal e f m n =
       let number = suc (q .vehicle) in
       a-tip r 1 f
@@ -95,7 +95,7 @@ module _ (most y : ℕ) (q : TipPlace) (r : TipListed) where
       ∙ ap (λ (x : Trial). x ∷ tipFrom most number (q .task) y 1) (sym m)) n
 
   pub tells-other : (k : ℕ) → (q .tip ≡ 0 → ⊥) → k ≡ (if eqb (q .tip) y then q .tip + 1 else q .tip) → k ≤ most
-      → r .found ≡ true → trialOf (r .trial) ≡ onOne (replace (q .task) k) (q .vehicle + 1) → r .next ≡ atTip q (k + 1) → TipTells most y q r
+      → r .found ≡ true → listedTrial (r .trial) ≡ onOne (replace (q .task) k) (q .vehicle + 1) → r .next ≡ atTip q (k + 1) → TipTells most y q r
   tells-other k z e h f m n =
       let number = suc (q .vehicle) in
       a-tip r (k + 1) f
@@ -240,9 +240,9 @@ module _ (z : Layout) (starts plan : List ℕ) (count : ℕ) (s : TipsOf z start
           some = λ t.
               task-at (s .day) (s .rounds) q l
               ∙ ap (λ (ms : List Trial). ms ++ others) (same (q .tip) ∙ e)
-              ∙ ap (λ (ms : List Trial). trialOf (r .trial) ∷ (ms ++ others)) (sym (same x))
-              ∙ ap (λ (ms : List Trial). trialOf (r .trial) ∷ ms) (sym (task-at (s .day) (s .rounds) (atTip q x) l))
-              ∙ ap (λ (p : TipPlace). trialOf (r .trial) ∷ tipRest (s .day) (s .rounds) p) (sym n);
+              ∙ ap (λ (ms : List Trial). listedTrial (r .trial) ∷ (ms ++ others)) (sym (same x))
+              ∙ ap (λ (ms : List Trial). listedTrial (r .trial) ∷ ms) (sym (task-at (s .day) (s .rounds) (atTip q x) l))
+              ∙ ap (λ (p : TipPlace). listedTrial (r .trial) ∷ tipRest (s .day) (s .rounds) p) (sym n);
           none = λ t. absurd (true≢false (sym f ∙ t));
         }
 

@@ -14,7 +14,7 @@ use Rattle.checker.specs.Plan.{Round, roundsWords, planWords, Known}
 use Rattle.walks.specs.Edits.{Trial}
 use Rattle.trial_list.specs.Survey.{Surveyed}
 use Rattle.trial_list.specs.TrialList.{vehicleOf}
-use Rattle.trial_list.specs.TrialRest.{trialOf, fromHalf, pairRest, tipFrom, tipRest, restOf}
+use Rattle.trial_list.specs.TrialRest.{listedTrial, fromHalf, pairRest, tipFrom, tipRest, restOf}
 use Rattle.trial_list.specs.declared.listing.Cursor.{Cursor}
 use Rattle.trial_list.specs.declared.listing.Listed.{Listed}
 use Rattle.trial_list.specs.declared.listing.PairListed.{PairListed}
@@ -25,12 +25,12 @@ use Rattle.trial_list.specs.declared.listing.Trial as Code
 
 -- a list that goes on behind a place: with a trial or, passing on, without
 pub record Goes {P : Type 0} (rest : P → List Trial) (at : P) (found : Bool) (m : Code.Trial) (next : P) : Type 0 where
-  pub some : found ≡ true → rest at ≡ trialOf m ∷ rest next
+  pub some : found ≡ true → rest at ≡ listedTrial m ∷ rest next
   pub none : found ≡ false → rest at ≡ rest next
 
 -- a list whose next trial is this, or that is at its end
 pub record Tells {P : Type 0} (rest : P → List Trial) (at : P) (found : Bool) (m : Code.Trial) (next : P) : Type 0 where
-  pub some : found ≡ true → rest at ≡ trialOf m ∷ rest next
+  pub some : found ≡ true → rest at ≡ listedTrial m ∷ rest next
   pub none : found ≡ false → (rest at ≡ []) × (rest next ≡ [])
 
 -- the next pair, the second trial of this one, the next stop
@@ -46,8 +46,8 @@ nextStop p = record { stop = p .stop + 1; rank = 0; second = false }
 -- what is said of a pair with these trials
 pub data PairTells (trials : List Trial) (p : PairPlace) : PairListed → Type 0 where
   no-trial : (r : PairListed) → r .found ≡ false → fromHalf (p .second) trials ≡ [] → r .next ≡ nextRank p → PairTells trials p r
-  last-trial : (r : PairListed) → r .found ≡ true → fromHalf (p .second) trials ≡ trialOf (r .trial) ∷ [] → r .next ≡ nextRank p → PairTells trials p r
-  first-trial : (r : PairListed) (m : Trial) → r .found ≡ true → p .second ≡ false → trials ≡ trialOf (r .trial) ∷ m ∷ [] → r .next ≡ halfway p → PairTells trials p r
+  last-trial : (r : PairListed) → r .found ≡ true → fromHalf (p .second) trials ≡ listedTrial (r .trial) ∷ [] → r .next ≡ nextRank p → PairTells trials p r
+  first-trial : (r : PairListed) (m : Trial) → r .found ≡ true → p .second ≡ false → trials ≡ listedTrial (r .trial) ∷ m ∷ [] → r .next ≡ halfway p → PairTells trials p r
 
 -- how many pairs there may be yet
 abbrev pub pairsLeft : ℕ → ℕ → PairPlace → ℕ
@@ -67,7 +67,7 @@ nextVehicle q = record { vehicle = q .vehicle + 1; task = 0; tip = 0 }
 pub data TipTells (most y : ℕ) (q : TipPlace) : TipListed → Type 0 where
   no-tip : (r : TipListed) → r .found ≡ false → tipFrom most (suc (q .vehicle)) (q .task) y (q .tip) ≡ [] → r .next ≡ nextTask q → TipTells most y q r
   a-tip : (r : TipListed) (x : ℕ) → r .found ≡ true
-      → tipFrom most (suc (q .vehicle)) (q .task) y (q .tip) ≡ trialOf (r .trial) ∷ tipFrom most (suc (q .vehicle)) (q .task) y x → r .next ≡ atTip q x → TipTells most y q r
+      → tipFrom most (suc (q .vehicle)) (q .task) y (q .tip) ≡ listedTrial (r .trial) ∷ tipFrom most (suc (q .vehicle)) (q .task) y x → r .next ≡ atTip q x → TipTells most y q r
 
 -- the task is one of the vehicle's, or the vehicle's end
 abbrev pub TipFits : List ℕ → ℕ → TipPlace → Type 0

@@ -9,7 +9,7 @@ use Rattle.laws.specs.Lists.{Every, times}
 use Rattle.laws.specs.Tests.{if_then_else_}
 use Rattle.checker.specs.Plan.{serve, empty, Round, stopsOn, stopsOnAll, Known}
 use Rattle.builder.specs.Build.{greedyRounds}
-use Rattle.builder.proofs.GreedyRoom.{Room}
+use Rattle.builder.specs.Rooms.{Room}
 use Rattle.walks.specs.Edits.{before, after, swap, remove, replace, Trial, onOne, onTwo}
 
 -- a plan as trials find and leave it, lawful or not

@@ -9,16 +9,16 @@ use Rattle.day.specs.Fields.{stops, tips}
 use Rattle.neighbours.specs.Neighbours.{neighbours}
 use Rattle.checker.specs.Plan.{Task, serve, empty, lunch, Round}
 use Rattle.walks.specs.Edits.{before, after, swap, remove, Trial, onOne, onTwo}
-use Rattle.walks.specs.Rewalks.{editOf}
+use Rattle.walks.specs.Rewalks.{trialOf}
 use Rattle.trial_list.specs.TrialList.{each, rising, pairTrials, otherTip, roundTrials, tipTrials}
 use Rattle.trial_list.specs.declared.listing.Cursor.{Cursor}
 use Rattle.trial_list.specs.declared.listing.PairPlace.{PairPlace}
 use Rattle.trial_list.specs.declared.listing.TipPlace.{TipPlace}
 use Rattle.trial_list.specs.declared.listing.Trial as Code
 
--- the trial that the code names
-abbrev pub trialOf : Code.Trial → Trial
-trialOf m = record { edit = editOf (m .edit); one = m .one; other = m .other }
+-- the trial that the code lists
+abbrev pub listedTrial : Code.Trial → Trial
+listedTrial m = trialOf (m .edit) (m .one) (m .other)
 
 -- the trials of a pair of stops, by the vehicles that they are on, 0 for none
 unfoldable pub pairOn : ℕ → ℕ → ℕ → ℕ → List Trial

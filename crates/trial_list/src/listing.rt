@@ -7,7 +7,7 @@ ghost use lib.ListN.{getD, length};
 ghost use Rattle.laws.specs.Tests.{if_then_else_};
 ghost use Rattle.walks.specs.Edits.{onOne, onTwo};
 ghost use Rattle.walks.specs.Rewalks.{editOf};
-ghost use Rattle.trial_list.specs.TrialRest.{trialOf, pairOn, listStart};
+ghost use Rattle.trial_list.specs.TrialRest.{listedTrial, pairOn, listStart};
 ghost use Rattle.trial_list.specs.Listing.{nextTask, PairTells, TipTells, TipFits, PairsOf, PairStep, PairAnswer, TipsOf, SomeTip, TipSteps, TipAnswer, PlanTables, CursorFits, ListAnswer};
 use day::fields::Layout;
 use walks::edits::Edit;
@@ -93,7 +93,7 @@ fn no_tip(next: TipPlace) -> TipListed
 
 // A trial of a pair.
 fn found_pair(edit: Edit, one: usize, other: usize, next: PairPlace) -> PairListed
-    ensures { λ r. ⌜ (r .found ≡ true) × (trialOf (r .trial) ≡ onTwo (editOf edit) one other) × (r .next ≡ next) ⌝ }
+    ensures { λ r. ⌜ (r .found ≡ true) × (listedTrial (r .trial) ≡ onTwo (editOf edit) one other) × (r .next ≡ next) ⌝ }
 {
     PairListed {
         found: true,
@@ -104,7 +104,7 @@ fn found_pair(edit: Edit, one: usize, other: usize, next: PairPlace) -> PairList
 
 // A trial of a tip of the vehicle with this number.
 fn found_tip(edit: Edit, number: usize, next: TipPlace) -> TipListed
-    ensures { λ r. ⌜ (r .found ≡ true) × (trialOf (r .trial) ≡ onOne (editOf edit) number) × (r .next ≡ next) ⌝ }
+    ensures { λ r. ⌜ (r .found ≡ true) × (listedTrial (r .trial) ≡ onOne (editOf edit) number) × (r .next ≡ next) ⌝ }
 {
     TipListed {
         found: true,

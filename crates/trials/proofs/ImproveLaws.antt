@@ -12,11 +12,10 @@ use Rattle.builder.specs.Build.{greedyRounds, greedyLefts}
 use Rattle.trial_list.specs.Survey.{SurveysAll}
 use Rattle.trial_list.specs.TrialList.{trialList}
 use Rattle.trial_list.specs.TrialRest.{listStart}
-use Rattle.trial_list.proofs.ListRests.{whole-list, start-valid}
+use Rattle.trial_list.proofs.ListRests.{whole-list, start-fits, start-valid}
 use Rattle.attempts.specs.Attempts.{distanceOf, attempt}
 use Rattle.trials.specs.Searches.{PlanAt, Searching, Improved}
 use Rattle.trials.specs.declared.search.Search.{Search}
-use Rattle.trials.proofs.SearchSteps.{start-cursor}
 use Rattle.trials.proofs.Searching.{loop-start}
 use Rattle.trials.proofs.TakeOverLaws.{plan-words, taken-over}
 
@@ -32,7 +31,7 @@ begins {day} s ok p f d m n e K budget =
       drives = d;
       within = omega (arith, m);
       going = λ _. record {
-        fits = rw n (start-cursor (greedyRounds day) (over .surveyed));
+        fits = rw n (start-fits (greedyRounds day) (over .surveyed));
         valid = rw n (start-valid day (greedyRounds day) K (p .shaped));
         same = rw (m, n, whole-list day K (greedyRounds day)) (loop-start (trialList day K) (attempt day (greedyLefts day)) budget (greedyRounds day));
       };

@@ -3,10 +3,10 @@ use Prim.Native.Nat.{ℕ, _+_, _-_, _≤_, _<_}
 use mathlib.Core.Path.{_≡_, sym, _∙_, subst}
 use mathlib.Core.Bool.{Bool, true, false, true≢false, not}
 use mathlib.Core.Logic.{inl, inr}
-use mathlib.Core.List.{List, [], _∷_}
+use mathlib.Core.List.{List, _∷_}
 use mathlib.Core.Option.{none, some}
 use native.Mathlib.Omega.{arith}
-use lib.ListN.{length-append, take, drop}
+use lib.ListN.{take, drop}
 use borrow.Author.Tests.{not-true, not-false}
 use Rattle.laws.specs.Lists.{Every}
 use Rattle.laws.specs.Tests.{if_then_else_}
@@ -15,18 +15,16 @@ use Rattle.day.specs.Layout.{LayoutOf}
 use Rattle.day.specs.declared.fields.Layout.{Layout}
 use Rattle.day.proofs.Ranges.{accepted-ranges}
 use Rattle.neighbours.specs.Tables.{TableOf}
-use Rattle.checker.specs.Plan.{Round, roundWords, roundsWords}
+use Rattle.checker.specs.Plan.{Round}
 use Rattle.builder.proofs.Decided.{known}
-use Rattle.builder.proofs.GreedyRoom.{round-length}
 use Rattle.builder.specs.Build.{greedyLefts}
-use Rattle.trial_list.specs.Listing.{PlanTables, CursorFits, ListAnswer}
+use Rattle.trial_list.specs.Listing.{PlanTables, ListAnswer}
 use Rattle.trial_list.specs.Shapes.{Valid}
-use Rattle.trial_list.specs.Survey.{Surveyed}
 use Rattle.trial_list.specs.TrialList.{trialList}
-use Rattle.trial_list.specs.TrialRest.{restOf, listStart, trialOf}
+use Rattle.trial_list.specs.TrialRest.{restOf, listStart, listedTrial}
 use Rattle.trial_list.specs.declared.listing.Cursor.{Cursor}
 use Rattle.trial_list.specs.declared.listing.Listed.{Listed}
-use Rattle.trial_list.proofs.ListRests.{whole-list, plan-tables, start-valid, next-valid, valid-names, Names}
+use Rattle.trial_list.proofs.ListRests.{whole-list, start-fits, plan-tables, start-valid, next-valid, valid-names, Names}
 use Rattle.attempts.specs.Attempts.{attempt}
 use Rattle.attempts.specs.Tries.{Made, SomeMade, TriedAs}
 use Rattle.attempts.specs.declared.tries.Tried.{Tried}
@@ -77,23 +75,23 @@ module _ {day : List ℕ} {z : Layout} {K budget : ℕ} {table plan starts vehic
         drives = d ∙ h .drives;
         within = omega (arith, m, h .within);
         going = λ n. absurd (true≢false (sym e ∙ n));
-        done = λ _. rw (m, q) (sym (loop-spent (trialList day K) (attempt day (greedyLefts day)) budget (h .rounds) (trialOf (l .trial)) (restOf day K (h .rounds) (l .next)) (s .made) b)
+        done = λ _. rw (m, q) (sym (loop-spent (trialList day K) (attempt day (greedyLefts day)) budget (h .rounds) (listedTrial (l .trial)) (restOf day K (h .rounds) (l .next)) (s .made) b)
             ∙ rw rest at same);
       }
 
   -- the next trial may be made
   module _ {l : Listed} (g : s .ended ≡ false) (a : ListAnswer z K table starts vehicles (take (s .words - 0) (drop 0 plan)) (s .count) (s .cursor) l) (f : l .found ≡ true) where
-    next-is : restOf day K (h .rounds) (s .cursor) ≡ trialOf (l .trial) ∷ restOf day K (h .rounds) (l .next)
+    next-is : restOf day K (h .rounds) (s .cursor) ≡ listedTrial (l .trial) ∷ restOf day K (h .rounds) (l .next)
     unfolding plan-tables held-tables
     next-is = a .tells held-tables .some f
 
-    next-may : Valid day (h .rounds) (trialOf (l .trial)) × Every (Valid day (h .rounds)) (restOf day K (h .rounds) (l .next))
+    next-may : Valid day (h .rounds) (listedTrial (l .trial)) × Every (Valid day (h .rounds)) (restOf day K (h .rounds) (l .next))
     next-may = next-valid day (h .rounds) K (s .cursor) (l .next) (l .trial) next-is ((h .going g) .valid)
 
-    pub trial-names : Names day (h .rounds) (l .trial)
+    pub trial-names : Names day (l .trial)
     trial-names = valid-names day (h .rounds) (l .trial) (accepted-ranges day ok .stopsMost) (next-may .0)
 
-    trial-made : Made day (take (s .words - 0) (drop 0 plan)) starts distances (trialOf (l .trial)) (s .count) (s .distance) (h .rounds)
+    trial-made : Made day (take (s .words - 0) (drop 0 plan)) starts distances (listedTrial (l .trial)) (s .count) (s .distance) (h .rounds)
     trial-made =
         let v = h .held .surveyed in
         record {
@@ -106,12 +104,12 @@ module _ {day : List ℕ} {z : Layout} {K budget : ℕ} {table plan starts vehic
           drives = h .drives;
         }
 
-    pub some-made : SomeMade day (take (s .words - 0) (drop 0 plan)) starts distances (trialOf (l .trial)) (s .count) (s .distance)
+    pub some-made : SomeMade day (take (s .words - 0) (drop 0 plan)) starts distances (listedTrial (l .trial)) (s .count) (s .distance)
     some-made = record { rounds = h .rounds; made = trial-made }
 
     pub after-made : {work : List ℕ} (r : Tried) → (s .made ≡ budget → ⊥)
-        → ((rounds : List Round) → Made day (take (s .words - 0) (drop 0 plan)) starts distances (trialOf (l .trial)) (s .count) (s .distance) rounds
-        → TriedAs day (trialOf (l .trial)) rounds work r)
+        → ((rounds : List Round) → Made day (take (s .words - 0) (drop 0 plan)) starts distances (listedTrial (l .trial)) (s .count) (s .distance) rounds
+        → TriedAs day (listedTrial (l .trial)) rounds work r)
         → AfterTrial day K budget work plan starts vehicles distances s (l .next) r
     after-made r b y =
         record {
@@ -119,7 +117,7 @@ module _ {day : List ℕ} {z : Layout} {K budget : ℕ} {table plan starts vehic
           held = h .held;
           drives = h .drives;
           left = omega (arith, b, h .within);
-          m = trialOf (l .trial);
+          m = listedTrial (l .trial);
           ms = next-is;
           valid = next-may .1;
           mayBe = next-may .0;
@@ -127,16 +125,6 @@ module _ {day : List ℕ} {z : Layout} {K budget : ℕ} {table plan starts vehic
           triedAs = y (h .rounds) trial-made;
           same = (h .going g) .same;
         }
-
--- the list can begin with any plan
-pub start-cursor : {day starts vehicles distances : List ℕ} {count : ℕ} (rounds : List Round) → Surveyed day rounds starts vehicles distances count → CursorFits starts count listStart
-unfolding roundsWords
-start-cursor [] v = record { first = omega arith; tipFits = λ l. absurd (omega (arith, v .counted)) }
-start-cursor (tasks ∷ rounds) v =
-    record {
-      first = omega arith;
-      tipFits = λ l. omega (arith, v .starting 0 (omega arith), v .starting (0 + 1) (omega arith), round-length 1 tasks, length-append (roundWords 1 tasks) []);
-    }
 
 -- a trial was made
 module _ {day : List ℕ} {K budget : ℕ} {work plan starts vehicles distances : List ℕ} {s : Search} {next : Cursor} {tried : Tried}
@@ -188,7 +176,7 @@ module _ {day : List ℕ} {K budget : ℕ} {work plan starts vehicles distances 
         drives = d ∙ a .distance;
         within = omega (arith, m, h .left);
         going = λ _. record {
-          fits = rw n (start-cursor (a .q) (over .surveyed));
+          fits = rw n (start-fits (a .q) (over .surveyed));
           valid = rw n (start-valid day (a .q) K (p .planAt .shaped));
           same = rw (m, n, whole-list day K (a .q)) (sym turn ∙ rw (h .ms) at (h .same));
         };

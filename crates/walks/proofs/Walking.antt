@@ -21,7 +21,8 @@ use Rattle.builder.specs.Build.{Truck, fresh, doing, resting}
 use Rattle.builder.specs.Tips.{nearestTip}
 use Rattle.builder.proofs.Decided.{known, known-option}
 use Rattle.builder.proofs.Driving.{resting-keeps}
-use Rattle.builder.proofs.GreedyRoom.{Paid, Room, paid-fresh, paid-rest, paid-serve, paid-empty, paid-room}
+use Rattle.builder.specs.Rooms.{Paid, Room}
+use Rattle.builder.proofs.GreedyRoom.{paid-fresh, paid-rest, paid-serve, paid-empty, paid-room}
 use Rattle.builder.proofs.NextTasks.{nearest-open}
 use Rattle.builder.proofs.VehicleStops.{stops-append, visits-task}
 use Rattle.walks.specs.Walk.{inserting, emptiedFirst, exceeds, servingThen, walkTask, walkNext, walkOn, walkHome, doneBy, walkedAgain}

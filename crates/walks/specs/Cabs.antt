@@ -10,7 +10,7 @@ use Rattle.laws.specs.Buffer.{Wrote}
 use Rattle.day.specs.Fields.{places}
 use Rattle.checker.specs.Plan.{serve, taskWord, stopsOn}
 use Rattle.checker.specs.PlanWords.{vehicle, vehicleWord}
-use Rattle.builder.proofs.GreedyRoom.{Paid}
+use Rattle.builder.specs.Rooms.{Paid}
 use Rattle.builder.specs.Build.{Truck}
 use Rattle.walks.specs.declared.cabs.Cab.{Cab}
 

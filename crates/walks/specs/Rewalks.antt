@@ -16,7 +16,7 @@ use Rattle.checker.specs.Plan.{Task, serve, empty, lunch, Round, taskWord, roun
 use Rattle.checker.specs.PlanWords.{stopWord, tipWord}
 use Rattle.builder.specs.Build.{Truck, fresh}
 use Rattle.walks.specs.Cabs.{Stands}
-use Rattle.walks.specs.Edits.{Edit, before, after, swap, remove, replace, change, changed}
+use Rattle.walks.specs.Edits.{Edit, before, after, swap, remove, replace, change, changed, Trial, onTwo}
 use Rattle.walks.specs.Walk.{walkOn, walkedAgain}
 use Rattle.walks.specs.declared.cabs.Cab.{Cab}
 use Rattle.walks.specs.declared.edits.Edit as Code
@@ -31,6 +31,10 @@ editOf (Edits.After i j) = after i j
 editOf (Edits.Swap i j) = swap i j
 editOf (Edits.Remove at) = remove at
 editOf (Edits.Replace at x) = replace at x
+
+-- the trial that the code names by its edit and the vehicles that it touches
+abbrev pub trialOf : Code.Edit → ℕ → ℕ → Trial
+trialOf e one other = onTwo (editOf e) one other
 
 -- the numbers of an edit are those of stops and tips
 abbrev pub EditKnown : List ℕ → Code.Edit → Type 0

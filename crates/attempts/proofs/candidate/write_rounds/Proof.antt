@@ -6,7 +6,8 @@ use native.Mathlib.Omega.{arith}
 use lib.ListN.{length}
 use Rattle.checker.specs.Plan.{Round}
 use Rattle.builder.proofs.BuiltPlans.{room-is}
-use Rattle.attempts.specs.Candidates.{trialOf, Trying, Written}
+use Rattle.walks.specs.Rewalks.{trialOf}
+use Rattle.attempts.specs.Candidates.{Trying, Written}
 use Rattle.attempts.proofs.NextRounds.{few-vehicles}
 use Rattle.attempts.proofs.WrittenLaws.{below, written-start, room-left, next-room, written-next, written-fails, written-end}
 use Rattle.attempts.proofs.candidate.write_rounds.Statement.{statement}
