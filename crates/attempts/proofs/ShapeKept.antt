@@ -1,4 +1,4 @@
--- A trial that is listed for a plan leaves it in shape, whether or not the plan is then lawful: the same stops, each once, known numbers and
+-- A trial that may be made of a plan leaves it in shape, whether or not the plan is then lawful: the same stops, each once, known numbers and
 -- room for its words. The day may be any list of words.
 -- Assumes nothing.
 use Prim.Native.Nat.{ℕ, suc, _<_}
@@ -149,7 +149,7 @@ module _ (day : List ℕ) (m : Trial) where
       (λ done. retried-remade (suc from) tasks done (h .0) (r .0) (s .0))
       (λ others. tried-remade (suc from) rounds others (h .1) (r .1) (s .1)) e
 
--- a trial that may be made, and so each that is listed, keeps the shape
+-- a trial that may be made keeps the shape
 pub valid-shaped : (day : List ℕ) (rounds q : List Round) (m : Trial) → Shaped day rounds → Valid day rounds m → tried day rounds m ≡ some q → Shaped day q
 valid-shaped day rounds q m s v e =
     let a = tried-remade day m 0 rounds q (s .known) (s .rooms) (valid-suits day rounds m v) e in

@@ -10,7 +10,6 @@ use Rattle.laws.specs.Lists.{Every}
 use Rattle.checker.specs.Plan.{Round, roundWords, roundsWords, planWords, stopsOn, Known}
 use Rattle.builder.specs.Build.{greedyLefts}
 use Rattle.walks.specs.Edits.{Edit, Trial, changed}
-use Rattle.walks.specs.declared.edits.Edit as Code
 use Rattle.walks.specs.declared.vehicle.Walked.{Walked}
 use Rattle.trial_list.specs.Shapes.{Shaped, Valid}
 use Rattle.attempts.specs.Attempts.{retried, triedFrom, tried}

@@ -1,4 +1,4 @@
--- A trial while it is made, as the code has it. It serves the contracts of this crate's own functions. Assumes nothing.
+-- A trial while it is made, as the code has it. It serves the contracts of the functions that make trials. Assumes nothing.
 use Prim.Native.Nat.{ℕ, _+_, _≤_, _<_}
 use mathlib.Core.Path.{_≡_}
 use mathlib.Core.Bool.{true, false}

@@ -1,5 +1,5 @@
--- The table of all neighbours: a row of 50 places for each stop, and the keys that a row is chosen by. It serves the contracts of this
--- crate's own functions. Assumes nothing.
+-- The table of all neighbours: a row of 50 places for each stop, and the keys that a row is chosen by. It serves the contracts of the
+-- functions that make trials. Assumes nothing.
 use Prim.Native.Nat.{ℕ, zero, suc, _+_, _*_, _%_, _≤_, _<_}
 use mathlib.Core.Path.{_≡_}
 use mathlib.Core.List.{List}

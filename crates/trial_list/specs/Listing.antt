@@ -1,5 +1,5 @@
 -- What the code says of the trial list, which it never writes down: a step over it, the next trial, and the tables that it goes by. It serves
--- the contracts of this crate's own functions. Assumes nothing.
+-- the contracts of the functions that make trials. Assumes nothing.
 use Prim.Native.Nat.{ℕ, suc, _+_, _*_, _-_, _≤_, _<_}
 use mathlib.Core.Path.{_≡_}
 use mathlib.Core.Bool.{Bool, true, false}

@@ -1,5 +1,5 @@
--- The plans that trials work on, and what a trial that may be made names. They serve the contracts of this crate's own functions and the
--- proofs of what is promised; no definition rests on them. Assumes nothing.
+-- The plans that trials work on, and what a trial that may be made names. They serve the contracts of the functions that make trials and
+-- the proofs of what is promised; no definition rests on them. Assumes nothing.
 use Prim.Native.Nat.{ℕ, suc, _≤_, _<_}
 use mathlib.Core.Path.{_≡_}
 use mathlib.Core.List.{List, [], _∷_}

@@ -1,5 +1,5 @@
 -- Tables of the present plan: where each vehicle's words begin, which vehicle serves each stop, and how far each vehicle drives. It serves
--- the contracts of this crate's own functions. Assumes nothing.
+-- the contracts of the functions that make trials. Assumes nothing.
 use Prim.Native.Nat.{ℕ, _+_, _-_, _≤_, _<_}
 use mathlib.Core.Path.{_≡_}
 use mathlib.Core.Bool.{Bool, _&&_}

@@ -1,5 +1,5 @@
--- A vehicle's words, what an edit makes of them and how they are walked again, as the code has it. It serves the contracts of this crate's
--- own functions. Assumes nothing.
+-- A vehicle's words, what an edit makes of them and how they are walked again, as the code has it. It serves the contracts of the functions
+-- that make trials. Assumes nothing.
 use Prim.Native.Nat.{ℕ, _+_, _*_, _≤_, _<_}
 use mathlib.Core.Path.{_≡_}
 use mathlib.Core.Bool.{true, false}
