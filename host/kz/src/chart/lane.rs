@@ -108,7 +108,7 @@ impl Lane<'_> {
         match entry.act {
             Act::Stop(stop) => {
                 let asked = self.day.stops[stop - 1];
-                let (name, kg) = (self.names.stop(stop), asked.quantity);
+                let (name, kg) = (self.names.stop(stop), grouped(asked.quantity.into()));
                 let open = window(asked.visit.window);
                 format!("stop {stop}, {name}: {hours}, {kg} kg, open {open}")
             }

@@ -3,7 +3,7 @@
 use super::canvas::{Anchor, Area, Canvas};
 use super::lane::wedge;
 use super::layout::{has_own_name, BAR, MARGIN, WIDTH};
-use crate::clock::{shortened, window};
+use crate::clock::{grouped, shortened, window};
 use crate::day::Day;
 use crate::sheet::Sheet;
 use crate::text::Names;
@@ -29,7 +29,7 @@ pub(super) fn draw(canvas: &mut Canvas, day: &Day, names: &Names, sheet: &Sheet,
         let asked = day.stops[stop - 1];
         let name = if has_own_name(names, *stop) { names.stop(*stop) } else { "" };
         let what = format!("{stop} {}", shortened(name, LONGEST_NAME));
-        let (kg, open) = (asked.quantity, window(asked.visit.window));
+        let (kg, open) = (grouped(asked.quantity.into()), window(asked.visit.window));
         format!("{} ({kg} kg, {open})", what.trim_end())
     });
     let nothing = sheet.left_out.is_empty().then(|| "none".to_string());
