@@ -4,10 +4,12 @@
 # make demo    plans a sample depot's day, shows it and draws it
 # make install puts program, library, header, manual page and completions below PREFIX
 # make bench   times of the library beside plain Rust
+# make figures time and memory of kz, the table in docs/INTEGRATE.md; a minute or more
 # make fuzz    compares the library with the second implementation for SECONDS seconds;
 #              SEED=... repeats a run
 # make examples  writes the sample days and the plan of day M anew
 # make manual    writes the manual page and the completions anew
+# make pictures  writes the pictures of the guide anew
 # make clean   removes all that was made
 
 SECONDS ?= 60
@@ -24,7 +26,7 @@ KZ := host/target/release/kz
 CHART := target/demo.svg
 PLACE := $(DESTDIR)$(PREFIX)
 
-.PHONY: lib kz test demo install bench fuzz examples manual clean
+.PHONY: lib kz test demo install bench figures fuzz examples manual pictures clean
 
 lib: $(LIBRARY)
 
@@ -52,6 +54,9 @@ install: kz
 bench: lib
 	@$(RUN) -p bench
 
+figures: kz
+	@$(RUN) -p kz --example figures -- ../$(KZ)
+
 fuzz: lib
 	@$(RUN) -p kazhuvendi --example fuzz -- $(SECONDS) $(SEED)
 
@@ -65,6 +70,10 @@ manual: lib
 	@$(RUN) -p kz --example manual -- bash > kz/completions/kz.bash
 	@$(RUN) -p kz --example manual -- zsh > kz/completions/_kz
 	@$(RUN) -p kz --example manual -- fish > kz/completions/kz.fish
+
+pictures: kz
+	@$(KZ) build examples/depot.txt | $(KZ) chart examples/depot.txt - -o docs/pictures/greedy.svg
+	@$(KZ) demo -o docs/pictures/settled.svg > /dev/null
 
 clean:
 	rm -rf target host/target

@@ -4,10 +4,12 @@
 mod calls;
 mod day_m;
 mod forms;
+mod guides;
 mod help;
 mod interrupted;
 mod json;
 mod outputs;
+mod page;
 mod planning;
 mod refused;
 mod run;
