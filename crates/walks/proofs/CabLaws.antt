@@ -1,8 +1,8 @@
 -- A vehicle while it is walked again: each task that is written keeps it standing, and its numbers small. Assumes nothing.
-use Prim.Native.Nat.{ℕ, _+_, _≤_, _<_}
+use Prim.Native.Nat.{ℕ, _+_, _*_, _≤_, _<_}
 use mathlib.Core.Path.{_≡_, refl, sym, ap, _∙_, subst}
 use mathlib.Core.Bool.{true, false}
-use mathlib.Core.List.{List, [], _∷_, _++_, map, map-append}
+use mathlib.Core.List.{List, [], _∷_, _++_, map, map-append, append-assoc}
 use mathlib.Core.Option.{none, some}
 use native.Mathlib.Omega.{arith}
 use lib.ListN.{length, length-append, length-map, set}
@@ -25,7 +25,7 @@ use Rattle.builder.proofs.Decided.{bit-most}
 use Rattle.builder.proofs.GreedyRoom.{paid-rest, paid-serve, paid-empty, tasks-counted}
 use Rattle.builder.proofs.VehicleStops.{stops-append}
 use Rattle.walks.specs.Walk.{inserting}
-use Rattle.walks.specs.Cabs.{Modest, Standing, Stands, failed, onRoad, SomeStanding, Drives}
+use Rattle.walks.specs.Cabs.{Modest, Riding, Start, Standing, Stands, failed, onRoad, SomeStanding, Drives}
 use Rattle.walks.specs.declared.cabs.Cab.{Cab}
 
 -- how many words there are, and that there is room for one more
@@ -33,50 +33,57 @@ pub record Space (part : List ℕ) (at : ℕ) : Type 0 where
   pub inside : at < length part
   pub few : at ≤ 482
 
-module _ {day : List ℕ} {number most more : ℕ} {p part : List ℕ} {v : Truck} {c : Cab} where
-  standing-tasks : Standing day number most more p part v c → length (v .tasks) ≤ 481
-  standing-tasks s =
-      let once = bit-most (v .trip .rested) in
-      omega (arith, tasks-counted (v .tasks), s .paid .tips, s .paid .rests, s .served, s .few, s .limit)
+-- a vehicle on its way has done few tasks
+riding-tasks : {day : List ℕ} {most more : ℕ} {v : Truck} {c : Cab} → Riding day most more v c → length (v .tasks) ≤ 2 * most + 1
+riding-tasks {v = v} r = let once = bit-most (v .trip .rested) in omega (arith, tasks-counted (v .tasks), r .paid .tips, r .paid .rests, r .served, r .few)
 
-  pub standing-space : Standing day number most more p part v c → Space part (c .at)
-  standing-space s =
-      let once = bit-most (v .trip .rested) in
-      let size = length-map (v .tasks) taskWord in
-      record {
-        inside = omega (arith, size, s .text .count, s .text .size, tasks-counted (v .tasks), s .paid .tips, s .paid .rests, s .served, s .few, s .room);
-        few = omega (arith, size, s .text .count, standing-tasks s);
-      }
-
-  -- the trip that the code carries is small
-  pub standing-trip : Standing day number most more p part v c → SmallTrip day 2147483648 (c .trip)
-  standing-trip s =
-      subst (SmallTrip day 2147483648) (sym (s .tripIs))
+-- the trip and the load that the code carries are small
+module _ {day : List ℕ} {most more : ℕ} {v : Truck} {c : Cab} where
+  pub riding-trip : Riding day most more v c → SmallTrip day 2147483648 (c .trip)
+  riding-trip r =
+      subst (SmallTrip day 2147483648) (sym (r .tripIs))
       (record {
-        place = s .modest .place;
-        minute = omega (arith, s .modest .minute, standing-tasks s);
-        distance = omega (arith, s .modest .distance, standing-tasks s);
+        place = r .modest .place;
+        minute = omega (arith, r .modest .minute, riding-tasks r, r .limit);
+        distance = omega (arith, r .modest .distance, riding-tasks r, r .limit);
       })
 
-  pub standing-load : Standing day number most more p part v c → c .load < 134217728
-  standing-load s = omega (arith, s .loadIs, s .modest .load, standing-tasks s)
+  pub riding-load : Riding day most more v c → c .load < 134217728
+  riding-load r = omega (arith, r .loadIs, r .modest .load, riding-tasks r, r .limit)
+
+module _ {day : List ℕ} {start : Start} {most more : ℕ} {p part : List ℕ} {v : Truck} {c : Cab} where
+  pub standing-space : Standing day start most more p part v c → Space part (c .at)
+  standing-space s =
+      let size = length-map (s .since) taskWord in
+      let whole = ap length (s .tasks) ∙ length-append (start .done) (s .since) in
+      record {
+        inside = omega (arith, size, whole, s .text .count, s .text .size, riding-tasks (s .riding), s .room);
+        few = omega (arith, size, whole, s .text .count, riding-tasks (s .riding), s .riding .limit);
+      }
+
+  pub standing-trip : Standing day start most more p part v c → SmallTrip day 2147483648 (c .trip)
+  standing-trip s = riding-trip (s .riding)
+
+  pub standing-load : Standing day start most more p part v c → c .load < 134217728
+  standing-load s = riding-load (s .riding)
 
 -- it may serve as many stops or fewer
-pub standing-fewer : {day : List ℕ} {number most more less : ℕ} {p part : List ℕ} {v : Truck} {c : Cab} → less ≤ more
-    → Standing day number most more p part v c → Standing day number most less p part v c
-standing-fewer l s =
+pub riding-fewer : {day : List ℕ} {most more less : ℕ} {v : Truck} {c : Cab} → less ≤ more → Riding day most more v c → Riding day most less v c
+riding-fewer l r =
     record {
-      going = s .going;
-      tripIs = s .tripIs;
-      loadIs = s .loadIs;
-      text = s .text;
-      modest = s .modest;
-      paid = s .paid;
-      served = s .served;
-      few = omega (arith, s .few);
-      limit = s .limit;
-      room = s .room;
+      going = r .going;
+      tripIs = r .tripIs;
+      loadIs = r .loadIs;
+      modest = r .modest;
+      paid = r .paid;
+      served = r .served;
+      few = omega (arith, r .few);
+      limit = r .limit;
     }
+
+pub standing-fewer : {day : List ℕ} {start : Start} {most more less : ℕ} {p part : List ℕ} {v : Truck} {c : Cab} → less ≤ more
+    → Standing day start most more p part v c → Standing day start most less p part v c
+standing-fewer l s = record { riding = riding-fewer l (s .riding); since = s .since; tasks = s .tasks; text = s .text; room = s .room }
 
 -- a word more
 task-written : (number : ℕ) {word : ℕ} {p part : List ℕ} {at : ℕ} (tasks : Round) (task : Task)
@@ -125,68 +132,82 @@ module _ (day : List ℕ) (ok : IsAccepted day) (v : Truck) where
       }
 
 -- a rest, a tip and a stop are written
-module _ {day : List ℕ} {number most : ℕ} {p part : List ℕ} {v : Truck} {c : Cab} (ok : IsAccepted day) where
-  pub standing-rest : {more : ℕ} (r : Cab) {now : List ℕ} → Standing day number most more p part v c → due day (v .trip) ≡ true
+module _ {day : List ℕ} {start : Start} {most : ℕ} {p part : List ℕ} {v : Truck} {c : Cab} (ok : IsAccepted day) where
+  -- the words of one more task
+  standing-more : {more less : ℕ} (r : Cab) {now : List ℕ} {word : ℕ} (task : Task) (s : Standing day start most more p part v c)
+      → Riding day most less (doing day v task) r → r .at ≡ c .at + 1 → word ≡ taskWord task → now ≡ set part (c .at) word
+      → Standing day start most less p now (doing day v task) r
+  standing-more r {now} task s d n e w =
+      record {
+        riding = d;
+        since = s .since ++ (task ∷ []);
+        tasks = ap (λ (ts : Round). ts ++ (task ∷ [])) (s .tasks) ∙ append-assoc (start .done) (s .since) (task ∷ []);
+        text = subst (λ (b : List ℕ). Wrote (vehicleWord (start .number) ∷ map taskWord (s .since ++ (task ∷ []))) p b (r .at)) (sym w)
+            (wrote-same (task-written (start .number) (s .since) task (s .text) (standing-space s .inside) e) refl (sym n));
+        room = s .room;
+      }
+
+  pub standing-rest : {more : ℕ} (r : Cab) {now : List ℕ} → Standing day start most more p part v c → due day (v .trip) ≡ true
       → r .stuck ≡ false → r .trip ≡ doing day v lunch .trip → r .load ≡ c .load → r .at ≡ c .at + 1 → now ≡ set part (c .at) (taskWord lunch)
-      → Standing day number most more p now (doing day v lunch) r
+      → Standing day start most more p now (doing day v lunch) r
   unfolding cargoAfter stopsOn
   standing-rest r {now} s d g t l n w =
-      record {
+      let b = s .riding in
+      standing-more r lunch s
+      (record {
         going = g;
         tripIs = t;
-        loadIs = l ∙ s .loadIs;
-        text = subst (λ (b : List ℕ). Wrote (vehicleWord number ∷ map taskWord (v .tasks ++ (lunch ∷ []))) p b (r .at)) (sym w)
-            (wrote-same (task-written number (v .tasks) lunch (s .text) (standing-space s .inside) refl) refl (sym n));
-        modest = modest-rest day ok v (s .modest);
-        paid = paid-rest day v d (s .paid);
-        served = omega (arith, s .served, ap length (stops-append (v .tasks) (lunch ∷ [])), length-append (stopsOn (v .tasks)) []);
-        few = s .few;
-        limit = s .limit;
-        room = s .room;
-      }
+        loadIs = l ∙ b .loadIs;
+        modest = modest-rest day ok v (b .modest);
+        paid = paid-rest day v d (b .paid);
+        served = omega (arith, b .served, ap length (stops-append (v .tasks) (lunch ∷ [])), length-append (stopsOn (v .tasks)) []);
+        few = b .few;
+        limit = b .limit;
+      })
+      n refl w
 
-  pub standing-empty : {more : ℕ} (r : Cab) {now : List ℕ} {word : ℕ} (x : ℕ) → Standing day number most more p part v c → 0 < c .load → 0 < x → x ≤ tips day
+  pub standing-empty : {more : ℕ} (r : Cab) {now : List ℕ} {word : ℕ} (x : ℕ) → Standing day start most more p part v c → 0 < c .load → 0 < x → x ≤ tips day
       → r .stuck ≡ false → r .trip ≡ visited day (c .trip) x → r .load ≡ 0 → r .at ≡ c .at + 1 → word ≡ taskWord (empty x) → now ≡ set part (c .at) word
-      → Standing day number most more p now (doing day v (empty x)) r
+      → Standing day start most more p now (doing day v (empty x)) r
   unfolding cargoAfter stopsOn
   standing-empty r {now} x s q h k g t l n e w =
-      record {
+      let b = s .riding in
+      standing-more r (empty x) s
+      (record {
         going = g;
-        tripIs = t ∙ ap (λ (u : Trip). visited day u x) (s .tripIs);
+        tripIs = t ∙ ap (λ (u : Trip). visited day u x) (b .tripIs);
         loadIs = l;
-        text = subst (λ (b : List ℕ). Wrote (vehicleWord number ∷ map taskWord (v .tasks ++ (empty x ∷ []))) p b (r .at)) (sym w)
-            (wrote-same (task-written number (v .tasks) (empty x) (s .text) (standing-space s .inside) e) refl (sym n));
-        modest = modest-empty day ok v x h k (s .modest);
-        paid = paid-empty day v x (omega (arith, s .loadIs)) (s .paid);
-        served = omega (arith, s .served, ap length (stops-append (v .tasks) (empty x ∷ [])), length-append (stopsOn (v .tasks)) []);
-        few = s .few;
-        limit = s .limit;
-        room = s .room;
-      }
+        modest = modest-empty day ok v x h k (b .modest);
+        paid = paid-empty day v x (omega (arith, b .loadIs)) (b .paid);
+        served = omega (arith, b .served, ap length (stops-append (v .tasks) (empty x ∷ [])), length-append (stopsOn (v .tasks)) []);
+        few = b .few;
+        limit = b .limit;
+      })
+      n e w
 
-  pub standing-serve : {more : ℕ} (r : Cab) {now : List ℕ} {word q : ℕ} (k : ℕ) → Standing day number most (1 + more) p part v c → 0 < k → k ≤ stops day
+  pub standing-serve : {more : ℕ} (r : Cab) {now : List ℕ} {word q : ℕ} (k : ℕ) → Standing day start most (1 + more) p part v c → 0 < k → k ≤ stops day
       → r .stuck ≡ false → r .trip ≡ visited day (c .trip) (stopPlace day k) → q ≡ quantity day (stopPlace day k) → r .load ≡ c .load + q
       → r .at ≡ c .at + 1 → word ≡ taskWord (serve k) → now ≡ set part (c .at) word
-      → Standing day number most more p now (doing day v (serve k)) r
+      → Standing day start most more p now (doing day v (serve k)) r
   unfolding cargoAfter stopsOn
-  standing-serve r {now} k s h b g t q l n e w =
-      record {
+  standing-serve r {now} k s h m g t q l n e w =
+      let b = s .riding in
+      standing-more r (serve k) s
+      (record {
         going = g;
-        tripIs = t ∙ ap (λ (u : Trip). visited day u (stopPlace day k)) (s .tripIs);
-        loadIs = omega (arith, l, q, s .loadIs);
-        text = subst (λ (b : List ℕ). Wrote (vehicleWord number ∷ map taskWord (v .tasks ++ (serve k ∷ []))) p b (r .at)) (sym w)
-            (wrote-same (task-written number (v .tasks) (serve k) (s .text) (standing-space s .inside) e) refl (sym n));
-        modest = modest-serve day ok v k h b (s .modest);
-        paid = paid-serve day v k (s .paid);
-        served = omega (arith, s .served, ap length (stops-append (v .tasks) (serve k ∷ [])), length-append (stopsOn (v .tasks)) (k ∷ []));
-        few = omega (arith, s .few);
-        limit = s .limit;
-        room = s .room;
-      }
+        tripIs = t ∙ ap (λ (u : Trip). visited day u (stopPlace day k)) (b .tripIs);
+        loadIs = omega (arith, l, q, b .loadIs);
+        modest = modest-serve day ok v k h m (b .modest);
+        paid = paid-serve day v k (b .paid);
+        served = omega (arith, b .served, ap length (stops-append (v .tasks) (serve k ∷ [])), length-append (stopsOn (v .tasks)) (k ∷ []));
+        few = omega (arith, b .few);
+        limit = b .limit;
+      })
+      n e w
 
 -- a vehicle on its way is standing
-pub on-road : {day : List ℕ} {number most more : ℕ} {p part : List ℕ} {v : Truck} {c : Cab} → Stands day number most more p part (some v) c
-    → Standing day number most more p part v c
+pub on-road : {day : List ℕ} {start : Start} {most more : ℕ} {p part : List ℕ} {v : Truck} {c : Cab} → Stands day start most more p part (some v) c
+    → Standing day start most more p part v c
 on-road (onRoad v c s) = s
 
 -- a rest is taken where one is due
@@ -194,14 +215,14 @@ pub rest-drives : {day part now : List ℕ} (c r : Cab) → IsAccepted day → d
     → r .load ≡ c .load → r .at ≡ c .at + 1 → now ≡ set part (c .at) restWord
     → Drives day 0 part c (λ v. some (resting day v)) now r
 unfolding restIfDue resting taskWord
-rest-drives {day} {part} {now} c r ok d g t l n w number most more p v s =
-    let e : due day (v .trip) ≡ true = ap (due day) (sym (s .tripIs)) ∙ d in
-    rw e (onRoad _ r (standing-rest ok r (standing-fewer (omega arith) s) e g (t ∙ rw (d, s .tripIs) refl) l n w))
+rest-drives {day} {part} {now} c r ok d g t l n w start most more p v s =
+    let e : due day (v .trip) ≡ true = ap (due day) (sym (s .riding .tripIs)) ∙ d in
+    rw e (onRoad _ r (standing-rest ok r (standing-fewer (omega arith) s) e g (t ∙ rw (d, s .riding .tripIs) refl) l n w))
 
 pub keep-drives : {day part : List ℕ} (c : Cab) → due day (c .trip) ≡ false → Drives day 0 part c (λ v. some (resting day v)) part c
 unfolding resting
-keep-drives {day} c d number most more p v s =
-    let e : due day (v .trip) ≡ false = ap (due day) (sym (s .tripIs)) ∙ d in
+keep-drives {day} c d start most more p v s =
+    let e : due day (v .trip) ≡ false = ap (due day) (sym (s .riding .tripIs)) ∙ d in
     rw e (onRoad v c (standing-fewer (omega arith) s))
 
 -- the load is emptied at a tip, and a stop is served
@@ -209,40 +230,40 @@ pub empty-drives : {day part now : List ℕ} (c r : Cab) {word : ℕ} (x : ℕ) 
     → r .trip ≡ visited day (c .trip) x → r .load ≡ 0 → r .at ≡ c .at + 1 → word ≡ tipWord x → now ≡ set part (c .at) word
     → Drives day 0 part c (λ v. some (doing day v (empty x))) now r
 unfolding taskWord
-empty-drives c r x ok q h k g t l n e w number most more p v s = onRoad _ r (standing-empty ok r x (standing-fewer (omega arith) s) q h k g t l n e w)
+empty-drives c r x ok q h k g t l n e w start most more p v s = onRoad _ r (standing-empty ok r x (standing-fewer (omega arith) s) q h k g t l n e w)
 
 pub serve-drives : {day part now : List ℕ} (c r : Cab) {word q : ℕ} (k : ℕ) → IsAccepted day → 0 < k → k ≤ stops day → r .stuck ≡ false
     → r .trip ≡ visited day (c .trip) (stopPlace day k) → q ≡ quantity day (stopPlace day k) → r .load ≡ c .load + q → r .at ≡ c .at + 1
     → word ≡ stopWord k → now ≡ set part (c .at) word
     → Drives day 1 part c (λ v. some (doing day v (serve k))) now r
 unfolding taskWord
-serve-drives c r k ok h b g t q l n e w number most more p v s = onRoad _ r (standing-serve ok r k s h b g t q l n e w)
+serve-drives c r k ok h b g t q l n e w start most more p v s = onRoad _ r (standing-serve ok r k s h b g t q l n e w)
 
 -- the nearest tip is inserted: there is none, or it is driven to and a rest taken where one is due
 pub insert-fails : {day part : List ℕ} (c r : Cab) {x : ℕ} → x ≡ nearestTip day (c .trip .place) (c .trip .minute) → x ≡ 0 → r .stuck ≡ true
     → Drives day 0 part c (λ v. inserting day v (nearestTip day (v .trip .place) (v .trip .minute))) part r
 unfolding inserting
-insert-fails {day} c r e z g number most more p v s =
-    let n : nearestTip day (v .trip .place) (v .trip .minute) ≡ 0 = ap (λ (t : Trip). nearestTip day (t .place) (t .minute)) (sym (s .tripIs)) ∙ sym e ∙ z in
+insert-fails {day} c r e z g start most more p v s =
+    let n : nearestTip day (v .trip .place) (v .trip .minute) ≡ 0 = ap (λ (t : Trip). nearestTip day (t .place) (t .minute)) (sym (s .riding .tripIs)) ∙ sym e ∙ z in
     rw n (failed r g (s .text .size))
 
 pub insert-drives : {day part mid now : List ℕ} (c e r : Cab) {x : ℕ} → x ≡ nearestTip day (c .trip .place) (c .trip .minute) → (x ≡ 0 → ⊥)
     → Drives day 0 part c (λ v. some (doing day v (empty x))) mid e → Drives day 0 mid e (λ v. some (resting day v)) now r
     → Drives day 0 part c (λ v. inserting day v (nearestTip day (v .trip .place) (v .trip .minute))) now r
 unfolding inserting
-insert-drives {day} c e r {x} q z f g number most more p v s =
-    let n : nearestTip day (v .trip .place) (v .trip .minute) ≡ x = ap (λ (t : Trip). nearestTip day (t .place) (t .minute)) (sym (s .tripIs)) ∙ sym q in
-    rw (n, ne-eqb x 0 z) (g number most more p _ (standing-fewer (omega arith) (on-road (f number most more p v s))))
+insert-drives {day} c e r {x} q z f g start most more p v s =
+    let n : nearestTip day (v .trip .place) (v .trip .minute) ≡ x = ap (λ (t : Trip). nearestTip day (t .place) (t .minute)) (sym (s .riding .tripIs)) ∙ sym q in
+    rw (n, ne-eqb x 0 z) (g start most more p _ (standing-fewer (omega arith) (on-road (f start most more p v s))))
 
 -- there is still a vehicle behind a task that is done
 pub some-still : {day part now : List ℕ} {c e : Cab} {least : ℕ} (f : Truck → Truck) → SomeStanding day least part c
     → Drives day 0 part c (λ v. some (f v)) now e → SomeStanding day least now e
 some-still {least = least} f s d =
     record {
-      number = s .number;
+      start = s .start;
       most = s .most;
       more = s .more;
       p = s .p;
       v = f (s .v);
-      standing = on-road (d (s .number) (s .most) (least + s .more) (s .p) (s .v) (standing-fewer (omega arith) (s .standing)));
+      standing = on-road (d (s .start) (s .most) (least + s .more) (s .p) (s .v) (standing-fewer (omega arith) (s .standing)));
     }

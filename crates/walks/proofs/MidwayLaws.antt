@@ -1,36 +1,30 @@
 -- The tasks of a vehicle, changed and walked again one by one, and the way back. Assumes nothing.
 use Prim.Native.Nat.{ℕ, zero, suc, _+_, _-_, _*_, _≤_, _<_}
 use mathlib.Core.Path.{_≡_, refl, sym, ap, _∙_, subst}
-use mathlib.Core.Bool.{Bool, true, false, true≢false}
-use mathlib.Core.List.{List, [], _∷_, _++_, map}
+use mathlib.Core.Bool.{Bool, true, false}
+use mathlib.Core.List.{List, [], _∷_, map}
 use mathlib.Core.Option.{Option, some}
 use native.Mathlib.Omega.{arith}
 use lib.Dec.{eqb}
-use lib.ListN.{length, length-append, length-map, getD, drop, set, drop-of-length-le}
+use lib.ListN.{length, length-append, length-map, getD, drop, drop-of-length-le}
 use Rattle.laws.specs.Buffer.{Wrote}
 use Rattle.laws.specs.Lists.{Every}
 use Rattle.laws.specs.Tests.{if_then_else_}
-use Rattle.laws.proofs.Buffer.{wrote-put, wrote-same}
-use Rattle.day.specs.Fields.{legDistance}
-use Rattle.checker.specs.Plan.{lunch, Round, stopsOn, taskWord, roundWords}
-use Rattle.checker.specs.PlanWords.{vehicleWord, backWord}
+use Rattle.laws.proofs.Buffer.{wrote-same}
+use Rattle.checker.specs.Plan.{lunch, Round, stopsOn, taskWord}
+use Rattle.checker.specs.PlanWords.{vehicleWord}
 use Rattle.checker.specs.Trip.{leaving}
-use Rattle.checker.specs.declared.walk.Trip.{Trip}
 use Rattle.builder.specs.Build.{Truck, fresh}
 use Rattle.builder.proofs.GreedyRoom.{paid-fresh}
 use Rattle.builder.proofs.VehicleStops.{stops-append}
-use Rattle.walks.specs.Cabs.{Stands, failed, onRoad, SomeStanding, Drives}
+use Rattle.walks.specs.Cabs.{Start, atDepot, Stands, failed, onRoad}
 use Rattle.walks.specs.Edits.{Edit, changed}
-use Rattle.walks.specs.Rewalks.{editOf, EditKnown, SomeWord, WalksWord, Left, fromTask, fromWaiting, Turned, TakesTurn, steps, Walkable, Midway, Through, WalkedAs}
-use Rattle.walks.specs.Walk.{walkOn, walkHome, doneBy, walkedAgain}
+use Rattle.walks.specs.Rewalks.{editOf, EditKnown, SomeWord, WalksWord, Left, fromTask, fromWaiting, Turned, TakesTurn, steps, Walkable, Midway}
+use Rattle.walks.specs.Walk.{walkOn}
 use Rattle.walks.specs.declared.cabs.Cab.{Cab}
 use Rattle.walks.specs.declared.edits.Edit as Code
 use Rattle.walks.specs.declared.vehicle.Turn.{Turn}
-use Rattle.walks.specs.declared.vehicle.Walked.{Walked}
-use Rattle.walks.proofs.CabLaws.{standing-fewer, standing-space}
 use Rattle.walks.proofs.RewalkLaws.{stands-fewer, walk-append}
-use Rattle.walks.proofs.WalkLaws.{stands-goes, stands-failed}
-use Rattle.walks.proofs.Walking.{walked-on, walked-home, walked-distance}
 
 -- an element of a list of which each has a property
 pub every-at : {A : Type 0} (P : A → Type 0) (xs : List A) (i : ℕ) (d : A) → Every P xs → i < length xs → P (getD xs i d)
@@ -39,34 +33,39 @@ every-at P [] i d e l = absurd (omega arith)
 every-at P (x ∷ xs) zero d e l = e .0
 every-at P (x ∷ xs) (suc i) d e l = every-at P xs i d (e .1) (omega arith)
 
-get-map : {A : Type 0} (f : A → ℕ) (xs : List A) (i d : ℕ) (a : A) → i < length xs → getD (map f xs) i d ≡ f (getD xs i a)
+pub get-map : {A : Type 0} (f : A → ℕ) (xs : List A) (i d : ℕ) (a : A) → i < length xs → getD (map f xs) i d ≡ f (getD xs i a)
 get-map f [] i d a l = absurd (omega arith)
 get-map f (x ∷ xs) zero d a l = refl
 get-map f (x ∷ xs) (suc i) d a l = get-map f xs i d a (omega arith)
 
--- before the first task
-pub midway-start : {day : List ℕ} {e : Edit} {number : ℕ} {words p part : List ℕ} {tasks : Round} {c : Cab} → Wrote (vehicleWord number ∷ []) p part 1
-    → Walkable day e words p tasks → c .stuck ≡ false → c .trip ≡ leaving day → c .load ≡ 0 → c .at ≡ 1 → Midway day e number p part tasks 0 0 c
+-- an empty vehicle at the depot, behind its A word
+pub fresh-stands : {day : List ℕ} {number most : ℕ} {p part : List ℕ} {c : Cab} → Wrote (vehicleWord number ∷ []) p part 1 → most ≤ 240 → 3 + 2 * most ≤ length p
+    → c .stuck ≡ false → c .trip ≡ leaving day → c .load ≡ 0 → c .at ≡ 1 → Stands day (atDepot number) most most p part (some (fresh day [])) c
 unfolding stopsOn
-midway-start {day} {c = c} w h g t l n =
-    record {
-      o = some (fresh day []);
-      rest = _;
-      left = fromTask 0;
-      stands = onRoad (fresh day []) c (record {
+fresh-stands {day} {c = c} w few room g t l n =
+    onRoad (fresh day []) c
+    (record {
+      riding = record {
         going = g;
         tripIs = t;
         loadIs = l;
-        text = wrote-same w refl (sym n);
         modest = record { place = omega arith; minute = omega arith; distance = omega arith; load = omega arith };
         paid = paid-fresh day [];
         served = refl;
         few = omega arith;
-        limit = h .few;
-        room = h .room;
-      });
-      same = refl;
-    }
+        limit = few;
+      };
+      since = [];
+      tasks = refl;
+      text = wrote-same w refl (sym n);
+      room = room;
+    })
+
+-- before the first task
+pub midway-start : {day : List ℕ} {e : Edit} {number : ℕ} {words p part : List ℕ} {tasks : Round} {c : Cab} → Wrote (vehicleWord number ∷ []) p part 1
+    → Walkable day e words p tasks → c .stuck ≡ false → c .trip ≡ leaving day → c .load ≡ 0 → c .at ≡ 1 → Midway day e (atDepot number) p part tasks 0 0 c
+midway-start {day} w h g t l n =
+    record { o = some (fresh day []); rest = _; left = fromTask 0; stands = fresh-stands w (h .few) (h .room) g t l n; same = refl }
 
 -- the next word
 module _ {day : List ℕ} (e : Code.Edit) {words p : List ℕ} {tasks : Round} (h : Walkable day (editOf e) words p tasks) (k : EditKnown day e) {i : ℕ} (l : i < length words) where
@@ -76,7 +75,7 @@ module _ {day : List ℕ} (e : Code.Edit) {words p : List ℕ} {tasks : Round} (
   word-is : (d : ℕ) → getD words i d ≡ taskWord (getD tasks i lunch)
   word-is d = ap (λ (ws : List ℕ). getD ws i d) (h .are) ∙ get-map taskWord tasks i d lunch tasks-long
 
-  module _ (d : ℕ) {number waiting : ℕ} {part : List ℕ} {c : Cab} {r : Turn} (m : Midway day (editOf e) number p part tasks i waiting c)
+  module _ (d : ℕ) {start : Start} {waiting : ℕ} {part : List ℕ} {c : Cab} {r : Turn} (m : Midway day (editOf e) start p part tasks i waiting c)
       (f : TakesTurn e i (getD words i d) waiting r) where
     turned : Turned day (editOf e) tasks (m .rest) r
     turned = f day tasks (m .rest) k (h .known) tasks-long (word-is d) (m .left)
@@ -89,7 +88,7 @@ module _ {day : List ℕ} (e : Code.Edit) {words p : List ℕ} {tasks : Round} (
     pub midway-word : SomeWord day part c (r .word)
     midway-word =
         record {
-          number = number;
+          start = start;
           most = _;
           more = length (stopsOn (turned .others));
           p = p;
@@ -99,18 +98,18 @@ module _ {day : List ℕ} (e : Code.Edit) {words p : List ℕ} {tasks : Round} (
           stands = stands-fewer (omega (arith, turned-stops)) (m .stands);
         }
 
-    pub midway-step : {now : List ℕ} {b : Cab} → WalksWord day part c (r .word) now b → Midway day (editOf e) number p now tasks (r .next) (r .waiting) b
+    pub midway-step : {now : List ℕ} {b : Cab} → WalksWord day part c (r .word) now b → Midway day (editOf e) start p now tasks (r .next) (r .waiting) b
     midway-step g =
         record {
           o = walkOn day (turned .here) (m .o);
           rest = turned .others;
           left = turned .left;
-          stands = g number _ _ p (m .o) (turned .here) (turned .means) (stands-fewer (omega (arith, turned-stops)) (m .stands));
+          stands = g start _ _ p (m .o) (turned .here) (turned .means) (stands-fewer (omega (arith, turned-stops)) (m .stands));
           same = sym (walk-append day (turned .here) (turned .others) (m .o)) ∙ ap (λ (ts : Round). walkOn day ts (m .o)) (sym (turned .whole)) ∙ m .same;
         }
 
 -- the part keeps its length
-pub stands-size : {day : List ℕ} {number most more : ℕ} {p part : List ℕ} {o : Option Truck} {c : Cab} → Stands day number most more p part o c → length part ≡ length p
+pub stands-size : {day : List ℕ} {start : Start} {most more : ℕ} {p part : List ℕ} {o : Option Truck} {c : Cab} → Stands day start most more p part o c → length part ≡ length p
 stands-size (failed c g z) = z
 stands-size (onRoad v c s) = s .text .size
 
@@ -120,76 +119,14 @@ unfolding changed
 none-left {tasks = tasks} (fromTask i) l = let q : drop i tasks ≡ [] = drop-of-length-le tasks {i = i} l in rw q refl
 none-left (fromWaiting i waiting two y g b) l = absurd (omega arith)
 
-pub midway-through : {day : List ℕ} {e : Edit} {number : ℕ} {words p part : List ℕ} {tasks : Round} {i waiting : ℕ} {c : Cab} → Walkable day e words p tasks → length words ≤ i
-    → Midway day e number p part tasks i waiting c → Through day e number p part tasks c
+pub midway-done : {day : List ℕ} {e : Edit} {start : Start} {words p part : List ℕ} {tasks : Round} {i waiting : ℕ} {c : Cab} → Walkable day e words p tasks → length words ≤ i
+    → Midway day e start p part tasks i waiting c
+    → Stands day start (length (stopsOn (changed e 0 tasks))) 0 p part (walkOn day (changed e 0 tasks) (some (fresh day []))) c
 unfolding walkOn
-midway-through {day} {e} {number} {words} {p} {part} {tasks} {i} {waiting} {c} h l m =
+midway-done {day} {e} {start} {words} {p} {part} {tasks} {i} {waiting} {c} h l m =
     let q : m .rest ≡ [] = none-left (m .left) (omega (arith, l, ap length (h .are), length-map tasks taskWord)) in
     let o : m .o ≡ walkOn day (changed e 0 tasks) (some (fresh day [])) = rw q at (m .same) in
-    record {
-      stands = subst (λ (x : Option Truck). Stands day number (length (stopsOn (changed e 0 tasks))) 0 p part x c) o (stands-fewer (omega arith) (m .stands));
-    }
-
--- a trial that has failed among the tasks, and on the way back
-module _ {day : List ℕ} {e : Edit} {number : ℕ} {words p part : List ℕ} {tasks : Round} {c : Cab} (h : Walkable day e words p tasks)
-    (m : Through day e number p part tasks c) where
-  abbrev walked : Option Truck
-  walked = walkOn day (changed e 0 tasks) (some (fresh day []))
-
-  pub walked-failed : c .stuck ≡ true → (r : Walked) → r .stuck ≡ true → WalkedAs day number (changed e 0 tasks) p part r
-  unfolding walkedAgain walkHome doneBy
-  walked-failed g r s =
-      let f = stands-failed walked (m .stands) g in
-      record {
-        size = f .1;
-        failed = λ _. rw (f .0) refl;
-        again = λ n. absurd (true≢false (sym s ∙ n));
-      }
-
-  pub home-failed : {now : List ℕ} {b : Cab} → c .stuck ≡ false → Drives day 0 part c (λ v. walkHome day (some v)) now b → b .stuck ≡ true → (r : Walked) → r .stuck ≡ true
-      → WalkedAs day number (changed e 0 tasks) p now r
-  unfolding walkedAgain doneBy
-  home-failed g d q r s =
-      let t = stands-goes walked (m .stands) g in
-      let f = stands-failed (walkHome day (some (t .v))) (d number _ 0 p (t .v) (standing-fewer (omega arith) (t .standing))) q in
-      record {
-        size = f .1;
-        failed = λ _. rw (t .is, f .0) refl;
-        again = λ n. absurd (true≢false (sym s ∙ n));
-      }
-
-  -- the vehicle is back
-  pub walked-back : {mid now : List ℕ} {b : Cab} {leg : ℕ} → c .stuck ≡ false → Drives day 0 part c (λ v. walkHome day (some v)) mid b → b .stuck ≡ false
-      → now ≡ set mid (b .at) backWord → leg ≡ legDistance day (b .trip .place) 0 → (r : Walked) → r .stuck ≡ false → r .words ≡ b .at + 1 → r .distance ≡ b .trip .distance + leg
-      → WalkedAs day number (changed e 0 tasks) p now r
-  unfolding walkedAgain doneBy roundWords
-  walked-back {mid} {now} {b} {leg} g d q w k r s n l =
-      let t = stands-goes walked (m .stands) g in
-      let f = stands-goes (walkHome day (some (t .v))) (d number _ 0 p (t .v) (standing-fewer (omega arith) (t .standing))) q in
-      let u = f .v in
-      let put : Wrote (vehicleWord number ∷ (map taskWord (u .tasks) ++ (backWord ∷ []))) p (set mid (b .at) backWord) (b .at + 1) =
-      wrote-put (f .standing .text) backWord (omega (arith, standing-space (f .standing) .inside, f .standing .text .size)) in
-      let start = walked-on day (changed e 0 tasks) (t .v) (h .edited) (t .is) in
-      let home = walked-home day (changed e 0 tasks) (t .v) u start (f .is) in
-      record {
-        size = ap length w ∙ put .size;
-        failed = λ y. absurd (true≢false (sym y ∙ s));
-        again = λ _. record {
-          done = u .tasks;
-          is = ap (λ (x : Option Truck). doneBy (walkHome day x)) (t .is) ∙ ap doneBy (f .is);
-          text = subst (λ (x : List ℕ). Wrote (vehicleWord number ∷ (map taskWord (u .tasks) ++ (backWord ∷ []))) p x (r .words)) (sym w) (wrote-same put refl (sym n));
-          distance =
-              l ∙ ap (λ (x : ℕ). b .trip .distance + x) k ∙ ap (λ (x : Trip). x .distance + legDistance day (x .place) 0) (f .standing .tripIs)
-              ∙ walked-distance day (changed e 0 tasks) u home;
-        };
-      }
-
--- the vehicle before its way back
-pub through-standing : {day : List ℕ} {e : Edit} {number : ℕ} {p part : List ℕ} {tasks : Round} {c : Cab} → Through day e number p part tasks c → c .stuck ≡ false
-    → SomeStanding day 0 part c
-through-standing {day} {e} {number} {p} {part} {tasks} {c} m g =
-    let t = stands-goes (walkOn day (changed e 0 tasks) (some (fresh day []))) (m .stands) g in
-    record { number = number; most = _; more = 0; p = p; v = t .v; standing = standing-fewer (omega arith) (t .standing) }
+    subst (λ (x : Option Truck). Stands day start (length (stopsOn (changed e 0 tasks))) 0 p part x c) o (stands-fewer (omega arith) (m .stands))
 
 -- each turn leaves fewer
 pub turns-left : (n i waiting next behind : ℕ) → i < n → steps i waiting < steps next behind → 2 * n + 2 - steps next behind < 2 * n + 2 - steps i waiting

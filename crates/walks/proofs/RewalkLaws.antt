@@ -13,7 +13,7 @@ use Rattle.day.specs.Fields.{stops, tips}
 use Rattle.checker.specs.Plan.{Task, serve, empty, lunch, Round, stopsOn, Known}
 use Rattle.checker.specs.PlanWords.{stopWord, tipWord}
 use Rattle.builder.specs.Build.{Truck, resting}
-use Rattle.walks.specs.Cabs.{Stands, failed, onRoad, SomeStanding, Drives}
+use Rattle.walks.specs.Cabs.{Start, Stands, failed, onRoad, SomeStanding, Drives}
 use Rattle.walks.specs.Edits.{Edit, change, changed}
 use Rattle.walks.specs.Rewalks.{Means, nothing, aStop, aTip, Becomes, SomeWord, WalksWord, Left, fromTask, fromWaiting, Turned, steps}
 use Rattle.walks.specs.Walk.{walkTask, walkNext, walkOn}
@@ -24,8 +24,8 @@ use Rattle.walks.proofs.WalkLaws.{stands-goes, stands-failed}
 use Rattle.walks.proofs.Walking.{failed-on}
 
 -- it may serve as many stops or fewer
-pub stands-fewer : {day : List ℕ} {number most more less : ℕ} {p part : List ℕ} {o : Option Truck} {c : Cab} → less ≤ more
-    → Stands day number most more p part o c → Stands day number most less p part o c
+pub stands-fewer : {day : List ℕ} {start : Start} {most more less : ℕ} {p part : List ℕ} {o : Option Truck} {c : Cab} → less ≤ more
+    → Stands day start most more p part o c → Stands day start most less p part o c
 stands-fewer l (failed c g z) = failed c g z
 stands-fewer l (onRoad v c s) = onRoad v c (standing-fewer l s)
 
@@ -65,17 +65,17 @@ means-tip (aTip x n) z l =
 -- no word, and a trial that has failed before
 pub word-none : {day part : List ℕ} {c : Cab} {w : ℕ} → w ≡ 0 → WalksWord day part c w part c
 unfolding walkOn
-word-none z number most more p o tasks m s = rw (means-none m z) (stands-fewer (omega arith) s)
+word-none z start most more p o tasks m s = rw (means-none m z) (stands-fewer (omega arith) s)
 
 pub word-failed : {day part : List ℕ} {c : Cab} {w : ℕ} → c .stuck ≡ true → WalksWord day part c w part c
-word-failed {day} {c = c} g number most more p o tasks m s =
+word-failed {day} {c = c} g start most more p o tasks m s =
     let f = stands-failed o s g in rw (f .0, failed-on day tasks) (failed c g (f .1))
 
 -- the vehicle before a word
 pub word-standing : {day part : List ℕ} {c : Cab} {w : ℕ} (s : SomeWord day part c w) → c .stuck ≡ false → SomeStanding day (length (stopsOn (s .tasks))) part c
 word-standing s g =
     let t = stands-goes (s .o) (s .stands) g in
-    record { number = s .number; most = s .most; more = s .more; p = s .p; v = t .v; standing = t .standing }
+    record { start = s .start; most = s .most; more = s .more; p = s .p; v = t .v; standing = t .standing }
 
 one-stop : {tasks : Round} {k : ℕ} → tasks ≡ serve k ∷ [] → length (stopsOn tasks) ≡ 1
 unfolding stopsOn
@@ -84,7 +84,7 @@ one-stop e = rw e refl
 pub stop-standing : {day part : List ℕ} {c : Cab} {w : ℕ} {tasks : Round} → StopWord day w tasks → SomeStanding day (length (stopsOn tasks)) part c → SomeStanding day 1 part c
 stop-standing {tasks = tasks} t s =
     record {
-      number = s .number;
+      start = s .start;
       most = s .most;
       more = s .more;
       p = s .p;
@@ -96,20 +96,20 @@ stop-standing {tasks = tasks} t s =
 pub word-stop : {day part mid now : List ℕ} {c e r : Cab} {w : ℕ} → (w ≡ 0 → ⊥) → c .stuck ≡ false → Drives day 0 part c (λ v. some (resting day v)) mid e → w < 3221225472
     → Drives day 1 mid e (λ v. walkTask day v (serve (w - 2952790016))) now r → WalksWord day part c w now r
 unfolding walkOn walkNext
-word-stop z g f l h number most more p o tasks m s =
+word-stop z g f l h start most more p o tasks m s =
     let t = means-stop m z l in
     let v = stands-goes o s g in
-    let u = on-road (f number most (1 + more) p (v .v) (standing-fewer (omega (arith, one-stop (t .is))) (v .standing))) in
-    rw (t .is, v .is) (h number most more p (resting _ (v .v)) u)
+    let u = on-road (f start most (1 + more) p (v .v) (standing-fewer (omega (arith, one-stop (t .is))) (v .standing))) in
+    rw (t .is, v .is) (h start most more p (resting _ (v .v)) u)
 
 pub word-tip : {day part mid now : List ℕ} {c e r : Cab} {w : ℕ} → (w ≡ 0 → ⊥) → c .stuck ≡ false → Drives day 0 part c (λ v. some (resting day v)) mid e → 3221225472 ≤ w
     → Drives day 0 mid e (λ v. walkTask day v (empty (w - 3221225472))) now r → WalksWord day part c w now r
 unfolding walkOn walkNext
-word-tip z g f l h number most more p o tasks m s =
+word-tip z g f l h start most more p o tasks m s =
     let t = means-tip m z l in
     let v = stands-goes o s g in
-    let u = on-road (f number most more p (v .v) (standing-fewer (omega arith) (v .standing))) in
-    rw (t .is, v .is) (h number most more p (resting _ (v .v)) (standing-fewer (omega arith) u))
+    let u = on-road (f start most more p (v .v) (standing-fewer (omega arith) (v .standing))) in
+    rw (t .is, v .is) (h start most more p (resting _ (v .v)) (standing-fewer (omega arith) u))
 
 -- two parts of what is walked
 pub walk-append : (day : List ℕ) (xs ys : Round) (o : Option Truck) → walkOn day (xs ++ ys) o ≡ walkOn day ys (walkOn day xs o)
@@ -118,7 +118,7 @@ walk-append day [] ys o = refl
 walk-append day (task ∷ xs) ys o = walk-append day xs ys (walkNext day task o)
 
 -- all from a task on
-left-all : {day : List ℕ} {e : Edit} {tasks rest : Round} {i waiting : ℕ} → Left day e tasks i waiting rest → waiting ≡ 0 → rest ≡ changed e i (drop i tasks)
+pub left-all : {day : List ℕ} {e : Edit} {tasks rest : Round} {i waiting : ℕ} → Left day e tasks i waiting rest → waiting ≡ 0 → rest ≡ changed e i (drop i tasks)
 left-all (fromTask i) z = refl
 left-all (fromWaiting i waiting two y l b) z = absurd (y z)
 

@@ -10,14 +10,14 @@ use lib.ListN.{length, getD, drop}
 use Rattle.laws.specs.Buffer.{Wrote}
 use Rattle.laws.specs.Lists.{Every}
 use Rattle.laws.specs.Tests.{if_then_else_}
-use Rattle.day.specs.Fields.{tips, stops}
+use Rattle.day.specs.Fields.{tips, stops, legDistance}
 use Rattle.checker.specs.Lawful.{distanceFrom}
 use Rattle.checker.specs.Plan.{Task, serve, empty, lunch, Round, taskWord, roundWords, stopsOn, Known}
 use Rattle.checker.specs.PlanWords.{stopWord, tipWord}
 use Rattle.builder.specs.Build.{Truck, fresh}
-use Rattle.walks.specs.Cabs.{Stands}
+use Rattle.walks.specs.Cabs.{Start, atDepot, Standing, Stands}
 use Rattle.walks.specs.Edits.{Edit, before, after, swap, remove, replace, change, changed, Trial, onTwo}
-use Rattle.walks.specs.Walk.{walkOn, walkedAgain}
+use Rattle.walks.specs.Walk.{walkOn, walkHome, walkedAgain}
 use Rattle.walks.specs.declared.cabs.Cab.{Cab}
 use Rattle.walks.specs.declared.edits.Edit as Code
 use Rattle.walks.specs.declared.edits.Edit.the-variants as Edits
@@ -68,20 +68,20 @@ pub record Becomes (day : List ℕ) (e : Edit) (t : ℕ) (task : Task) (first se
 
 -- a vehicle or a failed trial, with a word before it
 pub record SomeWord (day part : List ℕ) (c : Cab) (w : ℕ) : Type 0 where
-  pub number : ℕ
+  pub start : Start
   pub most : ℕ
   pub more : ℕ
   pub p : List ℕ
   pub o : Option Truck
   pub tasks : Round
   pub means : Means day w tasks
-  pub stands : Stands day number most (length (stopsOn tasks) + more) p part o c
+  pub stands : Stands day start most (length (stopsOn tasks) + more) p part o c
 
 -- it has walked the word
 abbrev pub WalksWord : List ℕ → List ℕ → Cab → ℕ → List ℕ → Cab → Type 0
 WalksWord day part c w now r =
-    (number most more : ℕ) (p : List ℕ) (o : Option Truck) (tasks : Round) → Means day w tasks
-    → Stands day number most (length (stopsOn tasks) + more) p part o c → Stands day number most more p now (walkOn day tasks o) r
+    (start : Start) (most more : ℕ) (p : List ℕ) (o : Option Truck) (tasks : Round) → Means day w tasks
+    → Stands day start most (length (stopsOn tasks) + more) p part o c → Stands day start most more p now (walkOn day tasks o) r
 
 -- what is left to walk of the changed tasks: all from number i on, or what waits of task i and all behind it
 pub data Left (day : List ℕ) (e : Edit) (tasks : Round) : ℕ → ℕ → Round → Type 0 where
@@ -120,28 +120,59 @@ pub record SomeWalkable (day : List ℕ) (e : Edit) (words part : List ℕ) : Ty
   pub walkable : Walkable day e words part tasks
 
 -- a part of the tasks is walked
-pub record Midway (day : List ℕ) (e : Edit) (number : ℕ) (p part : List ℕ) (tasks : Round) (i waiting : ℕ) (c : Cab) : Type 0 where
+pub record Midway (day : List ℕ) (e : Edit) (start : Start) (p part : List ℕ) (tasks : Round) (i waiting : ℕ) (c : Cab) : Type 0 where
   pub o : Option Truck
   pub rest : Round
   pub left : Left day e tasks i waiting rest
-  pub stands : Stands day number (length (stopsOn (changed e 0 tasks))) (length (stopsOn rest)) p part o c
+  pub stands : Stands day start (length (stopsOn (changed e 0 tasks))) (length (stopsOn rest)) p part o c
   pub same : walkOn day rest o ≡ walkOn day (changed e 0 tasks) (some (fresh day []))
 
 -- all of them are, whatever tasks have these words
 pub record Through (day : List ℕ) (e : Edit) (number : ℕ) (p part : List ℕ) (tasks : Round) (c : Cab) : Type 0 where
-  pub stands : Stands day number (length (stopsOn (changed e 0 tasks))) 0 p part (walkOn day (changed e 0 tasks) (some (fresh day []))) c
+  pub stands : Stands day (atDepot number) (length (stopsOn (changed e 0 tasks))) 0 p part (walkOn day (changed e 0 tasks) (some (fresh day []))) c
 
 abbrev pub WalksAll : List ℕ → Edit → ℕ → List ℕ → List ℕ → List ℕ → Cab → Type 0
 WalksAll day e number words p part c = (tasks : Round) → Walkable day e words p tasks → Through day e number p part tasks c
 
--- the vehicle is walked again: the trial has failed, or its words stand at the front of the part
-pub record Again (day : List ℕ) (number : ℕ) (tasks : Round) (p part : List ℕ) (r : Walked) : Type 0 where
+-- a vehicle or a failed trial, and no task left
+pub record SomeDone (day part : List ℕ) (c : Cab) : Type 0 where
+  pub start : Start
+  pub most : ℕ
+  pub p : List ℕ
+  pub o : Option Truck
+  pub stands : Stands day start most 0 p part o c
+
+-- the vehicle is back, but for its E word
+pub record Back (day : List ℕ) (start : Start) (most : ℕ) (p part : List ℕ) (o : Option Truck) (r : Walked) : Type 0 where
+  pub v : Truck
+  pub is : walkHome day o ≡ some v
+  pub cab : Cab
+  pub standing : Standing day start most 0 p part v cab
+  pub words : r .words ≡ cab .at + 1
+  pub distance : r .distance ≡ v .trip .distance + legDistance day (v .trip .place) 0
+
+-- or the trial has failed
+pub record BackAs (day : List ℕ) (start : Start) (most : ℕ) (p part : List ℕ) (o : Option Truck) (r : Walked) : Type 0 where
+  pub size : length part ≡ length p
+  pub failed : r .stuck ≡ true → walkHome day o ≡ none
+  pub back : r .stuck ≡ false → Back day start most p part o r
+
+abbrev pub ComesBack : List ℕ → List ℕ → Cab → List ℕ → Walked → Type 0
+ComesBack day part c now r = (start : Start) (most : ℕ) (p : List ℕ) (o : Option Truck) → Stands day start most 0 p part o c → BackAs day start most p now o r
+
+-- the vehicle is walked again: what it has done, and how far it drives
+pub record Again (day : List ℕ) (tasks : Round) (distance : ℕ) : Type 0 where
   pub done : Round
   pub is : walkedAgain day tasks ≡ some done
-  pub text : Wrote (roundWords number done) p part (r .words)
-  pub distance : r .distance ≡ distanceFrom day 0 done
+  pub drives : distance ≡ distanceFrom day 0 done
 
+-- or the trial has failed
+pub record AgainAs (day : List ℕ) (tasks : Round) (r : Walked) : Type 0 where
+  pub failed : r .stuck ≡ true → walkedAgain day tasks ≡ none
+  pub again : r .stuck ≡ false → Again day tasks (r .distance)
+
+-- and its words stand at the front of the part
 pub record WalkedAs (day : List ℕ) (number : ℕ) (tasks : Round) (p part : List ℕ) (r : Walked) : Type 0 where
   pub size : length part ≡ length p
-  pub failed : r .stuck ≡ true → walkedAgain day tasks ≡ none
-  pub again : r .stuck ≡ false → Again day number tasks p part r
+  pub again : AgainAs day tasks r
+  pub text : (n : r .stuck ≡ false) → Wrote (roundWords number (again .again n .done)) p part (r .words)

@@ -7,7 +7,7 @@ ghost use Rattle.day.specs.Layout.{LayoutOf};
 ghost use Rattle.checker.specs.Trip.{leaving};
 ghost use Rattle.checker.specs.Plan.{Round};
 ghost use Rattle.walks.specs.Edits.{changed};
-ghost use Rattle.walks.specs.Rewalks.{editOf, EditKnown, EditSmall, SomeWord, WalksWord, TakesTurn, steps, Walkable, SomeWalkable, WalksAll, WalkedAs};
+ghost use Rattle.walks.specs.Rewalks.{editOf, EditKnown, EditSmall, SomeWord, WalksWord, TakesTurn, steps, Walkable, SomeWalkable, WalksAll, SomeDone, ComesBack, WalkedAs};
 use crate::cabs::Cab;
 use crate::cabs::rest_cab;
 use crate::cabs::walk_home;
@@ -19,7 +19,7 @@ use checker::walk::Trip;
 use day::fields::Layout;
 
 // One word is walked: a stop or a tip, or none.
-fn walk_word(day: &[u32], z: Layout, c: Cab, w: u32, part: &mut [u32]) -> Cab
+pub fn walk_word(day: &[u32], z: Layout, c: Cab, w: u32, part: &mut [u32]) -> Cab
     requires { ⌜ LayoutOf (now day) z × IsAccepted (now day) × SomeWord (now day) (now part) c w ⌝ }
     ensures { λ r. ⌜ WalksWord (now (day .entry)) (now (part .entry)) c w (now (part .exit)) r ⌝ }
 {
@@ -44,7 +44,7 @@ pub struct Turn {
 }
 
 // What is walked next: the word that waits, or else what task number t becomes. So one place in the loop walks a word.
-fn next_turn(e: Edit, t: usize, w: u32, waiting: u32) -> Turn
+pub fn next_turn(e: Edit, t: usize, w: u32, waiting: u32) -> Turn
     requires { ⌜ EditSmall e × (t < 4611686018427387904) ⌝ }
     ensures turn { λ r. ⌜ TakesTurn e t w waiting r ⌝ }
     ensures comes { λ r. ⌜ (steps t waiting < steps (r .next) (r .waiting)) × (r .next ≤ t + 1) ⌝ }
@@ -72,7 +72,7 @@ fn next_turn(e: Edit, t: usize, w: u32, waiting: u32) -> Turn
 }
 
 // An empty vehicle at the depot; its A word is written.
-fn fresh_cab(day: &[u32], z: Layout) -> Cab
+pub fn fresh_cab(day: &[u32], z: Layout) -> Cab
     requires { ⌜ LayoutOf (now day) z ⌝ }
     ensures { λ r. ⌜ (r .stuck ≡ false) × (r .trip ≡ leaving (now (day .entry))) × (r .load ≡ 0) × (r .at ≡ 1) ⌝ }
 {
@@ -116,13 +116,34 @@ pub struct Walked {
 }
 
 // A trial has failed on a vehicle.
-fn failed() -> Walked
+pub fn failed() -> Walked
     ensures { λ r. ⌜ r .stuck ≡ true ⌝ }
 {
     Walked {
         words: 0,
         distance: 0,
         stuck: true,
+    }
+}
+
+// The way back, once the tasks are done. The words are counted with the E word, which is not written.
+pub fn come_back(day: &[u32], z: Layout, c: Cab, part: &mut [u32]) -> Walked
+    requires { ⌜ LayoutOf (now day) z × IsAccepted (now day) × SomeDone (now day) (now part) c ⌝ }
+    ensures { λ r. ⌜ ComesBack (now (day .entry)) (now (part .entry)) c (now (part .exit)) r ⌝ }
+{
+    if c.stuck {
+        return failed();
+    }
+    let back = walk_home(day, z, c, part);
+    if back.stuck {
+        return failed();
+    }
+    let t = back.trip;
+    let leg = day::fields::leg_between(day, z, t.place, 0);
+    Walked {
+        words: back.at + 1,
+        distance: t.distance + leg.distance,
+        stuck: false,
     }
 }
 
@@ -139,20 +160,11 @@ pub fn walk_vehicle(
     ensures { λ r. ⌜ ((ts : Round) → Walkable (now (day .entry)) (editOf e) (now (tasks .entry)) (now (part .entry)) ts → WalkedAs (now (day .entry)) number (changed (editOf e) 0 ts) (now (part .entry)) (now (part .exit)) r) ⌝ }
 {
     let c = walk_tasks(day, z, e, number, tasks, part);
-    if c.stuck {
-        return failed();
+    let w = come_back(day, z, c, part);
+    if w.stuck {
+        return w;
     }
-    let back = walk_home(day, z, c, part);
-    if back.stuck {
-        return failed();
-    }
-    let at = back.at;
-    let t = back.trip;
-    part[at] = 3758096384;
-    let leg = day::fields::leg_between(day, z, t.place, 0);
-    Walked {
-        words: at + 1,
-        distance: t.distance + leg.distance,
-        stuck: false,
-    }
+    let end = w.words - 1;
+    part[end] = 3758096384;
+    w
 }

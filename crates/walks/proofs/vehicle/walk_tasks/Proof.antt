@@ -7,13 +7,14 @@ use Rattle.laws.specs.Buffer.{Wrote}
 use Rattle.laws.proofs.Buffer.{wrote-none, wrote-put}
 use Rattle.checker.specs.Plan.{Round}
 use Rattle.checker.specs.PlanWords.{vehicleWord}
+use Rattle.walks.specs.Cabs.{atDepot}
 use Rattle.walks.specs.Rewalks.{editOf, steps, Walkable, Midway}
-use Rattle.walks.proofs.MidwayLaws.{midway-start, midway-word, midway-step, stands-size, midway-through, turns-left}
+use Rattle.walks.proofs.MidwayLaws.{midway-start, midway-word, midway-step, stands-size, midway-done, turns-left}
 use Rattle.walks.proofs.vehicle.walk_tasks.Statement.{statement}
 use Rattle.walks.proofs.vehicle.walk_tasks.Tie as tie
 
 abbrev Inv-loop : tie.InvT-loop
-Inv-loop day z e number tasks part₀ c₀ waiting₀ i₀ part c waiting i = (i ≤ length tasks) × ((p : List ℕ) (ts : Round) → Wrote (vehicleWord number ∷ []) p part₀ 1 → Walkable day (editOf e) tasks p ts → Midway day (editOf e) number p part ts i waiting c)
+Inv-loop day z e number tasks part₀ c₀ waiting₀ i₀ part c waiting i = (i ≤ length tasks) × ((p : List ℕ) (ts : Round) → Wrote (vehicleWord number ∷ []) p part₀ 1 → Walkable day (editOf e) tasks p ts → Midway day (editOf e) (atDepot number) p part ts i waiting c)
 
 abbrev μ-loop : tie.MeasureT-loop
 μ-loop day z e number tasks part₀ c₀ waiting₀ i₀ part c waiting i = 2 * length tasks + 2 - steps i waiting
@@ -52,7 +53,7 @@ same-length : tie.Need-same-length Inv-loop μ-loop
 same-length c = let s = c .before .before .before .before .before .before .pre .5 in stands-size (c .before .loop .inv .1 _ (s .tasks) (wrote-put (wrote-none _) _ (omega (arith, s .walkable .room))) (s .walkable) .stands)
 
 returns : tie.Need-returns Inv-loop μ-loop
-returns c = λ ts h. midway-through h (c .loop-test .left) (c .before .loop .inv .1 _ ts (wrote-put (wrote-none _) _ (omega (arith, h .room))) h)
+returns c = λ ts h. record { stands = midway-done h (c .loop-test .left) (c .before .loop .inv .1 _ ts (wrote-put (wrote-none _) _ (omega (arith, h .room))) h) }
 
 pub walk-tasks-spec : {M : Type 1} → statement M
 walk-tasks-spec =
