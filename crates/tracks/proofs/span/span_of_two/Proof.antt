@@ -1,0 +1,44 @@
+-- `tracks::span::span_of_two` meets its contract.
+use native.Mathlib.Omega.{arith}
+use Rattle.tracks.specs.Span.{whole}
+use Rattle.tracks.proofs.SpanLaws.{place-held}
+use borrow.Author.Needs.{needs}
+use Rattle.tracks.proofs.span.span_of_two.Statement.{statement}
+use Rattle.tracks.proofs.span.span_of_two.Tie as tie
+
+place-of-stop-requires : tie.Need-place-of-stop-requires
+place-of-stop-requires c κs = search needs
+
+place-of-stop-requires-2 : tie.Need-place-of-stop-requires-2
+place-of-stop-requires-2 c κs = search needs
+
+whole-span-requires : tie.Need-whole-span-requires
+whole-span-requires c κs = search needs
+
+returns : tie.Need-returns
+returns c = (whole (c .whole-span .ensures .0) (c .whole-span .ensures .1), whole (c .whole-span .ensures .0) (c .whole-span .ensures .1))
+
+whole-span-requires-2 : tie.Need-whole-span-requires-2
+whole-span-requires-2 c κs = search needs
+
+returns-2 : tie.Need-returns-2
+returns-2 c = (whole (c .whole-span2 .ensures .0) (c .whole-span2 .ensures .1), whole (c .whole-span2 .ensures .0) (c .whole-span2 .ensures .1))
+
+returns-3 : tie.Need-returns-3
+returns-3 c = (place-held (c .before .before .before .before .place-of-stop .ensures) (c .before .before .if1 .left) (omega arith) (omega arith), place-held (c .before .before .before .place-of-stop2 .ensures) (c .before .if2 .left) (omega arith) (omega arith))
+
+returns-4 : tie.Need-returns-4
+returns-4 c = (place-held (c .before .before .before .before .place-of-stop .ensures) (c .before .before .if1 .left) (omega arith) (omega arith), place-held (c .before .before .before .place-of-stop2 .ensures) (c .before .if2 .left) (omega arith) (omega arith))
+
+pub span-of-two-spec : {M : Type 1} → statement M
+span-of-two-spec =
+    tie.close
+    (tie.spec
+    place-of-stop-requires
+    place-of-stop-requires-2
+    whole-span-requires
+    returns
+    whole-span-requires-2
+    returns-2
+    returns-3
+    returns-4)

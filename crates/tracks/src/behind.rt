@@ -1,0 +1,157 @@
+// What is left of a vehicle from each word of the plan on, in a table that is lent: four words for each word of the plan.
+ghost use mathlib.Core.Path.{_≡_};
+ghost use mathlib.Core.Bool.{_&&_};
+ghost use Prim.Native.Nat.{_+_, _-_, _*_, _<_, _≤_};
+ghost use lib.Dec.{leb};
+ghost use lib.ListN.{length};
+ghost use Rattle.day.specs.Layout.{LayoutOf};
+ghost use Rattle.tracks.specs.Behind.{distanceOnward, stopFirst, tipFirst, rowAt, RowPut, SomeTask, PutsFirst, SomeRoundTo, FillsBehind};
+use day::fields::Layout;
+
+// The loads that a vehicle may come with, so that all that is left is driven as it stands; the place that comes next; the distance behind it.
+pub struct Onward {
+    pub least: u32,
+    pub most: u32,
+    pub next: u32,
+    pub distance: u32,
+}
+
+// A row of the table.
+pub fn onward_at(behind: &[u32], at: usize) -> Onward
+    requires { ⌜ 4 * at + 3 < length (now behind) ⌝ }
+    ensures { λ r. ⌜ r ≡ rowAt (now (behind .entry)) at ⌝ }
+{
+    Onward {
+        least: behind[4 * at],
+        most: behind[4 * at + 1],
+        next: behind[4 * at + 2],
+        distance: behind[4 * at + 3],
+    }
+}
+
+// A row is written.
+fn put_row(behind: &mut [u32], at: usize, o: Onward)
+    requires { ⌜ 4 * at + 3 < length (now behind) ⌝ }
+    ensures { λ r. ⌜ RowPut (now (behind .entry)) (now (behind .exit)) at o ⌝ }
+{
+    behind[4 * at] = o.least;
+    behind[4 * at + 1] = o.most;
+    behind[4 * at + 2] = o.next;
+    behind[4 * at + 3] = o.distance;
+}
+
+// Whether all that is left is driven as it stands by a vehicle that comes with this load.
+pub fn is_smooth(o: Onward, load: u32) -> bool
+    ensures { λ r. ⌜ r ≡ (leb (o .least) load && leb load (o .most)) ⌝ }
+{
+    if load < o.least {
+        return false;
+    }
+    load <= o.most
+}
+
+// The distance that is left from a place on.
+pub fn onward_distance(day: &[u32], z: Layout, o: Onward, place: usize) -> u32
+    requires { ⌜ LayoutOf (now day) z × (place < z .places) × (o .next < z .places) × (o .distance < 2147483648) ⌝ }
+    ensures { λ r. ⌜ r ≡ distanceOnward (now (day .entry)) place o ⌝ }
+{
+    let leg = day::fields::leg_between(day, z, place, o.next as usize);
+    leg.distance + o.distance
+}
+
+// What is left of a number when another is taken from it, and 0 where it is less.
+fn less(x: u32, y: u32) -> u32
+    ensures { λ r. ⌜ r ≡ x - y ⌝ }
+{
+    if x < y {
+        return 0;
+    }
+    x - y
+}
+
+// Stop k in front of what is left.
+fn stop_first(day: &[u32], z: Layout, o: Onward, k: usize) -> Onward
+    requires { ⌜ LayoutOf (now day) z × (0 < k) × (k ≤ z .stops) × (o .next < z .places) × (o .distance < 2147483648) ⌝ }
+    ensures { λ r. ⌜ r ≡ stopFirst (now (day .entry)) k o ⌝ }
+{
+    let q = day::fields::stop_quantity(day, z, k);
+    let place = z.tips + k;
+    let distance = onward_distance(day, z, o, place);
+    if q <= o.most {
+        return Onward {
+            least: less(o.least, q),
+            most: o.most - q,
+            next: place as u32,
+            distance,
+        };
+    }
+    Onward {
+        least: 1,
+        most: 0,
+        next: place as u32,
+        distance,
+    }
+}
+
+// Tip x in front of what is left.
+fn tip_first(day: &[u32], z: Layout, o: Onward, x: usize) -> Onward
+    requires { ⌜ LayoutOf (now day) z × (x ≤ z .tips) × (o .next < z .places) × (o .distance < 2147483648) ⌝ }
+    ensures { λ r. ⌜ r ≡ tipFirst (now (day .entry)) x o ⌝ }
+{
+    let distance = onward_distance(day, z, o, x);
+    if o.least == 0 {
+        return Onward {
+            least: 1,
+            most: day::fields::load_limit(day, z),
+            next: x as u32,
+            distance,
+        };
+    }
+    Onward {
+        least: 1,
+        most: 0,
+        next: x as u32,
+        distance,
+    }
+}
+
+// One word more in front of what is left.
+fn onward_before(day: &[u32], z: Layout, o: Onward, w: u32) -> Onward
+    requires { ⌜ LayoutOf (now day) z × SomeTask (now day) w × (o .next < z .places) × (o .distance < 2147483648) ⌝ }
+    ensures { λ r. ⌜ PutsFirst (now (day .entry)) w o r ⌝ }
+{
+    if w < 3221225472 {
+        return stop_first(day, z, o, (w - 2952790016) as usize);
+    }
+    if w < 3489660928 {
+        return tip_first(day, z, o, (w - 3221225472) as usize);
+    }
+    o
+}
+
+// The rows of the vehicle whose tasks stand from a place to another, where its E word is.
+pub fn fill_behind(
+    day: &[u32],
+    z: Layout,
+    plan: &[u32],
+    from: usize,
+    end: usize,
+    behind: &mut [u32],
+)
+    requires { ⌜ LayoutOf (now day) z × (length (now plan) ≤ 1200) × SomeRoundTo (now day) (now plan) from end × (length (now behind) ≡ 4804) ⌝ }
+    ensures { λ r. ⌜ FillsBehind (now (day .entry)) (now (plan .entry)) from end (now (behind .entry)) (now (behind .exit)) ⌝ }
+{
+    let mut o = Onward {
+        least: 0,
+        most: 0,
+        next: 0,
+        distance: 0,
+    };
+    put_row(behind, end, o);
+    let mut at = end;
+    while from < at {
+        at -= 1;
+        o = onward_before(day, z, o, plan[at]);
+        put_row(behind, at, o);
+    }
+}
