@@ -39,8 +39,8 @@ pub round-walked : {day : List ℕ} (e : Edit) {touched : Bool} {number : ℕ} {
 round-walked e is tasks w =
     rw is (record {
       size = w .size;
-      failed = w .failed;
-      written = λ n. let a = w .again n in record { done = a .done; is = a .is; text = a .text };
+      failed = w .again .failed;
+      written = λ n. let a = w .again .again n in record { done = a .done; is = a .is; text = w .text n };
     })
 
 -- one that is not touched stays

@@ -120,8 +120,8 @@ pub front-part : (n : ℕ) (xs : List ℕ) → take (n - 0) (drop 0 xs) ≡ take
 front-part n xs = let e : n - 0 ≡ n = omega arith in ap (λ (k : ℕ). take k xs) e
 
 -- what the trial comes to
-module _ {day plan starts distances : List ℕ} {m : Trial} {count distance : ℕ} {rounds : List Round} (ok : IsAccepted day) (h : Made day plan starts distances m count distance rounds) where
-  pub tried-none : {part : List ℕ} (r : Tried) → NoneKept day plan starts distances m → r .kept ≡ false → TriedAs day m rounds part r
+module _ {day plan starts distances tracks : List ℕ} {m : Trial} {count distance : ℕ} {rounds : List Round} (ok : IsAccepted day) (h : Made day plan starts distances tracks m count distance rounds) where
+  pub tried-none : {part : List ℕ} (r : Tried) → NoneKept day plan starts distances tracks m → r .kept ≡ false → TriedAs day m rounds part r
   tried-none r n k = record { none = λ _. n rounds (h .measured); some = λ y. absurd (true≢false (sym y ∙ k)) }
 
   pub tried-stuck : {p part : List ℕ} {c : Walked} (r : Tried) → CandidateAs day m rounds p part c → c .stuck ≡ true → r .kept ≡ false → TriedAs day m rounds part r

@@ -7,5 +7,6 @@ pub mod PlanTold
 pub mod RoundLists
 pub mod ShapeKept
 pub mod ShorterLaws
+pub mod SpanOfTrials
 pub mod TryLaws
 pub mod WrittenLaws

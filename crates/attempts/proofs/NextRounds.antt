@@ -20,8 +20,7 @@ use Rattle.walks.specs.Edits.{Trial, touches, changed}
 use Rattle.walks.specs.Walk.{walkedAgain}
 use Rattle.walks.specs.declared.vehicle.Walked.{Walked}
 use Rattle.walks.proofs.MidwayLaws.{every-at}
-use Rattle.trial_list.specs.Shapes.{EachFrom}
-use Rattle.trial_list.proofs.Shapes.{each-at, shaped-few, shaped-length, shaped-stops}
+use Rattle.trial_list.proofs.Shapes.{each-vehicle, shaped-few, shaped-length, shaped-stops}
 use Rattle.attempts.specs.Attempts.{retried}
 use Rattle.attempts.specs.Candidates.{Roundable, SomeRoundable, RoundAs, Trying, SomeNext}
 use Rattle.attempts.proofs.CopyLaws.{round-long}
@@ -70,9 +69,8 @@ module _ {day plan starts : List ℕ} {m : Trial} {rounds : List Round} (t : Try
 
   suited : Suited day m (v + 1) tasks
   suited =
-      let e : 0 + length (take v rounds) + 1 ≡ v + 1 = omega (arith, front-length rounds v l) in
-      let all = subst (EachFrom (Suited day m) 0) (cut-whole rounds v l) (valid-suits day rounds m (t .valid)) in
-      subst (λ (n : ℕ). Suited day m n tasks) e (each-at (Suited day m) 0 (take v rounds) tasks (drop (v + 1) rounds) all)
+      let e : 0 + v + 1 ≡ v + 1 = omega arith in
+      subst (λ (n : ℕ). Suited day m n tasks) e (each-vehicle (Suited day m) 0 rounds v l (valid-suits day rounds m (t .valid)))
 
   -- it is busy, it has room, and it has few stops
   busy : 0 < length (stopsOn tasks)

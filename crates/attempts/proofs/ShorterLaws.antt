@@ -14,7 +14,7 @@ use Rattle.checker.specs.Plan.{Round}
 use Rattle.builder.specs.Build.{greedyLefts}
 use Rattle.builder.proofs.Decided.{known}
 use Rattle.walks.specs.Edits.{Trial, touches, changed}
-use Rattle.walks.specs.Rewalks.{WalkedAs}
+use Rattle.walks.specs.Rewalks.{AgainAs}
 use Rattle.walks.specs.Walk.{walkedAgain}
 use Rattle.walks.specs.declared.vehicle.Walked.{Walked}
 use Rattle.trial_list.specs.Shapes.{Valid, moved-before, moved-after, swapped, removed, replaced}
@@ -63,8 +63,8 @@ unfolding touches
 touches-other m n e = elim (known (eqb n (m .one))) [ inl y ↦ rw y refl | inr z ↦ rw (z, eq-eqb n (m .other) e) refl ]
 
 -- a touched vehicle in the plan that a trial gives
-module _ (day : List ℕ) (m : Trial) (rounds : List Round) (v : ℕ) {p part : List ℕ} {r : Walked} (l : v < length rounds) (y : touches m (v + 1) ≡ true)
-    (w : WalkedAs day (v + 1) (changed (m .edit) 0 (getD rounds v [])) p part r) where
+module _ (day : List ℕ) (m : Trial) (rounds : List Round) (v : ℕ) {r : Walked} (l : v < length rounds) (y : touches m (v + 1) ≡ true)
+    (w : AgainAs day (changed (m .edit) 0 (getD rounds v [])) r) where
   again-is : retried day m (v + 1) (getD rounds v []) ≡ walkedAgain day (changed (m .edit) 0 (getD rounds v []))
   unfolding retried
   again-is = rw y refl
@@ -78,16 +78,16 @@ module _ (day : List ℕ) (m : Trial) (rounds : List Round) (v : ℕ) {p part : 
       let n : 0 + v + 1 ≡ v + 1 = omega arith in
       let at : retried day m (v + 1) (getD rounds v []) ≡ some (getD q v []) = subst (λ (k : ℕ). retried day m k (getD rounds v []) ≡ some (getD q v [])) n (tried-at day m 0 v rounds q e l) in
       let same : a .done ≡ getD q v [] = Option·some-injective _ _ (sym (a .is) ∙ sym again-is ∙ at) in
-      a .distance ∙ ap (distanceFrom day 0) same
+      a .drives ∙ ap (distanceFrom day 0) same
 
 -- the trial fails on a vehicle, one vehicle drives no less, or two do
-module _ {day plan starts distances : List ℕ} {m : Trial} {rounds : List Round} (h : Measured day plan starts distances m rounds) where
-  pub none-failed : {v : ℕ} {p part : List ℕ} {r : Walked} → v < length rounds → touches m (v + 1) ≡ true
-      → WalkedAs day (v + 1) (changed (m .edit) 0 (getD rounds v [])) p part r → r .stuck ≡ true → attempt day (greedyLefts day) rounds m ≡ none
+module _ {day plan starts distances tracks : List ℕ} {m : Trial} {rounds : List Round} (h : Measured day plan starts distances tracks m rounds) where
+  pub none-failed : {v : ℕ} {r : Walked} → v < length rounds → touches m (v + 1) ≡ true
+      → AgainAs day (changed (m .edit) 0 (getD rounds v [])) r → r .stuck ≡ true → attempt day (greedyLefts day) rounds m ≡ none
   none-failed l y w g = attempt-failed day (greedyLefts day) rounds m (retry-fails day m rounds _ l y w g)
 
-  pub none-one : {v : ℕ} {p part : List ℕ} {r : Walked} → v < length rounds → m .one ≡ v + 1 → m .other ≡ v + 1
-      → WalkedAs day (v + 1) (changed (m .edit) 0 (getD rounds v [])) p part r → r .stuck ≡ false → getD distances v 0 ≤ r .distance
+  pub none-one : {v : ℕ} {r : Walked} → v < length rounds → m .one ≡ v + 1 → m .other ≡ v + 1
+      → AgainAs day (changed (m .edit) 0 (getD rounds v [])) r → r .stuck ≡ false → getD distances v 0 ≤ r .distance
       → attempt day (greedyLefts day) rounds m ≡ none
   none-one {v} l a b w g d =
       attempt-longer day (greedyLefts day) rounds m
@@ -101,8 +101,8 @@ module _ {day plan starts distances : List ℕ} {m : Trial} {rounds : List Round
         driven-one day m q v (omega (arith, tried-length day m 0 rounds q e)) a b,
       ))
 
-  pub none-two : {v u : ℕ} {p mid part : List ℕ} {r s : Walked} → v < length rounds → u < length rounds → m .one ≡ v + 1 → m .other ≡ u + 1 → (v ≡ u → ⊥)
-      → WalkedAs day (v + 1) (changed (m .edit) 0 (getD rounds v [])) p mid r → WalkedAs day (u + 1) (changed (m .edit) 0 (getD rounds u [])) mid part s
+  pub none-two : {v u : ℕ} {r s : Walked} → v < length rounds → u < length rounds → m .one ≡ v + 1 → m .other ≡ u + 1 → (v ≡ u → ⊥)
+      → AgainAs day (changed (m .edit) 0 (getD rounds v [])) r → AgainAs day (changed (m .edit) 0 (getD rounds u [])) s
       → r .stuck ≡ false → s .stuck ≡ false → getD distances v 0 + getD distances u 0 ≤ r .distance + s .distance
       → attempt day (greedyLefts day) rounds m ≡ none
   none-two {v} {u} l k a b n w x g f d =
@@ -126,7 +126,7 @@ pub record Vehicles (rounds : List Round) (m : Trial) : Type 0 where
   pub oneIs : m .one ≡ m .one - 1 + 1
   pub otherIs : m .other ≡ m .other - 1 + 1
 
-pub vehicles-of : {day plan starts distances : List ℕ} {m : Trial} {rounds : List Round} → Measured day plan starts distances m rounds → Vehicles rounds m
+pub vehicles-of : {day plan starts distances tracks : List ℕ} {m : Trial} {rounds : List Round} → Measured day plan starts distances tracks m rounds → Vehicles rounds m
 vehicles-of {day} {m = m} {rounds = rounds} h =
     let n = valid-numbers day rounds m (h .trying .valid) in
     record {
@@ -136,49 +136,44 @@ vehicles-of {day} {m = m} {rounds = rounds} h =
       otherIs = omega (arith, n .firstOther);
     }
 
-pub some-one : {day plan starts distances : List ℕ} {m : Trial} → SomeMeasured day plan starts distances m → SomeTouched day plan starts m (m .one - 1)
+pub some-one : {day plan starts distances tracks : List ℕ} {m : Trial} → SomeMeasured day plan starts distances tracks m → SomeTouched day plan starts tracks m (m .one - 1)
 some-one {m = m} s =
     let n = vehicles-of (s .measured) in
-    record { rounds = s .rounds; trying = s .measured .trying; inside = n .insideOne; touched = touches-one m (m .one - 1 + 1) (sym (n .oneIs)) }
+    record { rounds = s .rounds; trying = s .measured .trying; tracked = s .measured .tracked; inside = n .insideOne; touched = touches-one m (m .one - 1 + 1) (sym (n .oneIs)) }
 
-pub some-other : {day plan starts distances : List ℕ} {m : Trial} → SomeMeasured day plan starts distances m → SomeTouched day plan starts m (m .other - 1)
+pub some-other : {day plan starts distances tracks : List ℕ} {m : Trial} → SomeMeasured day plan starts distances tracks m → SomeTouched day plan starts tracks m (m .other - 1)
 some-other {m = m} s =
     let n = vehicles-of (s .measured) in
-    record { rounds = s .rounds; trying = s .measured .trying; inside = n .insideOther; touched = touches-other m (m .other - 1 + 1) (sym (n .otherIs)) }
+    record { rounds = s .rounds; trying = s .measured .trying; tracked = s .measured .tracked; inside = n .insideOther; touched = touches-other m (m .other - 1 + 1) (sym (n .otherIs)) }
 
 -- what the two walks say of a plan held
-module _ {day plan starts distances : List ℕ} {m : Trial} {rounds : List Round} (h : Measured day plan starts distances m rounds) where
+module _ {day plan starts distances tracks : List ℕ} {m : Trial} {rounds : List Round} (h : Measured day plan starts distances tracks m rounds) where
   abbrev one : ℕ
   one = m .one - 1
 
   abbrev other : ℕ
   other = m .other - 1
 
-  retried-one : {p part : List ℕ} {r : Walked} → Retries day plan starts m one p part r → WalkedAs day (one + 1) (changed (m .edit) 0 (getD rounds one [])) p part r
-  retried-one f = let n = vehicles-of h in f rounds (h .trying) (n .insideOne) (touches-one m (one + 1) (sym (n .oneIs)))
+  retried-one : {r : Walked} → Retries day plan starts tracks m one r → AgainAs day (changed (m .edit) 0 (getD rounds one [])) r
+  retried-one f = let n = vehicles-of h in f rounds (h .trying) (h .tracked) (n .insideOne) (touches-one m (one + 1) (sym (n .oneIs)))
 
-  retried-other : {p part : List ℕ} {r : Walked} → Retries day plan starts m other p part r → WalkedAs day (other + 1) (changed (m .edit) 0 (getD rounds other [])) p part r
-  retried-other f = let n = vehicles-of h in f rounds (h .trying) (n .insideOther) (touches-other m (other + 1) (sym (n .otherIs)))
+  retried-other : {r : Walked} → Retries day plan starts tracks m other r → AgainAs day (changed (m .edit) 0 (getD rounds other [])) r
+  retried-other f = let n = vehicles-of h in f rounds (h .trying) (h .tracked) (n .insideOther) (touches-other m (other + 1) (sym (n .otherIs)))
 
-  pub one-failed : {p part : List ℕ} {r : Walked} → Retries day plan starts m one p part r → r .stuck ≡ true → attempt day (greedyLefts day) rounds m ≡ none
+  pub one-failed : {r : Walked} → Retries day plan starts tracks m one r → r .stuck ≡ true → attempt day (greedyLefts day) rounds m ≡ none
   one-failed f g = let n = vehicles-of h in none-failed h (n .insideOne) (touches-one m (one + 1) (sym (n .oneIs))) (retried-one f) g
 
-  pub other-failed : {p part : List ℕ} {r : Walked} → Retries day plan starts m other p part r → r .stuck ≡ true → attempt day (greedyLefts day) rounds m ≡ none
+  pub other-failed : {r : Walked} → Retries day plan starts tracks m other r → r .stuck ≡ true → attempt day (greedyLefts day) rounds m ≡ none
   other-failed f g = let n = vehicles-of h in none-failed h (n .insideOther) (touches-other m (other + 1) (sym (n .otherIs))) (retried-other f) g
 
-  pub one-longer : {p part : List ℕ} {r : Walked} → Retries day plan starts m one p part r → r .stuck ≡ false → m .one ≡ m .other
+  pub one-longer : {r : Walked} → Retries day plan starts tracks m one r → r .stuck ≡ false → m .one ≡ m .other
       → ltb (r .distance) (getD distances one 0) ≡ false → attempt day (greedyLefts day) rounds m ≡ none
   one-longer f g e d = let n = vehicles-of h in none-one h (n .insideOne) (n .oneIs) (sym e ∙ n .oneIs) (retried-one f) g (ltb-false _ _ d)
 
-  pub both-longer : {p mid part : List ℕ} {r s : Walked} → Retries day plan starts m one p mid r → r .stuck ≡ false → (m .one ≡ m .other → ⊥)
-      → Retries day plan starts m other mid part s → s .stuck ≡ false
+  pub both-longer : {r s : Walked} → Retries day plan starts tracks m one r → r .stuck ≡ false → (m .one ≡ m .other → ⊥)
+      → Retries day plan starts tracks m other s → s .stuck ≡ false
       → {a b x y : ℕ} → a ≡ r .distance → b ≡ s .distance → x ≡ getD distances one 0 → y ≡ getD distances other 0 → ltb (a + b) (x + y) ≡ false
       → attempt day (greedyLefts day) rounds m ≡ none
   both-longer f g e k i {a} {b} {x} {y} p q u v d =
       let n = vehicles-of h in
       none-two h (n .insideOne) (n .insideOther) (n .oneIs) (n .otherIs) (λ q. e (n .oneIs ∙ ap (λ (x : ℕ). x + 1) q ∙ sym (n .otherIs))) (retried-one f) (retried-other k) g i (omega (arith, p, q, u, v, ltb-false (a + b) (x + y) d))
-
--- the working buffer keeps its length
-pub first-size : {day plan starts distances : List ℕ} {m : Trial} {work now : List ℕ} {r : Walked} {need : ℕ} (s : SomeMeasured day plan starts distances m)
-    → Retries day plan starts m (m .one - 1) work now r → need ≤ length work → need ≤ length now
-first-size s f l = omega (arith, retried-one (s .measured) f .size)

@@ -11,48 +11,52 @@ use Rattle.checker.specs.Lawful.{distanceFrom}
 use Rattle.checker.specs.Plan.{Round, planWords}
 use Rattle.builder.specs.Build.{greedyLefts}
 use Rattle.walks.specs.Edits.{Trial, touches, changed}
-use Rattle.walks.specs.Rewalks.{WalkedAs}
+use Rattle.walks.specs.Rewalks.{AgainAs}
 use Rattle.walks.specs.declared.vehicle.Walked.{Walked}
+use Rattle.tracks.specs.Tables.{TrackedIn}
 use Rattle.attempts.specs.Attempts.{distanceOf, attempt}
 use Rattle.attempts.specs.Candidates.{Trying}
 use Rattle.attempts.specs.declared.tries.Tried.{Tried}
 
 -- a vehicle of the plan held that the trial touches
-pub record SomeTouched (day plan starts : List ℕ) (m : Trial) (v : ℕ) : Type 0 where
+pub record SomeTouched (day plan starts tracks : List ℕ) (m : Trial) (v : ℕ) : Type 0 where
   pub rounds : List Round
   pub trying : Trying day plan starts m rounds
+  pub tracked : TrackedIn day rounds tracks
   pub inside : v < length rounds
   pub touched : touches m (v + 1) ≡ true
 
--- so it is walked again, whatever vehicles have these words
-abbrev pub Retries : List ℕ → List ℕ → List ℕ → Trial → ℕ → List ℕ → List ℕ → Walked → Type 0
-Retries day plan starts m v work now r =
-    (rounds : List Round) → Trying day plan starts m rounds → v < length rounds → touches m (v + 1) ≡ true
-    → WalkedAs day (v + 1) (changed (m .edit) 0 (getD rounds v [])) work now r
+-- so it is measured, whatever vehicles have these words
+abbrev pub Retries : List ℕ → List ℕ → List ℕ → List ℕ → Trial → ℕ → Walked → Type 0
+Retries day plan starts tracks m v r =
+    (rounds : List Round) → Trying day plan starts m rounds → TrackedIn day rounds tracks → v < length rounds → touches m (v + 1) ≡ true
+    → AgainAs day (changed (m .edit) 0 (getD rounds v [])) r
 
 -- the plan held, and how far each of its vehicles drives
-pub record Measured (day plan starts distances : List ℕ) (m : Trial) (rounds : List Round) : Type 0 where
+pub record Measured (day plan starts distances tracks : List ℕ) (m : Trial) (rounds : List Round) : Type 0 where
   pub trying : Trying day plan starts m rounds
+  pub tracked : TrackedIn day rounds tracks
   pub driven : (v : ℕ) → v < length rounds → getD distances v 0 ≡ distanceFrom day 0 (getD rounds v [])
   pub measures : length distances ≡ 256
 
-pub record SomeMeasured (day plan starts distances : List ℕ) (m : Trial) : Type 0 where
+pub record SomeMeasured (day plan starts distances tracks : List ℕ) (m : Trial) : Type 0 where
   pub rounds : List Round
-  pub measured : Measured day plan starts distances m rounds
+  pub measured : Measured day plan starts distances tracks m rounds
 
 -- how many vehicles it has, and how far they drive
-pub record Made (day plan starts distances : List ℕ) (m : Trial) (count distance : ℕ) (rounds : List Round) : Type 0 where
-  pub measured : Measured day plan starts distances m rounds
+pub record Made (day plan starts distances tracks : List ℕ) (m : Trial) (count distance : ℕ) (rounds : List Round) : Type 0 where
+  pub measured : Measured day plan starts distances tracks m rounds
   pub counted : count ≡ length rounds
   pub drives : distance ≡ distanceOf day rounds
 
-pub record SomeMade (day plan starts distances : List ℕ) (m : Trial) (count distance : ℕ) : Type 0 where
+pub record SomeMade (day plan starts distances tracks : List ℕ) (m : Trial) (count distance : ℕ) : Type 0 where
   pub rounds : List Round
-  pub made : Made day plan starts distances m count distance rounds
+  pub made : Made day plan starts distances tracks m count distance rounds
 
 -- no lawful, shorter plan comes of the trial, whatever vehicles have these words
-abbrev pub NoneKept : List ℕ → List ℕ → List ℕ → List ℕ → Trial → Type 0
-NoneKept day plan starts distances m = (rounds : List Round) → Measured day plan starts distances m rounds → attempt day (greedyLefts day) rounds m ≡ none
+abbrev pub NoneKept : List ℕ → List ℕ → List ℕ → List ℕ → List ℕ → Trial → Type 0
+NoneKept day plan starts distances tracks m =
+    (rounds : List Round) → Measured day plan starts distances tracks m rounds → attempt day (greedyLefts day) rounds m ≡ none
 
 -- the plan that is kept stands at the front of the working buffer
 pub record Kept (day : List ℕ) (m : Trial) (rounds : List Round) (part : List ℕ) (r : Tried) : Type 0 where

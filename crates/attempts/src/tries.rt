@@ -7,32 +7,43 @@ ghost use lib.ListN.{length};
 ghost use Rattle.day.specs.Accepted.{IsAccepted};
 ghost use Rattle.day.specs.Layout.{LayoutOf};
 ghost use Rattle.checker.specs.Plan.{Round};
-ghost use Rattle.walks.specs.Rewalks.{EditKnown, EditSmall, trialOf};
+ghost use Rattle.walks.specs.Rewalks.{EditKnown, EditSmall};
+ghost use Rattle.trial_list.specs.TrialRest.{listedTrial};
 ghost use Rattle.attempts.specs.Tries.{SomeTouched, Retries, SomeMeasured, NoneKept, TriedAs, Judged, Made, SomeMade};
 use crate::candidate::write_candidate;
 use day::fields::Layout;
-use walks::edits::Edit;
+use tracks::measure::measure;
+use tracks::span::span_of;
+use trial_list::listing::Trial;
 use walks::vehicle::Walked;
-use walks::vehicle::walk_vehicle;
 
-// Vehicle v, counted from 0, walked again; the working buffer takes its words.
+// Vehicle v, counted from 0, measured as the trial changes it. The working buffer is worked in.
 fn retry(
     day: &[u32],
     z: Layout,
-    e: Edit,
-    one: usize,
-    other: usize,
+    t: Trial,
     plan: &[u32],
     starts: &[u32],
+    tracks: &[u32],
     v: usize,
     work: &mut [u32],
 ) -> Walked
-    requires { ⌜ LayoutOf (now day) z × IsAccepted (now day) × EditSmall e × EditKnown (now day) e × SomeTouched (now day) (now plan) (now starts) (trialOf e one other) v × (5 * z .stops ≤ length (now work)) ⌝ }
-    ensures { λ r. ⌜ Retries (now (day .entry)) (now (plan .entry)) (now (starts .entry)) (trialOf e one other) v (now (work .entry)) (now (work .exit)) r ⌝ }
+    requires { ⌜ LayoutOf (now day) z × IsAccepted (now day) × EditSmall (t .edit) × EditKnown (now day) (t .edit) × SomeTouched (now day) (now plan) (now starts) (now tracks) (listedTrial t) v × (5 * z .stops ≤ length (now work)) ⌝ }
+    ensures { λ r. ⌜ Retries (now (day .entry)) (now (plan .entry)) (now (starts .entry)) (now (tracks .entry)) (listedTrial t) v r ⌝ }
 {
     let from = starts[v] as usize + 1;
     let to = starts[v + 1] as usize - 1;
-    walk_vehicle(day, z, e, (v + 1) as u32, &plan[from..to], work)
+    let e = t.edit;
+    let span = span_of(
+        e,
+        v + 1 == t.one,
+        &tracks[12010..12266],
+        from,
+        &plan[from..to],
+    );
+    let before = &tracks[0..7206];
+    let behind = &tracks[7206..12010];
+    measure(day, z, e, span, from, &plan[from..to], before, behind, work)
 }
 
 // What came of a trial: whether its plan is kept, how many words it has and how far it drives.
@@ -53,27 +64,26 @@ fn wide(distance: u32) -> u64
 fn is_shorter(
     day: &[u32],
     z: Layout,
-    e: Edit,
-    one: usize,
-    other: usize,
+    t: Trial,
     plan: &[u32],
     starts: &[u32],
     distances: &[u32],
+    tracks: &[u32],
     work: &mut [u32],
 ) -> bool
-    requires { ⌜ LayoutOf (now day) z × IsAccepted (now day) × EditSmall e × EditKnown (now day) e × SomeMeasured (now day) (now plan) (now starts) (now distances) (trialOf e one other) × (5 * z .stops ≤ length (now work)) ⌝ }
-    ensures { λ r. ⌜ (r ≡ false → NoneKept (now (day .entry)) (now (plan .entry)) (now (starts .entry)) (now (distances .entry)) (trialOf e one other)) ⌝ }
+    requires { ⌜ LayoutOf (now day) z × IsAccepted (now day) × EditSmall (t .edit) × EditKnown (now day) (t .edit) × SomeMeasured (now day) (now plan) (now starts) (now distances) (now tracks) (listedTrial t) × (5 * z .stops ≤ length (now work)) ⌝ }
+    ensures { λ r. ⌜ (r ≡ false → NoneKept (now (day .entry)) (now (plan .entry)) (now (starts .entry)) (now (distances .entry)) (now (tracks .entry)) (listedTrial t)) ⌝ }
 {
-    let v = one - 1;
-    let first = retry(day, z, e, one, other, plan, starts, v, work);
+    let v = t.one - 1;
+    let first = retry(day, z, t, plan, starts, tracks, v, work);
     if first.stuck {
         return false;
     }
-    if one == other {
+    if t.one == t.other {
         return first.distance < distances[v];
     }
-    let u = other - 1;
-    let second = retry(day, z, e, one, other, plan, starts, u, work);
+    let u = t.other - 1;
+    let second = retry(day, z, t, plan, starts, tracks, u, work);
     if second.stuck {
         return false;
     }
@@ -124,21 +134,21 @@ fn judge_candidate(day: &[u32], z: Layout, distance: u32, plan: &[u32]) -> Tried
 pub fn make_trial(
     day: &[u32],
     z: Layout,
-    e: Edit,
-    one: usize,
-    other: usize,
+    t: Trial,
     plan: &[u32],
     starts: &[u32],
     distances: &[u32],
+    tracks: &[u32],
     count: usize,
     distance: u32,
     work: &mut [u32],
 ) -> Tried
-    requires { ⌜ LayoutOf (now day) z × IsAccepted (now day) × EditSmall e × EditKnown (now day) e × SomeMade (now day) (now plan) (now starts) (now distances) (trialOf e one other) count distance × (5 * z .stops ≤ length (now work)) ⌝ }
-    ensures { λ r. ⌜ ((rounds : List Round) → Made (now (day .entry)) (now (plan .entry)) (now (starts .entry)) (now (distances .entry)) (trialOf e one other) count distance rounds → TriedAs (now (day .entry)) (trialOf e one other) rounds (now (work .exit)) r) ⌝ }
+    requires { ⌜ LayoutOf (now day) z × IsAccepted (now day) × EditSmall (t .edit) × EditKnown (now day) (t .edit) × SomeMade (now day) (now plan) (now starts) (now distances) (now tracks) (listedTrial t) count distance × (5 * z .stops ≤ length (now work)) ⌝ }
+    ensures { λ r. ⌜ ((rounds : List Round) → Made (now (day .entry)) (now (plan .entry)) (now (starts .entry)) (now (distances .entry)) (now (tracks .entry)) (listedTrial t) count distance rounds → TriedAs (now (day .entry)) (listedTrial t) rounds (now (work .exit)) r) ⌝ }
 {
-    if is_shorter(day, z, e, one, other, plan, starts, distances, work) {
-        let c = write_candidate(day, z, e, one, other, plan, starts, count, work);
+    if is_shorter(day, z, t, plan, starts, distances, tracks, work) {
+        let e = t.edit;
+        let c = write_candidate(day, z, e, t.one, t.other, plan, starts, count, work);
         if c.stuck {
             return not_kept();
         }

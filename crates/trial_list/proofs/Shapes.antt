@@ -1,14 +1,14 @@
 -- The plans that trials work on: they serve the greedy plan's stops, each once, by as many busy vehicles with room. Which vehicle a stop is
 -- on, and what a trial that may be made names. The day may be any list of words.
 -- Assumes nothing.
-use Prim.Native.Nat.{ℕ, suc, _+_, _*_, _≤_, _<_}
-use mathlib.Core.Path.{_≡_, refl}
+use Prim.Native.Nat.{ℕ, zero, suc, _+_, _*_, _≤_, _<_}
+use mathlib.Core.Path.{_≡_, refl, subst}
 use mathlib.Core.Bool.{true, false, true≢false, false≢true}
 use mathlib.Core.List.{List, [], _∷_, _++_}
 use mathlib.Core.Logic.{_⊎_, inl, inr}
 use native.Mathlib.Omega.{arith}
 use lib.Dec.{eqb}
-use lib.ListN.{length}
+use lib.ListN.{length, getD}
 use borrow.Author.Tests.{eq-eqb, ne-eqb}
 use Rattle.laws.specs.Lists.{mem, times}
 use Rattle.day.specs.Accepted.{IsAccepted}
@@ -62,15 +62,13 @@ module _ (day : List ℕ) (rounds : List Round) (s : Shaped day rounds) where
         others = greedy-others day;
       }
 
-pub each-at : (P : ℕ → Round → Type 0) (from : ℕ) (front : List Round) (tasks : Round) (rest : List Round)
-    → EachFrom P from (front ++ (tasks ∷ rest)) → P (from + length front + 1) tasks
+-- what holds of each vehicle holds of one, and of those in front
+pub each-vehicle : (P : ℕ → Round → Type 0) (from : ℕ) (rounds : List Round) (v : ℕ) → v < length rounds → EachFrom P from rounds → P (from + v + 1) (getD rounds v [])
 unfolding EachFrom
-each-at P from [] tasks rest h =
-    let e : suc from ≡ from + 0 + 1 = omega arith in
-    rw (← e) (h .0)
-each-at P from (first ∷ front) tasks rest h =
-    let e : suc from + length front + 1 ≡ from + suc (length front) + 1 = omega arith in
-    rw (← e) (each-at P (suc from) front tasks rest (h .1))
+each-vehicle P from [] v l h = absurd (omega arith)
+each-vehicle P from (tasks ∷ rounds) zero l h = subst (λ (n : ℕ). P n tasks) (omega arith) (h .0)
+each-vehicle P from (tasks ∷ rounds) (suc v) l h =
+    subst (λ (n : ℕ). P n (getD rounds v [])) (omega arith) (each-vehicle P (suc from) rounds v (omega arith) (h .1))
 
 pub each-front : (P : ℕ → Round → Type 0) (from : ℕ) (front rest : List Round) → EachFrom P from (front ++ rest) → EachFrom P from front
 unfolding EachFrom

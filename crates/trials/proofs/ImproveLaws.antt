@@ -1,37 +1,37 @@
 -- The search from the greedy plan to the plan that is handed over. Assumes nothing.
 use Prim.Native.Nat.{ℕ, _-_}
-use mathlib.Core.Path.{_≡_, sym, ap, _∙_}
+use mathlib.Core.Path.{_≡_, sym, ap, _∙_, subst}
 use mathlib.Core.Bool.{true, false, true≢false}
 use mathlib.Core.List.{List, _++_, append-nil}
 use native.Mathlib.Omega.{arith}
 use lib.ListN.{length, take, drop, replicate}
 use lib.Seq.{drop-length}
-use Rattle.day.specs.Accepted.{IsAccepted}
 use Rattle.checker.specs.Plan.{planWords}
 use Rattle.builder.specs.Build.{greedyRounds, greedyLefts}
-use Rattle.trial_list.specs.Survey.{SurveysAll}
 use Rattle.trial_list.specs.TrialList.{trialList}
 use Rattle.trial_list.specs.TrialRest.{listStart}
 use Rattle.trial_list.proofs.ListRests.{whole-list, start-fits, start-valid}
 use Rattle.attempts.specs.Attempts.{distanceOf, attempt}
-use Rattle.trials.specs.Searches.{PlanAt, Searching, Improved}
+use Rattle.trials.specs.Searches.{PlanAt, MakesTables, TakenOver, Searching, Improved}
 use Rattle.trials.specs.declared.search.Search.{Search}
 use Rattle.trials.proofs.Searching.{loop-start}
 use Rattle.trials.proofs.TakeOverLaws.{plan-words, taken-over}
 
 -- the greedy plan is held
-pub begins : {day plan starts vehicles distances : List ℕ} (s : Search) → IsAccepted day → PlanAt day plan (s .words) (greedyRounds day)
-    → SurveysAll day (take (s .words - 0) (drop 0 plan)) starts vehicles distances (s .count) → s .distance ≡ distanceOf day (greedyRounds day)
-    → s .made ≡ 0 → s .cursor ≡ listStart → s .ended ≡ false → (K budget : ℕ) → Searching day K budget plan starts vehicles distances s
-begins {day} s ok p f d m n e K budget =
-    let over = taken-over ok p f in
+pub begins : {day plan starts vehicles distances tracks : List ℕ} {words count distance : ℕ} (s : Search) → PlanAt day plan words (greedyRounds day)
+    → MakesTables day (take (words - 0) (drop 0 plan)) starts vehicles distances tracks count → distance ≡ distanceOf day (greedyRounds day)
+    → s .words ≡ words → s .count ≡ count → s .distance ≡ distance → s .made ≡ 0 → s .cursor ≡ listStart → s .ended ≡ false
+    → (K budget : ℕ) → Searching day K budget plan starts vehicles distances tracks s
+begins {day} {plan} {starts} {vehicles} {distances} {tracks} {words} s p f far w c d m n e K budget =
+    let over = taken-over p f in
     record {
       rounds = greedyRounds day;
-      held = over;
-      drives = d;
+      held = subst (λ (x : ℕ). TakenOver day plan x (greedyRounds day) starts vehicles distances tracks (s .count)) (sym w)
+          (subst (λ (x : ℕ). TakenOver day plan words (greedyRounds day) starts vehicles distances tracks x) (sym c) over);
+      drives = d ∙ far;
       within = omega (arith, m);
       going = λ _. record {
-        fits = rw n (start-fits (greedyRounds day) (over .surveyed));
+        fits = rw (c, n) (start-fits (greedyRounds day) (over .surveyed));
         valid = rw n (start-valid day (greedyRounds day) K (p .shaped));
         same = rw (m, n, whole-list day K (greedyRounds day)) (loop-start (trialList day K) (attempt day (greedyLefts day)) budget (greedyRounds day));
       };
@@ -39,7 +39,7 @@ begins {day} s ok p f d m n e K budget =
     }
 
 -- the plan is handed over
-pub improved : {day : List ℕ} {K budget : ℕ} {plan now starts vehicles distances : List ℕ} {s : Search} → Searching day K budget plan starts vehicles distances s → s .ended ≡ true
+pub improved : {day : List ℕ} {K budget : ℕ} {plan now starts vehicles distances tracks : List ℕ} {s : Search} → Searching day K budget plan starts vehicles distances tracks s → s .ended ≡ true
     → now ≡ (take (s .words) plan ++ replicate (length plan - s .words) 0) ++ drop (length plan) plan → length now ≡ length plan → Improved day K budget now s
 improved {day} {plan = plan} {now = now} {s = s} h e x n =
     record {

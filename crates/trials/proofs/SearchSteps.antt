@@ -29,15 +29,15 @@ use Rattle.attempts.specs.Attempts.{attempt}
 use Rattle.attempts.specs.Tries.{Made, SomeMade, TriedAs}
 use Rattle.attempts.specs.declared.tries.Tried.{Tried}
 use Rattle.attempts.proofs.ShapeKept.{valid-shaped}
-use Rattle.trials.specs.Searches.{SomePlanAt, TakenOver, TakesOver, Searching, AfterTrial}
+use Rattle.trials.specs.Searches.{SomePlanAt, TakenOver, TakesOver, Searching, NextTrial, AfterTrial}
 use Rattle.trials.specs.declared.search.Search.{Search}
 use Rattle.trials.proofs.Searching.{run-nil, loop-none, loop-some, loop-spent}
 use Rattle.trials.proofs.TakeOverLaws.{slice-is}
 use Rattle.trials.proofs.Promises.{attempt-kept}
 
 -- the tables of the plan held
-module _ {day : List ℕ} {z : Layout} {K budget : ℕ} {table plan starts vehicles distances : List ℕ} {s : Search}
-    (layout : LayoutOf day z) (ok : IsAccepted day) (close : K ≤ 50) (t : TableOf day K table) (h : Searching day K budget plan starts vehicles distances s) where
+module _ {day : List ℕ} {z : Layout} {K budget : ℕ} {table plan starts vehicles distances tracks : List ℕ} {s : Search}
+    (layout : LayoutOf day z) (ok : IsAccepted day) (close : K ≤ 50) (t : TableOf day K table) (h : Searching day K budget plan starts vehicles distances tracks s) where
   pub held-tables : PlanTables z K table starts vehicles (take (s .words - 0) (drop 0 plan)) (s .count)
   held-tables =
       plan-tables z K table starts vehicles (take (s .words - 0) (drop 0 plan)) (s .count) day (h .rounds) (greedyLefts day) distances layout ok close
@@ -46,15 +46,15 @@ module _ {day : List ℕ} {z : Layout} {K budget : ℕ} {table plan starts vehic
   -- the search ends
   pub ends-settled : (r : Search) → s .ended ≡ false → {l : Listed} → ListAnswer z K table starts vehicles (take (s .words - 0) (drop 0 plan)) (s .count) (s .cursor) l → l .found ≡ false
       → r .words ≡ s .words → r .count ≡ s .count → r .distance ≡ s .distance → r .made ≡ s .made → r .ended ≡ true → r .settled ≡ true
-      → Searching day K budget plan starts vehicles distances r
+      → Searching day K budget plan starts vehicles distances tracks r
   unfolding plan-tables held-tables
   ends-settled r g a f w c d m e q =
       let rest = a .tells held-tables .none f .0 in
       let same = (h .going g) .same in
       record {
         rounds = h .rounds;
-        held = subst (λ (n : ℕ). TakenOver day plan n (h .rounds) starts vehicles distances (r .count)) (sym w)
-            (subst (λ (n : ℕ). TakenOver day plan (s .words) (h .rounds) starts vehicles distances n) (sym c) (h .held));
+        held = subst (λ (n : ℕ). TakenOver day plan n (h .rounds) starts vehicles distances tracks (r .count)) (sym w)
+            (subst (λ (n : ℕ). TakenOver day plan (s .words) (h .rounds) starts vehicles distances tracks n) (sym c) (h .held));
         drives = d ∙ h .drives;
         within = omega (arith, m, h .within);
         going = λ n. absurd (true≢false (sym e ∙ n));
@@ -63,15 +63,15 @@ module _ {day : List ℕ} {z : Layout} {K budget : ℕ} {table plan starts vehic
 
   pub ends-spent : (r : Search) → s .ended ≡ false → {l : Listed} → ListAnswer z K table starts vehicles (take (s .words - 0) (drop 0 plan)) (s .count) (s .cursor) l → l .found ≡ true
       → s .made ≡ budget → r .words ≡ s .words → r .count ≡ s .count → r .distance ≡ s .distance → r .made ≡ s .made → r .ended ≡ true → r .settled ≡ false
-      → Searching day K budget plan starts vehicles distances r
+      → Searching day K budget plan starts vehicles distances tracks r
   unfolding plan-tables held-tables
   ends-spent r g {l} a f b w c d m e q =
       let rest = a .tells held-tables .some f in
       let same = (h .going g) .same in
       record {
         rounds = h .rounds;
-        held = subst (λ (n : ℕ). TakenOver day plan n (h .rounds) starts vehicles distances (r .count)) (sym w)
-            (subst (λ (n : ℕ). TakenOver day plan (s .words) (h .rounds) starts vehicles distances n) (sym c) (h .held));
+        held = subst (λ (n : ℕ). TakenOver day plan n (h .rounds) starts vehicles distances tracks (r .count)) (sym w)
+            (subst (λ (n : ℕ). TakenOver day plan (s .words) (h .rounds) starts vehicles distances tracks n) (sym c) (h .held));
         drives = d ∙ h .drives;
         within = omega (arith, m, h .within);
         going = λ n. absurd (true≢false (sym e ∙ n));
@@ -88,57 +88,75 @@ module _ {day : List ℕ} {z : Layout} {K budget : ℕ} {table plan starts vehic
     next-may : Valid day (h .rounds) (listedTrial (l .trial)) × Every (Valid day (h .rounds)) (restOf day K (h .rounds) (l .next))
     next-may = next-valid day (h .rounds) K (s .cursor) (l .next) (l .trial) next-is ((h .going g) .valid)
 
-    pub trial-names : Names day (l .trial)
-    trial-names = valid-names day (h .rounds) (l .trial) (accepted-ranges day ok .stopsMost) (next-may .0)
-
-    trial-made : Made day (take (s .words - 0) (drop 0 plan)) starts distances (listedTrial (l .trial)) (s .count) (s .distance) (h .rounds)
-    trial-made =
-        let v = h .held .surveyed in
-        record {
-          measured = record {
-            trying = record { shaped = h .held .planAt .shaped; valid = next-may .0; are = slice-is (h .held .planAt); starting = v .starting; table = v .startsSize };
-            driven = v .driven;
-            measures = v .distancesSize;
-          };
-          counted = v .counted;
-          drives = h .drives;
-        }
-
-    pub some-made : SomeMade day (take (s .words - 0) (drop 0 plan)) starts distances (listedTrial (l .trial)) (s .count) (s .distance)
-    some-made = record { rounds = h .rounds; made = trial-made }
-
-    pub after-made : {work : List ℕ} (r : Tried) → (s .made ≡ budget → ⊥)
-        → ((rounds : List Round) → Made day (take (s .words - 0) (drop 0 plan)) starts distances (listedTrial (l .trial)) (s .count) (s .distance) rounds
-        → TriedAs day (listedTrial (l .trial)) rounds work r)
-        → AfterTrial day K budget work plan starts vehicles distances s (l .next) r
-    after-made r b y =
+    pub next-trial : (s .made ≡ budget → ⊥) → NextTrial day K budget plan starts vehicles distances tracks s l
+    next-trial b =
         record {
           rounds = h .rounds;
           held = h .held;
           drives = h .drives;
           left = omega (arith, b, h .within);
-          m = listedTrial (l .trial);
           ms = next-is;
           valid = next-may .1;
           mayBe = next-may .0;
           fits = a .fits;
-          triedAs = y (h .rounds) trial-made;
           same = (h .going g) .same;
         }
 
+-- a trial that is listed, and what comes of it
+module _ {day : List ℕ} {K budget : ℕ} {plan starts vehicles distances tracks : List ℕ} {s : Search} {l : Listed} (ok : IsAccepted day)
+    (h : NextTrial day K budget plan starts vehicles distances tracks s l) where
+  pub trial-names : Names day (l .trial)
+  trial-names = valid-names day (h .rounds) (l .trial) (accepted-ranges day ok .stopsMost) (h .mayBe)
+
+  trial-made : Made day (take (s .words - 0) (drop 0 plan)) starts distances tracks (listedTrial (l .trial)) (s .count) (s .distance) (h .rounds)
+  trial-made =
+      let v = h .held .surveyed in
+      record {
+        measured = record {
+          trying = record { shaped = h .held .planAt .shaped; valid = h .mayBe; are = slice-is (h .held .planAt); starting = v .starting; table = v .startsSize };
+          tracked = h .held .tracked;
+          driven = v .driven;
+          measures = v .distancesSize;
+        };
+        counted = v .counted;
+        drives = h .drives;
+      }
+
+  pub some-made : SomeMade day (take (s .words - 0) (drop 0 plan)) starts distances tracks (listedTrial (l .trial)) (s .count) (s .distance)
+  some-made = record { rounds = h .rounds; made = trial-made }
+
+  pub after-made : {work : List ℕ} (r : Tried)
+      → ((rounds : List Round) → Made day (take (s .words - 0) (drop 0 plan)) starts distances tracks (listedTrial (l .trial)) (s .count) (s .distance) rounds
+      → TriedAs day (listedTrial (l .trial)) rounds work r)
+      → AfterTrial day K budget work plan starts vehicles distances tracks s (l .next) r
+  after-made r y =
+      record {
+        rounds = h .rounds;
+        held = h .held;
+        drives = h .drives;
+        left = h .left;
+        m = listedTrial (l .trial);
+        ms = h .ms;
+        valid = h .valid;
+        mayBe = h .mayBe;
+        fits = h .fits;
+        triedAs = y (h .rounds) trial-made;
+        same = h .same;
+      }
+
 -- a trial was made
-module _ {day : List ℕ} {K budget : ℕ} {work plan starts vehicles distances : List ℕ} {s : Search} {next : Cursor} {tried : Tried}
-    (h : AfterTrial day K budget work plan starts vehicles distances s next tried) where
+module _ {day : List ℕ} {K budget : ℕ} {work plan starts vehicles distances tracks : List ℕ} {s : Search} {next : Cursor} {tried : Tried}
+    (h : AfterTrial day K budget work plan starts vehicles distances tracks s next tried) where
   -- no plan is kept, and the list goes on
   pub goes-on : (r : Search) → tried .kept ≡ false → r .words ≡ s .words → r .count ≡ s .count → r .distance ≡ s .distance → r .made ≡ s .made + 1 → r .cursor ≡ next → r .ended ≡ false
-      → Searching day K budget plan starts vehicles distances r
+      → Searching day K budget plan starts vehicles distances tracks r
   goes-on r k w c d m n e =
       let turn =
       loop-none (trialList day K) (attempt day (greedyLefts day)) budget (h .rounds) (h .m) (restOf day K (h .rounds) next) (s .made) (h .left) (h .triedAs .none k) in
       record {
         rounds = h .rounds;
-        held = subst (λ (x : ℕ). TakenOver day plan x (h .rounds) starts vehicles distances (r .count)) (sym w)
-            (subst (λ (x : ℕ). TakenOver day plan (s .words) (h .rounds) starts vehicles distances x) (sym c) (h .held));
+        held = subst (λ (x : ℕ). TakenOver day plan x (h .rounds) starts vehicles distances tracks (r .count)) (sym w)
+            (subst (λ (x : ℕ). TakenOver day plan (s .words) (h .rounds) starts vehicles distances tracks x) (sym c) (h .held));
         drives = d ∙ h .drives;
         within = omega (arith, m, h .left);
         going = λ _. record {
@@ -159,12 +177,12 @@ module _ {day : List ℕ} {K budget : ℕ} {work plan starts vehicles distances 
         planAt = record { shaped = valid-shaped day (h .rounds) (a .q) (h .m) (h .held .planAt .shaped) (h .mayBe) given; fits = a .fits; text = a .text };
       }
 
-  pub keeps-plan : {now begins owners drives : List ℕ} (r : Search) (k : tried .kept ≡ true) → IsAccepted day
-      → TakesOver day work (tried .words) now begins owners drives (r .count)
-      → r .words ≡ tried .words → r .distance ≡ tried .distance → r .made ≡ s .made + 1 → r .cursor ≡ listStart → r .ended ≡ false
-      → Searching day K budget now begins owners drives r
+  pub keeps-plan : {now begins owners drives rows : List ℕ} {count : ℕ} (r : Search) (k : tried .kept ≡ true)
+      → TakesOver day work (tried .words) now begins owners drives rows count
+      → r .words ≡ tried .words → r .count ≡ count → r .distance ≡ tried .distance → r .made ≡ s .made + 1 → r .cursor ≡ listStart → r .ended ≡ false
+      → Searching day K budget now begins owners drives rows r
   unfolding kept-plan
-  keeps-plan {now} {begins} {owners} {drives} r k ok f w d m n e =
+  keeps-plan {now} {begins} {owners} {drives} {rows} r k f w c d m n e =
       let a = h .triedAs .some k in
       let p = kept-plan k in
       let over = f (a .q) (p .planAt) in
@@ -172,11 +190,12 @@ module _ {day : List ℕ} {K budget : ℕ} {work plan starts vehicles distances 
       loop-some (trialList day K) (attempt day (greedyLefts day)) budget (h .rounds) (a .q) (h .m) (restOf day K (h .rounds) next) (s .made) (h .left) (a .is) in
       record {
         rounds = a .q;
-        held = subst (λ (x : ℕ). TakenOver day now x (a .q) begins owners drives (r .count)) (sym w) over;
+        held = subst (λ (x : ℕ). TakenOver day now x (a .q) begins owners drives rows (r .count)) (sym w)
+            (subst (λ (x : ℕ). TakenOver day now (tried .words) (a .q) begins owners drives rows x) (sym c) over);
         drives = d ∙ a .distance;
         within = omega (arith, m, h .left);
         going = λ _. record {
-          fits = rw n (start-fits (a .q) (over .surveyed));
+          fits = rw (c, n) (start-fits (a .q) (over .surveyed));
           valid = rw n (start-valid day (a .q) K (p .planAt .shaped));
           same = rw (m, n, whole-list day K (a .q)) (sym turn ∙ rw (h .ms) at (h .same));
         };
@@ -191,8 +210,8 @@ pub is-off : {ended going : Bool} → going ≡ not ended → going ≡ false �
 is-off {ended} e n = not-false ended (sym e ∙ n)
 
 -- each step makes a trial or ends the search
-pub fewer-left : {day : List ℕ} {K budget : ℕ} {plan starts vehicles distances : List ℕ} (s r : Search) → s .ended ≡ false
-    → Searching day K budget plan starts vehicles distances r → (r .ended ≡ false → s .made < r .made)
+pub fewer-left : {day : List ℕ} {K budget : ℕ} {plan starts vehicles distances tracks : List ℕ} (s r : Search) → s .ended ≡ false
+    → Searching day K budget plan starts vehicles distances tracks r → (r .ended ≡ false → s .made < r .made)
     → (if r .ended then 0 else budget - r .made + 1) < (if s .ended then 0 else budget - s .made + 1)
 fewer-left {budget = budget} s r g h l = elim (known (r .ended)) [
   | inl y ↦ rw (g, y) (omega arith)

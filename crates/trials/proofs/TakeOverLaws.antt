@@ -12,10 +12,18 @@ use Rattle.day.specs.Fields.{stops}
 use Rattle.day.proofs.Ranges.{accepted-ranges}
 use Rattle.checker.specs.Plan.{Round, planWords}
 use Rattle.builder.specs.Build.{greedyLefts}
-use Rattle.trial_list.specs.Survey.{PlanOf, SomePlan, SurveysAll}
+use Rattle.trial_list.specs.Shapes.{Shaped}
+use Rattle.trial_list.specs.Survey.{PlanOf, SomePlan, Surveyed, SurveysAll}
 use Rattle.trial_list.proofs.Shapes.{shaped-few, shaped-length}
 use Rattle.attempts.proofs.KeptLaws.{front-part}
-use Rattle.trials.specs.Searches.{PlanAt, SomePlanAt, TakenOver}
+use Rattle.tracks.specs.Tables.{TracksIn}
+use Rattle.tracks.proofs.TrackableLaws.{shaped-trackable}
+use Rattle.trials.specs.Searches.{PlanAt, SomePlanAt, SomeHeld, MakesTables, TakenOver}
+
+-- the vehicles of a plan that trials work on, for its tables
+held-of : {day plan : List ℕ} {rounds : List Round} → IsAccepted day → Shaped day rounds → plan ≡ planWords rounds (greedyLefts day) → PlanOf day plan rounds (greedyLefts day)
+held-of {day} {rounds = rounds} ok h e =
+    record { text = e; known = h .known; few = omega (arith, shaped-few day rounds h, accepted-ranges day ok .stopsMost) }
 
 module _ {day buffer : List ℕ} {words : ℕ} {rounds : List Round} (h : PlanAt day buffer words rounds) where
   -- how many words it has
@@ -31,15 +39,6 @@ module _ {day buffer : List ℕ} {words : ℕ} {rounds : List Round} (h : PlanAt
   pub slice-size : length (take (words - 0) (drop 0 buffer)) ≡ words
   slice-size = ap length slice-is ∙ sym plan-words
 
-  -- its vehicles, for its tables
-  pub plan-of : IsAccepted day → PlanOf day (take (words - 0) (drop 0 buffer)) rounds (greedyLefts day)
-  plan-of ok =
-      record {
-        text = slice-is;
-        known = h .shaped .known;
-        few = omega (arith, shaped-few day rounds (h .shaped), accepted-ranges day ok .stopsMost);
-      }
-
   -- copied, it stands at the front of the plan's buffer
   pub copied : {p plan : List ℕ} → Wrote (take (words - 0) (drop 0 buffer)) p plan (length (take (words - 0) (drop 0 buffer))) → words ≤ length plan
       → PlanAt day plan words rounds
@@ -51,10 +50,28 @@ module _ {day buffer : List ℕ} {words : ℕ} {rounds : List Round} (h : PlanAt
         text = ap (take words) (w .text) ∙ over-front ws p words slice-size ∙ slice-is;
       }
 
-pub some-plan : {day buffer : List ℕ} {words : ℕ} → IsAccepted day → SomePlanAt day buffer words → SomePlan day (take (words - 0) (drop 0 buffer))
-some-plan {day} ok s = record { rounds = s .rounds; lefts = greedyLefts day; planOf = plan-of (s .planAt) ok }
+-- the words of a plan that trials work on
+pub some-held : {day buffer : List ℕ} {words : ℕ} → SomePlanAt day buffer words → SomeHeld day (take (words - 0) (drop 0 buffer))
+some-held s = record { rounds = s .rounds; shaped = s .planAt .shaped; text = slice-is (s .planAt) }
+
+module _ {day plan : List ℕ} (ok : IsAccepted day) (s : SomeHeld day plan) where
+  pub held-short : length plan ≤ 1200
+  held-short = omega (arith, ap length (s .text), shaped-length day (s .rounds) (s .shaped), accepted-ranges day ok .stopsMost)
+
+  pub held-plan : SomePlan day plan
+  held-plan = record { rounds = s .rounds; lefts = greedyLefts day; planOf = held-of ok (s .shaped) (s .text) }
+
+  pub held-survey : {starts vehicles distances : List ℕ} {count : ℕ} → SurveysAll day plan starts vehicles distances count → Surveyed day (s .rounds) starts vehicles distances count
+  held-survey f = f (s .rounds) (greedyLefts day) (held-of ok (s .shaped) (s .text))
+
+-- its tables are made
+pub tables-made : {day plan starts vehicles distances tracks : List ℕ} {room count : ℕ} → IsAccepted day → 5 * stops day ≤ room
+    → SurveysAll day plan starts vehicles distances count → TracksIn day plan starts room count tracks → MakesTables day plan starts vehicles distances tracks count
+tables-made {day} ok l f g rounds shaped text =
+    let s = f rounds (greedyLefts day) (held-of ok shaped text) in
+    record { surveyed = s; tracked = g rounds (greedyLefts day) (shaped-trackable ok shaped s text l) (s .counted) }
 
 -- the plan is taken over
-pub taken-over : {day plan starts vehicles distances : List ℕ} {words count : ℕ} {rounds : List Round} → IsAccepted day → PlanAt day plan words rounds
-    → SurveysAll day (take (words - 0) (drop 0 plan)) starts vehicles distances count → TakenOver day plan words rounds starts vehicles distances count
-taken-over {day} ok h f = record { planAt = h; surveyed = f _ (greedyLefts day) (plan-of h ok) }
+pub taken-over : {day plan starts vehicles distances tracks : List ℕ} {words count : ℕ} {rounds : List Round} → PlanAt day plan words rounds
+    → MakesTables day (take (words - 0) (drop 0 plan)) starts vehicles distances tracks count → TakenOver day plan words rounds starts vehicles distances tracks count
+taken-over h f = let t = f _ (h .shaped) (slice-is h) in record { planAt = h; surveyed = t .surveyed; tracked = t .tracked }

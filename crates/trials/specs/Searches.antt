@@ -12,11 +12,13 @@ use Rattle.trial_list.specs.Listing.{CursorFits}
 use Rattle.trial_list.specs.Shapes.{Shaped, Valid}
 use Rattle.trial_list.specs.Survey.{Surveyed}
 use Rattle.trial_list.specs.TrialList.{trialList}
-use Rattle.trial_list.specs.TrialRest.{restOf}
+use Rattle.trial_list.specs.TrialRest.{restOf, listedTrial}
 use Rattle.trial_list.specs.declared.listing.Cursor.{Cursor}
+use Rattle.trial_list.specs.declared.listing.Listed.{Listed}
 use Rattle.attempts.specs.Attempts.{distanceOf, attempt}
 use Rattle.attempts.specs.Tries.{TriedAs}
 use Rattle.attempts.specs.declared.tries.Tried.{Tried}
+use Rattle.tracks.specs.Tables.{TrackedIn}
 use Rattle.trials.specs.Search.{Result, run, improve}
 use Rattle.trials.specs.declared.search.Search.{Search}
 
@@ -30,15 +32,31 @@ pub record SomePlanAt (day buffer : List ℕ) (words : ℕ) : Type 0 where
   pub rounds : List Round
   pub planAt : PlanAt day buffer words rounds
 
+-- the words are those of a plan that trials work on
+pub record SomeHeld (day plan : List ℕ) : Type 0 where
+  pub rounds : List Round
+  pub shaped : Shaped day rounds
+  pub text : plan ≡ planWords rounds (greedyLefts day)
+
+-- the tables of such a plan
+pub record Tables (day : List ℕ) (rounds : List Round) (starts vehicles distances tracks : List ℕ) (count : ℕ) : Type 0 where
+  pub surveyed : Surveyed day rounds starts vehicles distances count
+  pub tracked : TrackedIn day rounds tracks
+
+abbrev pub MakesTables : List ℕ → List ℕ → List ℕ → List ℕ → List ℕ → List ℕ → ℕ → Type 0
+MakesTables day plan starts vehicles distances tracks count =
+    (rounds : List Round) → Shaped day rounds → plan ≡ planWords rounds (greedyLefts day) → Tables day rounds starts vehicles distances tracks count
+
 -- the plan is taken over, and its tables are made
-pub record TakenOver (day plan : List ℕ) (words : ℕ) (rounds : List Round) (starts vehicles distances : List ℕ) (count : ℕ) : Type 0 where
+pub record TakenOver (day plan : List ℕ) (words : ℕ) (rounds : List Round) (starts vehicles distances tracks : List ℕ) (count : ℕ) : Type 0 where
   pub planAt : PlanAt day plan words rounds
   pub surveyed : Surveyed day rounds starts vehicles distances count
+  pub tracked : TrackedIn day rounds tracks
 
 -- so it is, whatever vehicles have these words
-abbrev pub TakesOver : List ℕ → List ℕ → ℕ → List ℕ → List ℕ → List ℕ → List ℕ → ℕ → Type 0
-TakesOver day buffer words plan starts vehicles distances count =
-    (rounds : List Round) → PlanAt day buffer words rounds → TakenOver day plan words rounds starts vehicles distances count
+abbrev pub TakesOver : List ℕ → List ℕ → ℕ → List ℕ → List ℕ → List ℕ → List ℕ → List ℕ → ℕ → Type 0
+TakesOver day buffer words plan starts vehicles distances tracks count =
+    (rounds : List Round) → PlanAt day buffer words rounds → TakenOver day plan words rounds starts vehicles distances tracks count
 
 -- document 01's search with one neighbourhood
 abbrev pub fromGreedy : List ℕ → ℕ → ℕ → Result (List Round)
@@ -52,18 +70,31 @@ pub record Going (day : List ℕ) (K budget : ℕ) (starts : List ℕ) (rounds :
       run (trialList day K) (attempt day (greedyLefts day)) (budget - s .made) rounds (restOf day K rounds (s .cursor)) (s .made) ≡ fromGreedy day K budget
 
 -- the search, going on or ended
-pub record Searching (day : List ℕ) (K budget : ℕ) (plan starts vehicles distances : List ℕ) (s : Search) : Type 0 where
+pub record Searching (day : List ℕ) (K budget : ℕ) (plan starts vehicles distances tracks : List ℕ) (s : Search) : Type 0 where
   pub rounds : List Round
-  pub held : TakenOver day plan (s .words) rounds starts vehicles distances (s .count)
+  pub held : TakenOver day plan (s .words) rounds starts vehicles distances tracks (s .count)
   pub drives : s .distance ≡ distanceOf day rounds
   pub within : s .made ≤ budget
   pub going : s .ended ≡ false → Going day K budget starts rounds s
   pub done : s .ended ≡ true → record { plan = rounds; trials = s .made; settled = s .settled } ≡ fromGreedy day K budget
 
--- a trial of the plan held was made, and the list goes on behind it
-pub record AfterTrial (day : List ℕ) (K budget : ℕ) (work plan starts vehicles distances : List ℕ) (s : Search) (next : Cursor) (tried : Tried) : Type 0 where
+-- a trial of the plan held is listed, and may be made
+pub record NextTrial (day : List ℕ) (K budget : ℕ) (plan starts vehicles distances tracks : List ℕ) (s : Search) (l : Listed) : Type 0 where
   pub rounds : List Round
-  pub held : TakenOver day plan (s .words) rounds starts vehicles distances (s .count)
+  pub held : TakenOver day plan (s .words) rounds starts vehicles distances tracks (s .count)
+  pub drives : s .distance ≡ distanceOf day rounds
+  pub left : s .made < budget
+  pub ms : restOf day K rounds (s .cursor) ≡ listedTrial (l .trial) ∷ restOf day K rounds (l .next)
+  pub valid : Every (Valid day rounds) (restOf day K rounds (l .next))
+  pub mayBe : Valid day rounds (listedTrial (l .trial))
+  pub fits : CursorFits starts (s .count) (l .next)
+  pub same :
+      run (trialList day K) (attempt day (greedyLefts day)) (budget - s .made) rounds (restOf day K rounds (s .cursor)) (s .made) ≡ fromGreedy day K budget
+
+-- a trial of the plan held was made, and the list goes on behind it
+pub record AfterTrial (day : List ℕ) (K budget : ℕ) (work plan starts vehicles distances tracks : List ℕ) (s : Search) (next : Cursor) (tried : Tried) : Type 0 where
+  pub rounds : List Round
+  pub held : TakenOver day plan (s .words) rounds starts vehicles distances tracks (s .count)
   pub drives : s .distance ≡ distanceOf day rounds
   pub left : s .made < budget
   pub m : Trial
@@ -76,8 +107,8 @@ pub record AfterTrial (day : List ℕ) (K budget : ℕ) (work plan starts vehicl
       run (trialList day K) (attempt day (greedyLefts day)) (budget - s .made) rounds (restOf day K rounds (s .cursor)) (s .made) ≡ fromGreedy day K budget
 
 -- the greedy plan is held, and no trial is made yet
-abbrev pub BeginsAll : List ℕ → List ℕ → List ℕ → List ℕ → List ℕ → Search → Type 0
-BeginsAll day plan starts vehicles distances s = (K budget : ℕ) → Searching day K budget plan starts vehicles distances s
+abbrev pub BeginsAll : List ℕ → List ℕ → List ℕ → List ℕ → List ℕ → List ℕ → Search → Type 0
+BeginsAll day plan starts vehicles distances tracks s = (K budget : ℕ) → Searching day K budget plan starts vehicles distances tracks s
 
 -- the plan that the search hands over fills the buffer, with zeros behind it
 pub record Improved (day : List ℕ) (K budget : ℕ) (plan : List ℕ) (r : Search) : Type 0 where

@@ -1,20 +1,37 @@
 // The search: trial after trial, from the start of the list again once a plan is kept.
 ghost use mathlib.Core.Path.{_≡_};
 ghost use mathlib.Core.Bool.{true, false, not};
-ghost use Prim.Native.Nat.{_≤_, _<_, _*_};
-ghost use lib.ListN.{length};
+ghost use mathlib.Core.List.{List};
+ghost use Prim.Native.Nat.{_-_, _≤_, _<_, _*_};
+ghost use lib.ListN.{length, take, drop};
 ghost use Rattle.day.specs.Accepted.{IsAccepted};
 ghost use Rattle.day.specs.Layout.{LayoutOf};
 ghost use Rattle.neighbours.specs.Tables.{TableOf};
-ghost use Rattle.trials.specs.Searches.{SomePlanAt, TakesOver, AfterTrial, Searching};
+ghost use Rattle.checker.specs.Plan.{Round};
+ghost use Rattle.walks.specs.Rewalks.{EditKnown, EditSmall};
+ghost use Rattle.trial_list.specs.Listing.{PlanTables, CursorFits, ListAnswer};
+ghost use Rattle.trial_list.specs.TrialRest.{listedTrial};
+ghost use Rattle.attempts.specs.Tries.{Made, SomeMade, TriedAs};
+ghost use Rattle.builder.specs.Build.{greedyRounds};
+ghost use Rattle.attempts.specs.Attempts.{distanceOf};
+ghost use Rattle.trials.specs.Searches.{PlanAt, SomePlanAt, TakesOver, AfterTrial, NextTrial, BeginsAll, Searching};
+use crate::held::Held;
+use crate::held::make_tables;
 use attempts::candidate::copy_words;
 use attempts::tries::Tried;
 use attempts::tries::make_trial;
 use day::fields::Layout;
 use trial_list::listing::Cursor;
+use trial_list::listing::Listed;
+use trial_list::listing::Trial;
 use trial_list::listing::first_trial;
 use trial_list::listing::next_trial;
-use trial_list::survey::survey;
+
+// What is asked for: K, and how many trials may be made.
+pub struct Setting {
+    pub k: usize,
+    pub budget: u64,
+}
 
 // The plan held: its words, its vehicles and how far it drives; how many trials were made, where the list goes on, and whether the search
 // has ended, settled or not.
@@ -32,19 +49,29 @@ pub struct Search {
 fn take_over(
     day: &[u32],
     z: Layout,
-    work: &[u32],
+    work: &mut [u32],
     words: usize,
     plan: &mut [u32],
     starts: &mut [u32],
     vehicles: &mut [u8],
-    distances: &mut [u32],
+    driven: &mut [u32],
+    tracks: &mut [u32],
 ) -> usize
-    requires { ⌜ LayoutOf (now day) z × IsAccepted (now day) × SomePlanAt (now day) (now work) words × (5 * z .stops ≤ length (now plan)) ⌝ }
-    requires { ⌜ (length (now starts) ≡ 256) × (length (now vehicles) ≡ 256) × (length (now distances) ≡ 256) ⌝ }
-    ensures { λ r. ⌜ TakesOver (now (day .entry)) (now (work .entry)) words (now (plan .exit)) (now (starts .exit)) (now (vehicles .exit)) (now (distances .exit)) r ⌝ }
+    requires { ⌜ LayoutOf (now day) z × IsAccepted (now day) × SomePlanAt (now day) (now work) words × (5 * z .stops ≤ length (now plan)) × (5 * z .stops ≤ length (now work)) ⌝ }
+    requires { ⌜ (length (now starts) ≡ 256) × (length (now vehicles) ≡ 256) × (length (now driven) ≡ 256) × (length (now tracks) ≡ 12266) ⌝ }
+    ensures { λ r. ⌜ TakesOver (now (day .entry)) (now (work .entry)) words (now (plan .exit)) (now (starts .exit)) (now (vehicles .exit)) (now (driven .exit)) (now (tracks .exit)) r ⌝ }
 {
     copy_words(&work[0..words], plan);
-    survey(day, z, &plan[0..words], starts, vehicles, distances)
+    make_tables(
+        day,
+        z,
+        &plan[0..words],
+        starts,
+        vehicles,
+        driven,
+        tracks,
+        work,
+    )
 }
 
 // The search has ended.
@@ -63,112 +90,167 @@ fn end(s: Search, settled: bool) -> Search
     }
 }
 
+// The search goes on with a plan held.
+fn going(words: usize, count: usize, distance: u32, made: u64, cursor: Cursor) -> Search
+    ensures { λ r. ⌜ (r .words ≡ words) × (r .count ≡ count) × (r .distance ≡ distance) × (r .made ≡ made) × (r .cursor ≡ cursor) × (r .ended ≡ false) ⌝ }
+{
+    Search {
+        words,
+        count,
+        distance,
+        made,
+        cursor,
+        ended: false,
+        settled: false,
+    }
+}
+
 // A trial was made: its plan is taken over where it is kept, and else the list goes on.
 fn after_trial(
     day: &[u32],
     z: Layout,
-    k: usize,
-    budget: u64,
-    work: &[u32],
+    set: Setting,
+    work: &mut [u32],
     plan: &mut [u32],
     starts: &mut [u32],
     vehicles: &mut [u8],
-    distances: &mut [u32],
+    driven: &mut [u32],
+    tracks: &mut [u32],
     s: Search,
     next: Cursor,
     tried: Tried,
 ) -> Search
-    requires { ⌜ LayoutOf (now day) z × IsAccepted (now day) × (5 * z .stops ≤ length (now plan)) × AfterTrial (now day) k budget (now work) (now plan) (now starts) (now vehicles) (now distances) s next tried ⌝ }
-    ensures { λ r. ⌜ Searching (now (day .entry)) k budget (now (plan .exit)) (now (starts .exit)) (now (vehicles .exit)) (now (distances .exit)) r × (s .made < r .made) ⌝ }
+    requires { ⌜ LayoutOf (now day) z × IsAccepted (now day) × (5 * z .stops ≤ length (now plan)) × (5 * z .stops ≤ length (now work)) × AfterTrial (now day) (set .k) (set .budget) (now work) (now plan) (now starts) (now vehicles) (now driven) (now tracks) s next tried ⌝ }
+    ensures { λ r. ⌜ Searching (now (day .entry)) (set .k) (set .budget) (now (plan .exit)) (now (starts .exit)) (now (vehicles .exit)) (now (driven .exit)) (now (tracks .exit)) r × (s .made < r .made) ⌝ }
 {
     if tried.kept {
         let words = tried.words;
-        let count = take_over(day, z, work, words, plan, starts, vehicles, distances);
-        return Search {
-            words,
-            count,
-            distance: tried.distance,
-            made: s.made + 1,
-            cursor: first_trial(),
-            ended: false,
-            settled: false,
-        };
+        let count = take_over(day, z, work, words, plan, starts, vehicles, driven, tracks);
+        return going(words, count, tried.distance, s.made + 1, first_trial());
     }
-    Search {
-        words: s.words,
-        count: s.count,
-        distance: s.distance,
-        made: s.made + 1,
-        cursor: next,
-        ended: false,
-        settled: false,
-    }
+    going(s.words, s.count, s.distance, s.made + 1, next)
+}
+
+// The next trial of the plan held, or none.
+fn list_next(
+    z: Layout,
+    set: Setting,
+    table: &[u8],
+    starts: &[u32],
+    vehicles: &[u8],
+    plan: &[u32],
+    s: Search,
+) -> Listed
+    requires { ⌜ PlanTables z (set .k) (now table) (now starts) (now vehicles) (take (s .words - 0) (drop 0 (now plan))) (s .count) × CursorFits (now starts) (s .count) (s .cursor) × (s .words ≤ length (now plan)) ⌝ }
+    ensures { λ r. ⌜ ListAnswer z (set .k) (now (table .entry)) (now (starts .entry)) (now (vehicles .entry)) (take (s .words - 0) (drop 0 (now (plan .entry)))) (s .count) (s .cursor) r ⌝ }
+{
+    let words = s.words;
+    let cursor = s.cursor;
+    let held = &plan[0..words];
+    next_trial(z, set.k, table, starts, vehicles, s.count, held, cursor)
+}
+
+// A trial of the plan held is made.
+fn try_next(
+    day: &[u32],
+    z: Layout,
+    t: Trial,
+    plan: &[u32],
+    starts: &[u32],
+    driven: &[u32],
+    tracks: &[u32],
+    s: Search,
+    work: &mut [u32],
+) -> Tried
+    requires { ⌜ LayoutOf (now day) z × IsAccepted (now day) × EditSmall (t .edit) × EditKnown (now day) (t .edit) × SomeMade (now day) (take (s .words - 0) (drop 0 (now plan))) (now starts) (now driven) (now tracks) (listedTrial t) (s .count) (s .distance) × (5 * z .stops ≤ length (now work)) × (s .words ≤ length (now plan)) ⌝ }
+    ensures { λ r. ⌜ ((rounds : List Round) → Made (now (day .entry)) (take (s .words - 0) (drop 0 (now (plan .entry)))) (now (starts .entry)) (now (driven .entry)) (now (tracks .entry)) (listedTrial t) (s .count) (s .distance) rounds → TriedAs (now (day .entry)) (listedTrial t) rounds (now (work .exit)) r) ⌝ }
+{
+    let words = s.words;
+    make_trial(
+        day,
+        z,
+        t,
+        &plan[0..words],
+        starts,
+        driven,
+        tracks,
+        s.count,
+        s.distance,
+        work,
+    )
+}
+
+// A trial that is listed is made, and the search goes on behind it.
+fn step_on(
+    day: &[u32],
+    z: Layout,
+    set: Setting,
+    work: &mut [u32],
+    plan: &mut [u32],
+    starts: &mut [u32],
+    vehicles: &mut [u8],
+    driven: &mut [u32],
+    tracks: &mut [u32],
+    s: Search,
+    listed: Listed,
+) -> Search
+    requires { ⌜ LayoutOf (now day) z × IsAccepted (now day) × (5 * z .stops ≤ length (now work)) × (5 * z .stops ≤ length (now plan)) × NextTrial (now day) (set .k) (set .budget) (now plan) (now starts) (now vehicles) (now driven) (now tracks) s listed ⌝ }
+    ensures { λ r. ⌜ Searching (now (day .entry)) (set .k) (set .budget) (now (plan .exit)) (now (starts .exit)) (now (vehicles .exit)) (now (driven .exit)) (now (tracks .exit)) r × (s .made < r .made) ⌝ }
+{
+    let t = listed.trial;
+    let next = listed.next;
+    let tried = try_next(day, z, t, plan, starts, driven, tracks, s, work);
+    after_trial(
+        day,
+        z,
+        set,
+        work,
+        plan,
+        starts,
+        vehicles,
+        driven,
+        tracks,
+        s,
+        next,
+        tried,
+    )
 }
 
 // The next trial is made, or the search ends: at the end of the list it is settled, else once the budget is gone it is not.
 fn next_step(
     day: &[u32],
     z: Layout,
-    k: usize,
-    budget: u64,
+    set: Setting,
     table: &[u8],
     work: &mut [u32],
     plan: &mut [u32],
     starts: &mut [u32],
     vehicles: &mut [u8],
-    distances: &mut [u32],
+    driven: &mut [u32],
+    tracks: &mut [u32],
     s: Search,
 ) -> Search
-    requires { ⌜ LayoutOf (now day) z × IsAccepted (now day) × (k ≤ 50) × TableOf (now day) k (now table) × (5 * z .stops ≤ length (now work)) × (5 * z .stops ≤ length (now plan)) ⌝ }
-    requires { ⌜ Searching (now day) k budget (now plan) (now starts) (now vehicles) (now distances) s × (s .ended ≡ false) ⌝ }
-    ensures { λ r. ⌜ Searching (now (day .entry)) k budget (now (plan .exit)) (now (starts .exit)) (now (vehicles .exit)) (now (distances .exit)) r × (r .ended ≡ false → s .made < r .made) ⌝ }
+    requires { ⌜ LayoutOf (now day) z × IsAccepted (now day) × (set .k ≤ 50) × TableOf (now day) (set .k) (now table) × (5 * z .stops ≤ length (now work)) × (5 * z .stops ≤ length (now plan)) ⌝ }
+    requires { ⌜ Searching (now day) (set .k) (set .budget) (now plan) (now starts) (now vehicles) (now driven) (now tracks) s × (s .ended ≡ false) ⌝ }
+    ensures { λ r. ⌜ Searching (now (day .entry)) (set .k) (set .budget) (now (plan .exit)) (now (starts .exit)) (now (vehicles .exit)) (now (driven .exit)) (now (tracks .exit)) r × (r .ended ≡ false → s .made < r .made) ⌝ }
 {
-    let words = s.words;
-    let count = s.count;
-    let cursor = s.cursor;
-    let listed = next_trial(
-        z,
-        k,
-        table,
-        starts,
-        vehicles,
-        count,
-        &plan[0..words],
-        cursor,
-    );
+    let listed = list_next(z, set, table, starts, vehicles, plan, s);
     if listed.found {
-        if s.made == budget {
+        if s.made == set.budget {
             return end(s, false);
         }
-        let t = listed.trial;
-        let e = t.edit;
-        let next = listed.next;
-        let tried = make_trial(
+        return step_on(
             day,
             z,
-            e,
-            t.one,
-            t.other,
-            &plan[0..words],
-            starts,
-            distances,
-            count,
-            s.distance,
-            work,
-        );
-        return after_trial(
-            day,
-            z,
-            k,
-            budget,
+            set,
             work,
             plan,
             starts,
             vehicles,
-            distances,
+            driven,
+            tracks,
             s,
-            next,
-            tried,
+            listed,
         );
     }
     end(s, true)
@@ -184,37 +266,60 @@ fn is_going(s: Search) -> bool
     true
 }
 
-// Trials are made until the search ends.
+// The greedy plan is held; its tables are made, and no trial is made yet.
+fn begin(
+    day: &[u32],
+    z: Layout,
+    held: Held,
+    plan: &[u32],
+    starts: &mut [u32],
+    vehicles: &mut [u8],
+    driven: &mut [u32],
+    tracks: &mut [u32],
+    work: &mut [u32],
+) -> Search
+    requires { ⌜ LayoutOf (now day) z × IsAccepted (now day) × PlanAt (now day) (now plan) (held .words) (greedyRounds (now day)) × (held .distance ≡ distanceOf (now day) (greedyRounds (now day))) × (5 * z .stops ≤ length (now work)) ⌝ }
+    requires { ⌜ (length (now starts) ≡ 256) × (length (now vehicles) ≡ 256) × (length (now driven) ≡ 256) × (length (now tracks) ≡ 12266) ⌝ }
+    ensures { λ r. ⌜ BeginsAll (now (day .entry)) (now (plan .entry)) (now (starts .exit)) (now (vehicles .exit)) (now (driven .exit)) (now (tracks .exit)) r ⌝ }
+{
+    let words = held.words;
+    let front = &plan[0..words];
+    let count = make_tables(day, z, front, starts, vehicles, driven, tracks, work);
+    going(words, count, held.distance, 0, first_trial())
+}
+
+// Trials of the greedy plan, and of the plans that come of it, are made until the search ends.
 pub fn run_trials(
     day: &[u32],
     z: Layout,
-    k: usize,
-    budget: u64,
+    set: Setting,
+    held: Held,
     table: &[u8],
     work: &mut [u32],
     plan: &mut [u32],
     starts: &mut [u32],
     vehicles: &mut [u8],
-    distances: &mut [u32],
-    first: Search,
+    driven: &mut [u32],
+    tracks: &mut [u32],
 ) -> Search
-    requires { ⌜ LayoutOf (now day) z × IsAccepted (now day) × (k ≤ 50) × TableOf (now day) k (now table) × (5 * z .stops ≤ length (now work)) × (5 * z .stops ≤ length (now plan)) ⌝ }
-    requires { ⌜ Searching (now day) k budget (now plan) (now starts) (now vehicles) (now distances) first ⌝ }
-    ensures { λ r. ⌜ Searching (now (day .entry)) k budget (now (plan .exit)) (now (starts .exit)) (now (vehicles .exit)) (now (distances .exit)) r × (r .ended ≡ true) ⌝ }
+    requires { ⌜ LayoutOf (now day) z × IsAccepted (now day) × (set .k ≤ 50) × TableOf (now day) (set .k) (now table) × (5 * z .stops ≤ length (now work)) × (5 * z .stops ≤ length (now plan)) ⌝ }
+    requires { ⌜ PlanAt (now day) (now plan) (held .words) (greedyRounds (now day)) × (held .distance ≡ distanceOf (now day) (greedyRounds (now day))) ⌝ }
+    requires { ⌜ (length (now starts) ≡ 256) × (length (now vehicles) ≡ 256) × (length (now driven) ≡ 256) × (length (now tracks) ≡ 12266) ⌝ }
+    ensures { λ r. ⌜ Searching (now (day .entry)) (set .k) (set .budget) (now (plan .exit)) (now (starts .exit)) (now (vehicles .exit)) (now (driven .exit)) (now (tracks .exit)) r × (r .ended ≡ true) ⌝ }
 {
-    let mut s = first;
+    let mut s = begin(day, z, held, plan, starts, vehicles, driven, tracks, work);
     while is_going(s) {
         s = next_step(
             day,
             z,
-            k,
-            budget,
+            set,
             table,
             work,
             plan,
             starts,
             vehicles,
-            distances,
+            driven,
+            tracks,
             s,
         );
     }

@@ -1,16 +1,20 @@
 -- `attempts::tries::is_shorter` meets its contract.
 use native.Mathlib.Omega.{arith}
 use Rattle.attempts.proofs.NextRounds.{few-vehicles}
-use Rattle.attempts.proofs.ShorterLaws.{vehicles-of, some-one, some-other, one-failed, other-failed, one-longer, both-longer, first-size}
+use Rattle.attempts.proofs.ShorterLaws.{vehicles-of, some-one, some-other, one-failed, other-failed, one-longer, both-longer}
 use borrow.Author.Needs.{needs}
 use Rattle.attempts.proofs.tries.is_shorter.Statement.{statement}
 use Rattle.attempts.proofs.tries.is_shorter.Tie as tie
+use Rattle.attempts.proofs.tries.is_shorter.Reads as reads
+use Rattle.attempts.proofs.tries.is_shorter.Lts as lts
+use Rattle.attempts.proofs.tries.retry.Reads as retry-reads
+use Rattle.attempts.proofs.tries.wide.Reads as wide-reads
 
 sub-v : tie.Need-sub-v
-sub-v c = let s = c .before .before .before .before .before .pre .4 in omega (arith, vehicles-of (s .measured) .oneIs)
+sub-v c = let s = c .before .before .before .before .before .before .before .pre .4 in omega (arith, vehicles-of (s .measured) .oneIs)
 
 retry-requires : tie.Need-retry-requires
-retry-requires c κs = (c .before .before .before .before .before .before .pre .0, c .before .before .before .before .before .before .pre .1, c .before .before .before .before .before .before .pre .2, c .before .before .before .before .before .before .pre .3, some-one (c .before .before .before .before .before .before .pre .4), c .before .before .before .before .before .before .pre .5)
+retry-requires c κs = (c .before .before .before .before .before .before .before .before .pre .0, c .before .before .before .before .before .before .before .before .pre .1, c .before .before .before .before .before .before .before .before .pre .2, c .before .before .before .before .before .before .before .before .pre .3, some-one (c .before .before .before .before .before .before .before .before .pre .4), c .before .before .before .before .before .before .before .before .pre .5)
 
 same-length : tie.Need-same-length
 same-length c = search needs
@@ -19,22 +23,22 @@ returns : tie.Need-returns
 returns c = λ f rounds h. one-failed h (c .before .before .before .retry .ensures) (c .if1 .taken)
 
 mul-result : tie.Need-mul-result
-mul-result c = let s = c .before .before .before .before .before .before .before .before .before .before .before .pre .4 in omega (arith, vehicles-of (s .measured) .insideOne, few-vehicles (s .measured .trying))
+mul-result c = let s = c .before .before .before .before .before .before .before .before .before .before .before .before .before .before .pre .4 in omega (arith, vehicles-of (s .measured) .insideOne, few-vehicles (s .measured .trying))
 
 shared-slice-read-result : tie.Need-shared-slice-read-result
-shared-slice-read-result c = let s = c .before .before .before .before .before .before .before .before .before .before .before .before .pre .4 in omega (arith, vehicles-of (s .measured) .insideOne, few-vehicles (s .measured .trying), s .measured .measures)
+shared-slice-read-result c = let s = c .before .before .before .before .before .before .before .before .before .before .before .before .before .before .before .pre .4 in omega (arith, vehicles-of (s .measured) .insideOne, few-vehicles (s .measured .trying), s .measured .measures)
 
 same-length-2 : tie.Need-same-length-2
 same-length-2 c = search needs
 
 returns-2 : tie.Need-returns-2
-returns-2 c = λ f rounds h. one-longer h (c .before .before .before .before .before .before .retry .ensures) (c .before .before .before .if1 .left) (c .before .before .if2 .taken) f
+returns-2 c = λ f rounds h. one-longer h (c .before .before .before .before .before .before .before .retry .ensures) (c .before .before .before .before .if1 .left) (c .before .before .if2 .taken) f
 
 sub-u : tie.Need-sub-u
-sub-u c = let s = c .before .before .before .before .before .before .before .before .before .before .before .pre .4 in omega (arith, vehicles-of (s .measured) .otherIs)
+sub-u c = let s = c .before .before .before .before .before .before .before .before .before .before .before .before .before .before .before .pre .4 in omega (arith, vehicles-of (s .measured) .otherIs)
 
 retry-requires-2 : tie.Need-retry-requires-2
-retry-requires-2 c κs = (c .before .before .before .before .before .before .before .before .before .before .before .before .pre .0, c .before .before .before .before .before .before .before .before .before .before .before .before .pre .1, c .before .before .before .before .before .before .before .before .before .before .before .before .pre .2, c .before .before .before .before .before .before .before .before .before .before .before .before .pre .3, some-other (c .before .before .before .before .before .before .before .before .before .before .before .before .pre .4), first-size (c .before .before .before .before .before .before .before .before .before .before .before .before .pre .4) (c .before .before .before .before .before .retry .ensures) (c .before .before .before .before .before .before .before .before .before .before .before .before .pre .5))
+retry-requires-2 c κs = (c .before .before .before .before .before .before .before .before .before .before .before .before .before .before .before .before .pre .0, c .before .before .before .before .before .before .before .before .before .before .before .before .before .before .before .before .pre .1, c .before .before .before .before .before .before .before .before .before .before .before .before .before .before .before .before .pre .2, c .before .before .before .before .before .before .before .before .before .before .before .before .before .before .before .before .pre .3, some-other (c .before .before .before .before .before .before .before .before .before .before .before .before .before .before .before .before .pre .4), omega (arith, c .before .before .before .before .before .before .before .before .before .before .before .before .before .before .before .before .pre .5, c .before .before .before .before .before .before .before .retry .kept .1 .1 .1 .1 .1 .1 .1 .0))
 
 same-length-3 : tie.Need-same-length-3
 same-length-3 c = search needs
@@ -52,19 +56,19 @@ add-result : tie.Need-add-result
 add-result c = search needs
 
 mul-wide : tie.Need-mul-wide
-mul-wide c = let s = c .before .before .before .before .before .before .before .before .before .before .before .before .before .before .before .before .before .before .pre .4 in omega (arith, vehicles-of (s .measured) .insideOne, few-vehicles (s .measured .trying))
+mul-wide c = let s = c .before .before .before .before .before .before .before .before .before .before .before .before .before .before .before .before .before .before .before .before .before .before .pre .4 in omega (arith, vehicles-of (s .measured) .insideOne, few-vehicles (s .measured .trying))
 
 shared-slice-read-wide : tie.Need-shared-slice-read-wide
-shared-slice-read-wide c = let s = c .before .before .before .before .before .before .before .before .before .before .before .before .before .before .before .before .before .before .before .pre .4 in omega (arith, vehicles-of (s .measured) .insideOne, few-vehicles (s .measured .trying), s .measured .measures)
+shared-slice-read-wide c = let s = c .before .before .before .before .before .before .before .before .before .before .before .before .before .before .before .before .before .before .before .before .before .before .before .pre .4 in omega (arith, vehicles-of (s .measured) .insideOne, few-vehicles (s .measured .trying), s .measured .measures)
 
 wide-requires-3 : tie.Need-wide-requires-3
 wide-requires-3 c κs = search needs
 
 mul-wide-2 : tie.Need-mul-wide-2
-mul-wide-2 c = let s = c .before .before .before .before .before .before .before .before .before .before .before .before .before .before .before .before .before .before .before .before .pre .4 in omega (arith, vehicles-of (s .measured) .insideOther, few-vehicles (s .measured .trying))
+mul-wide-2 c = let s = c .before .before .before .before .before .before .before .before .before .before .before .before .before .before .before .before .before .before .before .before .before .before .before .before .pre .4 in omega (arith, vehicles-of (s .measured) .insideOther, few-vehicles (s .measured .trying))
 
 shared-slice-read-wide-2 : tie.Need-shared-slice-read-wide-2
-shared-slice-read-wide-2 c = let s = c .before .before .before .before .before .before .before .before .before .before .before .before .before .before .before .before .before .before .before .before .before .pre .4 in omega (arith, vehicles-of (s .measured) .insideOther, few-vehicles (s .measured .trying), s .measured .measures)
+shared-slice-read-wide-2 c = let s = c .before .before .before .before .before .before .before .before .before .before .before .before .before .before .before .before .before .before .before .before .before .before .before .before .before .pre .4 in omega (arith, vehicles-of (s .measured) .insideOther, few-vehicles (s .measured .trying), s .measured .measures)
 
 wide-requires-4 : tie.Need-wide-requires-4
 wide-requires-4 c κs = search needs
@@ -76,7 +80,7 @@ same-length-4 : tie.Need-same-length-4
 same-length-4 c = search needs
 
 returns-4 : tie.Need-returns-4
-returns-4 c = λ f rounds h. both-longer h (c .before .before .before .before .before .before .before .before .before .before .before .before .before .before .before .retry .ensures) (c .before .before .before .before .before .before .before .before .before .before .before .before .if1 .left) (c .before .before .before .before .before .before .before .before .before .before .before .if2 .left) (c .before .before .before .before .before .before .before .before .before .retry2 .ensures) (c .before .before .before .before .before .before .if3 .left) (c .before .before .before .before .before .wide .ensures .0) (c .before .before .before .before .wide2 .ensures .0) (c .before .before .wide3 .ensures .0) (c .wide4 .ensures .0) f
+returns-4 c = λ f rounds h. both-longer h (c .before .before .before .before .before .before .before .before .before .before .before .before .before .before .before .before .before .retry .ensures) (c .before .before .before .before .before .before .before .before .before .before .before .before .before .before .if1 .left) (c .before .before .before .before .before .before .before .before .before .before .before .before .if2 .left) (c .before .before .before .before .before .before .before .before .before .retry2 .ensures) (c .before .before .before .before .before .before .if3 .left) (c .before .before .before .before .before .wide .ensures .0) (c .before .before .before .before .wide2 .ensures .0) (c .before .before .wide3 .ensures .0) (c .wide4 .ensures .0) f
 
 pub is-shorter-spec : {M : Type 1} → statement M
 is-shorter-spec =

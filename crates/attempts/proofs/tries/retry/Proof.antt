@@ -1,64 +1,110 @@
 -- `attempts::tries::retry` meets its contract.
 use native.Mathlib.Omega.{arith}
 use Rattle.builder.proofs.BuiltPlans.{room-is}
+use Rattle.tracks.proofs.PlacedLaws.{start-next}
 use Rattle.attempts.proofs.NextRounds.{few-vehicles, plan-short, bounds}
-use Rattle.attempts.proofs.TryLaws.{bounds-long, retry-walkable}
+use Rattle.attempts.proofs.SpanOfTrials.{valid-single}
+use Rattle.attempts.proofs.TryLaws.{trying-laid, retry-walkable, retry-measurable, retry-short}
+use borrow.Author.Needs.{needs}
 use Rattle.attempts.proofs.tries.retry.Statement.{statement}
 use Rattle.attempts.proofs.tries.retry.Tie as tie
+use Rattle.attempts.proofs.tries.retry.Reads as reads
+use Rattle.attempts.proofs.tries.retry.Lts as lts
+use Rattle.tracks.proofs.measure.measure.Reads as measure-reads
+use Rattle.tracks.proofs.span.span_of.Reads as span-of-reads
 
 mul-from : tie.Need-mul-from
-mul-from c = let s = c .before .before .before .before .pre .4 in omega (arith, s .inside, few-vehicles (s .trying))
+mul-from c = let s = c .before .before .before .before .before .pre .4 in omega (arith, s .inside, few-vehicles (s .trying))
 
 shared-slice-read-from : tie.Need-shared-slice-read-from
-shared-slice-read-from c = let s = c .before .before .before .before .before .pre .4 in omega (arith, s .inside, few-vehicles (s .trying), s .trying .table)
+shared-slice-read-from c = let s = c .before .before .before .before .before .before .pre .4 in omega (arith, s .inside, few-vehicles (s .trying), s .trying .table)
 
 cast-from : tie.Need-cast-from
-cast-from c = let s = c .before .before .before .before .before .pre .4 in let b = bounds (s .trying) (s .inside) in omega (arith, b .order, b .inside, plan-short (s .trying))
+cast-from c = let s = c .before .before .before .before .before .before .pre .4 in let b = bounds (s .trying) (s .inside) in omega (arith, b .order, b .inside, plan-short (s .trying))
 
 add-from : tie.Need-add-from
-add-from c = let s = c .before .before .before .before .before .pre .4 in let b = bounds (s .trying) (s .inside) in omega (arith, b .order, b .inside, plan-short (s .trying))
+add-from c = let s = c .before .before .before .before .before .before .pre .4 in let b = bounds (s .trying) (s .inside) in omega (arith, b .order, b .inside, plan-short (s .trying))
 
 add-to : tie.Need-add-to
-add-to c = let s = c .before .before .before .before .before .pre .4 in omega (arith, s .inside, few-vehicles (s .trying))
+add-to c = let s = c .before .before .before .before .before .before .pre .4 in omega (arith, s .inside, few-vehicles (s .trying))
 
 mul-to : tie.Need-mul-to
-mul-to c = let s = c .before .before .before .before .before .pre .4 in omega (arith, s .inside, few-vehicles (s .trying))
+mul-to c = let s = c .before .before .before .before .before .before .pre .4 in omega (arith, s .inside, few-vehicles (s .trying))
 
 shared-slice-read-to : tie.Need-shared-slice-read-to
-shared-slice-read-to c = let s = c .before .before .before .before .before .before .pre .4 in omega (arith, s .inside, few-vehicles (s .trying), s .trying .table)
+shared-slice-read-to c = let s = c .before .before .before .before .before .before .before .pre .4 in omega (arith, s .inside, few-vehicles (s .trying), s .trying .table)
 
 cast-to : tie.Need-cast-to
-cast-to c = let s = c .before .before .before .before .before .before .pre .4 in let b = bounds (s .trying) (s .inside) in omega (arith, b .order, b .inside, plan-short (s .trying))
+cast-to c = let s = c .before .before .before .before .before .before .before .pre .4 in let b = bounds (s .trying) (s .inside) in omega (arith, b .order, b .inside, plan-short (s .trying))
 
 sub-to : tie.Need-sub-to
-sub-to c = let s = c .before .before .before .before .before .before .pre .4 in omega (arith, bounds-long (s .trying) (s .inside))
+sub-to c = let s = c .before .before .before .before .before .before .before .pre .4 in omega (arith, start-next (trying-laid (s .trying)) (s .inside))
 
-add-walk-vehicle : tie.Need-add-walk-vehicle
-add-walk-vehicle c = let s = c .before .before .before .before .before .before .pre .4 in omega (arith, s .inside, few-vehicles (s .trying))
+add-span-of : tie.Need-add-span-of
+add-span-of c = let s = c .before .before .before .before .before .before .before .pre .4 in omega (arith, s .inside, few-vehicles (s .trying))
 
-cast-walk-vehicle : tie.Need-cast-walk-vehicle
-cast-walk-vehicle c = let s = c .before .before .before .before .before .before .pre .4 in omega (arith, s .inside, few-vehicles (s .trying))
+sub-span-of : tie.Need-sub-span-of
+sub-span-of c = search needs
 
-mul-walk-vehicle : tie.Need-mul-walk-vehicle
-mul-walk-vehicle c = let s = c .before .before .before .before .before .before .pre .4 in let b = bounds (s .trying) (s .inside) in omega (arith, b .order, b .inside, plan-short (s .trying))
+part-span-of-start : tie.Need-part-span-of-start
+part-span-of-start c = search needs
 
-sub-walk-vehicle : tie.Need-sub-walk-vehicle
-sub-walk-vehicle c = let s = c .before .before .before .before .before .before .pre .4 in omega (arith, bounds-long (s .trying) (s .inside))
+part-span-of-end : tie.Need-part-span-of-end
+part-span-of-end c = search needs
 
-part-walk-vehicle-start : tie.Need-part-walk-vehicle-start
-part-walk-vehicle-start c = let s = c .before .before .before .before .before .before .pre .4 in let b = bounds (s .trying) (s .inside) in omega (arith, bounds-long (s .trying) (s .inside), b .inside)
+mul-span-of : tie.Need-mul-span-of
+mul-span-of c = let s = c .before .before .before .before .before .before .before .before .before .pre .4 in let b = bounds (s .trying) (s .inside) in omega (arith, b .order, b .inside, plan-short (s .trying))
 
-part-walk-vehicle-end : tie.Need-part-walk-vehicle-end
-part-walk-vehicle-end c = let s = c .before .before .before .before .before .before .pre .4 in let b = bounds (s .trying) (s .inside) in omega (arith, bounds-long (s .trying) (s .inside), b .inside)
+sub-span-of-2 : tie.Need-sub-span-of-2
+sub-span-of-2 c = let s = c .before .before .before .before .before .before .before .before .before .pre .4 in omega (arith, start-next (trying-laid (s .trying)) (s .inside))
 
-walk-vehicle-requires : tie.Need-walk-vehicle-requires
-walk-vehicle-requires c κs = let s = c .before .before .before .before .before .before .before .before .pre .4 in (c .before .before .before .before .before .before .before .before .pre .0, c .before .before .before .before .before .before .before .before .pre .1, c .before .before .before .before .before .before .before .before .pre .2, c .before .before .before .before .before .before .before .before .pre .3, omega (arith, s .inside, few-vehicles (s .trying)), record { tasks = _; walkable = retry-walkable (s .trying) (s .inside) (c .before .before .before .before .before .before .before .before .pre .1) (room-is (c .before .before .before .before .before .before .before .before .pre .0) (c .before .before .before .before .before .before .before .before .pre .5)) (s .touched) })
+part-span-of-start-2 : tie.Need-part-span-of-start-2
+part-span-of-start-2 c = let s = c .before .before .before .before .before .before .before .before .before .pre .4 in let b = bounds (s .trying) (s .inside) in omega (arith, start-next (trying-laid (s .trying)) (s .inside), b .inside)
+
+part-span-of-end-2 : tie.Need-part-span-of-end-2
+part-span-of-end-2 c = let s = c .before .before .before .before .before .before .before .before .before .pre .4 in let b = bounds (s .trying) (s .inside) in omega (arith, start-next (trying-laid (s .trying)) (s .inside), b .inside)
+
+span-of-requires : tie.Need-span-of-requires
+span-of-requires c κs = search needs
+
+sub-before : tie.Need-sub-before
+sub-before c = search needs
+
+part-before-start : tie.Need-part-before-start
+part-before-start c = search needs
+
+part-before-end : tie.Need-part-before-end
+part-before-end c = search needs
+
+sub-behind : tie.Need-sub-behind
+sub-behind c = search needs
+
+part-behind-start : tie.Need-part-behind-start
+part-behind-start c = search needs
+
+part-behind-end : tie.Need-part-behind-end
+part-behind-end c = search needs
+
+mul-measure : tie.Need-mul-measure
+mul-measure c = let s = c .before .before .before .before .before .before .before .before .before .before .before .before .before .pre .4 in let b = bounds (s .trying) (s .inside) in omega (arith, b .order, b .inside, plan-short (s .trying))
+
+sub-measure : tie.Need-sub-measure
+sub-measure c = let s = c .before .before .before .before .before .before .before .before .before .before .before .before .before .pre .4 in omega (arith, start-next (trying-laid (s .trying)) (s .inside))
+
+part-measure-start : tie.Need-part-measure-start
+part-measure-start c = let s = c .before .before .before .before .before .before .before .before .before .before .before .before .before .pre .4 in let b = bounds (s .trying) (s .inside) in omega (arith, start-next (trying-laid (s .trying)) (s .inside), b .inside)
+
+part-measure-end : tie.Need-part-measure-end
+part-measure-end c = let s = c .before .before .before .before .before .before .before .before .before .before .before .before .before .pre .4 in let b = bounds (s .trying) (s .inside) in omega (arith, start-next (trying-laid (s .trying)) (s .inside), b .inside)
+
+measure-requires : tie.Need-measure-requires
+measure-requires c κs = let s = c .before .before .before .before .before .before .before .before .before .before .before .before .before .before .before .pre .4 in let room = room-is (c .before .before .before .before .before .before .before .before .before .before .before .before .before .before .before .pre .0) (c .before .before .before .before .before .before .before .before .before .before .before .before .before .before .before .pre .5) in let are = retry-walkable (s .trying) (s .inside) {work = c .before .before .before .before .before .before .before .before .before .before .before .before .before .before .before .args .work .now} (c .before .before .before .before .before .before .before .before .before .before .before .before .before .before .before .pre .1) room (s .touched) .are in (c .before .before .before .before .before .before .before .before .before .before .before .before .before .before .before .pre .0, c .before .before .before .before .before .before .before .before .before .before .before .before .before .before .before .pre .1, c .before .before .before .before .before .before .before .before .before .before .before .before .before .before .before .pre .2, c .before .before .before .before .before .before .before .before .before .before .before .before .before .before .before .pre .3, s .tracked .tracked .beforeSize, s .tracked .tracked .behindSize, retry-short (s .trying) (s .inside) (c .before .before .before .before .before .before .before .before .before .before .before .before .before .before .before .pre .1) are, record { tasks = _; measurable = retry-measurable (s .trying) (s .inside) (c .before .before .before .before .before .before .before .before .before .before .before .before .before .before .before .pre .1) room (s .touched) (s .tracked) (c .before .before .before .before .span-of .ensures _ are (valid-single _ (s .inside) (s .trying .valid))) })
 
 same-length : tie.Need-same-length
-same-length c = let s = c .before .before .before .before .before .before .before .before .before .before .before .pre .4 in c .before .before .walk-vehicle .ensures _ (retry-walkable (s .trying) (s .inside) (c .before .before .before .before .before .before .before .before .before .before .before .pre .1) (room-is (c .before .before .before .before .before .before .before .before .before .before .before .pre .0) (c .before .before .before .before .before .before .before .before .before .before .before .pre .5)) (s .touched)) .size
+same-length c = search needs
 
 returns : tie.Need-returns
-returns c = λ rounds t l y. c .before .before .walk-vehicle .ensures _ (retry-walkable t l (c .before .before .before .before .before .before .before .before .before .before .before .pre .1) (room-is (c .before .before .before .before .before .before .before .before .before .before .before .pre .0) (c .before .before .before .before .before .before .before .before .before .before .before .pre .5)) y)
+returns c = λ rounds t k l y. let room = room-is (c .before .before .before .before .before .before .before .before .before .before .before .before .before .before .before .before .before .before .pre .0) (c .before .before .before .before .before .before .before .before .before .before .before .before .before .before .before .before .before .before .pre .5) in let are = retry-walkable t l {work = c .before .before .before .before .before .before .before .before .before .before .before .before .before .before .before .before .before .before .args .work .now} (c .before .before .before .before .before .before .before .before .before .before .before .before .before .before .before .before .before .before .pre .1) room y .are in c .before .before .measure .ensures _ (retry-measurable t l (c .before .before .before .before .before .before .before .before .before .before .before .before .before .before .before .before .before .before .pre .1) room y k (c .before .before .before .before .before .before .before .span-of .ensures _ are (valid-single _ l (t .valid))))
 
 pub retry-spec : {M : Type 1} → statement M
 retry-spec =
@@ -73,12 +119,25 @@ retry-spec =
     shared-slice-read-to
     cast-to
     sub-to
-    add-walk-vehicle
-    cast-walk-vehicle
-    mul-walk-vehicle
-    sub-walk-vehicle
-    part-walk-vehicle-start
-    part-walk-vehicle-end
-    walk-vehicle-requires
+    add-span-of
+    sub-span-of
+    part-span-of-start
+    part-span-of-end
+    mul-span-of
+    sub-span-of-2
+    part-span-of-start-2
+    part-span-of-end-2
+    span-of-requires
+    sub-before
+    part-before-start
+    part-before-end
+    sub-behind
+    part-behind-start
+    part-behind-end
+    mul-measure
+    sub-measure
+    part-measure-start
+    part-measure-end
+    measure-requires
     same-length
     returns)

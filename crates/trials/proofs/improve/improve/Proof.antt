@@ -6,24 +6,17 @@ use Rattle.trials.proofs.ImproveLaws.{improved}
 use borrow.Author.Needs.{needs}
 use Rattle.trials.proofs.improve.improve.Statement.{statement}
 use Rattle.trials.proofs.improve.improve.Tie as tie
+use Rattle.trials.proofs.improve.improve.Reads as reads
+use Rattle.trials.proofs.improve.improve.Lts as lts
+use Rattle.builder.proofs.lefts.fill_zeros.Reads as fill-zeros-reads
+use Rattle.neighbours.proofs.table.fill_table.Reads as fill-table-reads
+use Rattle.trials.proofs.search.run_trials.Reads as run-trials-reads
 
 slice-aggregate-fill-table : tie.Need-slice-aggregate-fill-table
 slice-aggregate-fill-table c = search needs
 
 fill-table-requires : tie.Need-fill-table-requires
 fill-table-requires c κs = let p = c .before .before .before .before .pre in (p .0, omega (arith, p .0 .stopsAre, accepted-ranges _ (p .1) .stopsMost), p .2, refl)
-
-slice-aggregate-begin : tie.Need-slice-aggregate-begin
-slice-aggregate-begin c = search needs
-
-slice-aggregate-begin-2 : tie.Need-slice-aggregate-begin-2
-slice-aggregate-begin-2 c = search needs
-
-slice-aggregate-begin-3 : tie.Need-slice-aggregate-begin-3
-slice-aggregate-begin-3 c = search needs
-
-begin-requires : tie.Need-begin-requires
-begin-requires c κs = search needs
 
 slice-aggregate-run-trials : tie.Need-slice-aggregate-run-trials
 slice-aggregate-run-trials c = search needs
@@ -37,8 +30,11 @@ slice-aggregate-run-trials-3 c = search needs
 slice-aggregate-run-trials-4 : tie.Need-slice-aggregate-run-trials-4
 slice-aggregate-run-trials-4 c = search needs
 
+slice-aggregate-run-trials-5 : tie.Need-slice-aggregate-run-trials-5
+slice-aggregate-run-trials-5 c = search needs
+
 run-trials-requires : tie.Need-run-trials-requires
-run-trials-requires c κs = let p = c .before .before .before .before .before .before .before .before .before .before .before .before .before .before .before .before .before .before .before .before .pre in ((p .0, p .1, p .2, c .before .before .before .before .before .before .before .before .before .before .before .before .before .before .before .fill-table .ensures, p .4, omega (arith, p .3)), c .before .before .before .before .before .before .before .before .before .begin .ensures _ _)
+run-trials-requires c κs = let p = c .before .before .before .before .before .before .before .before .before .before .before .before .before .pre in ((p .0, p .1, p .2, c .before .before .before .before .before .before .before .before .fill-table .ensures, p .4, omega (arith, p .3)), ((p .5, p .6), (refl, refl, refl, refl)))
 
 fill-zeros-requires : tie.Need-fill-zeros-requires
 fill-zeros-requires c κs = search needs
@@ -50,7 +46,7 @@ same-length-2 : tie.Need-same-length-2
 same-length-2 c = search needs
 
 returns : tie.Need-returns
-returns c = improved (c .before .before .before .before .before .before .before .before .before .before .before .run-trials .ensures .0) (c .before .before .before .before .before .before .before .before .before .before .before .run-trials .ensures .1) (c .before .before .fill-zeros .ensures) (search needs)
+returns c = improved (c .before .before .before .before .before .before .before .before .before .before .before .before .run-trials .ensures .0) (c .before .before .before .before .before .before .before .before .before .before .before .before .run-trials .ensures .1) (c .before .before .fill-zeros .ensures) (search needs)
 
 pub improve-spec : {M : Type 1} → statement M
 improve-spec =
@@ -58,14 +54,11 @@ improve-spec =
     (tie.spec
     slice-aggregate-fill-table
     fill-table-requires
-    slice-aggregate-begin
-    slice-aggregate-begin-2
-    slice-aggregate-begin-3
-    begin-requires
     slice-aggregate-run-trials
     slice-aggregate-run-trials-2
     slice-aggregate-run-trials-3
     slice-aggregate-run-trials-4
+    slice-aggregate-run-trials-5
     run-trials-requires
     fill-zeros-requires
     same-length

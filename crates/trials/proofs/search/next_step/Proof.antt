@@ -1,22 +1,18 @@
 -- `trials::search::next_step` meets its contract.
 use mathlib.Core.Path.{sym, _∙_}
 use mathlib.Core.Bool.{true≢false}
-use Rattle.trials.proofs.SearchSteps.{held-tables, ends-settled, ends-spent, trial-names, some-made, after-made}
+use Rattle.trials.proofs.SearchSteps.{held-tables, ends-settled, ends-spent, next-trial}
 use borrow.Author.Needs.{needs}
 use Rattle.trials.proofs.search.next_step.Statement.{statement}
 use Rattle.trials.proofs.search.next_step.Tie as tie
+use Rattle.trials.proofs.search.next_step.Reads as reads
+use Rattle.trials.proofs.search.next_step.Lts as lts
+use Rattle.trials.proofs.search.end.Reads as end-reads
+use Rattle.trials.proofs.search.list_next.Reads as list-next-reads
+use Rattle.trials.proofs.search.step_on.Reads as step-on-reads
 
-sub-next-trial : tie.Need-sub-next-trial
-sub-next-trial c = search needs
-
-part-next-trial-start : tie.Need-part-next-trial-start
-part-next-trial-start c = search needs
-
-part-next-trial-end : tie.Need-part-next-trial-end
-part-next-trial-end c = search needs
-
-next-trial-requires : tie.Need-next-trial-requires
-next-trial-requires c κs = let p = c .before .before .before .before .before .before .before .before .before .before .before .before .pre .0 in let h = c .before .before .before .before .before .before .before .before .before .before .before .before .pre .1 .0 in (held-tables (p .0) (p .1) (p .2) (p .3) h, (h .going (c .before .before .before .before .before .before .before .before .before .before .before .before .pre .1 .1)) .fits)
+list-next-requires : tie.Need-list-next-requires
+list-next-requires c κs = let p = c .before .before .before .before .before .before .before .before .before .before .before .pre .0 in let h = c .before .before .before .before .before .before .before .before .before .before .before .pre .1 .0 in (held-tables (p .0) (p .1) (p .2) (p .3) h, (h .going (c .before .before .before .before .before .before .before .before .before .before .before .pre .1 .1)) .fits, h .held .planAt .fits)
 
 end-requires : tie.Need-end-requires
 end-requires c κs = search needs
@@ -31,22 +27,10 @@ same-length-3 : tie.Need-same-length-3
 same-length-3 c = search needs
 
 returns : tie.Need-returns
-returns c = let p = c .before .before .before .before .before .before .before .before .before .before .before .before .before .before .before .before .before .pre .0 in let e = c .end .ensures in (ends-spent (p .0) (p .1) (p .2) (p .3) (c .before .before .before .before .before .before .before .before .before .before .before .before .before .before .before .before .before .pre .1 .0) _ (c .before .before .before .before .before .before .before .before .before .before .before .before .before .before .before .before .before .pre .1 .1) (c .before .before .before .before .next-trial .ensures) (c .before .before .before .if1 .taken) (c .before .if2 .taken) (e .0) (e .1) (e .2) (e .3) (e .4) (e .5), λ n. absurd (true≢false (sym (e .4) ∙ n)))
+returns c = let p = c .before .before .before .before .before .before .before .before .before .before .before .before .before .before .before .before .before .pre .0 in let e = c .end .ensures in (ends-spent (p .0) (p .1) (p .2) (p .3) (c .before .before .before .before .before .before .before .before .before .before .before .before .before .before .before .before .before .pre .1 .0) _ (c .before .before .before .before .before .before .before .before .before .before .before .before .before .before .before .before .before .pre .1 .1) (c .before .before .before .before .before .list-next .ensures) (c .before .before .before .before .if1 .taken) (c .before .if2 .taken) (e .0) (e .1) (e .2) (e .3) (e .4) (e .5), λ n. absurd (true≢false (sym (e .4) ∙ n)))
 
-sub-make-trial : tie.Need-sub-make-trial
-sub-make-trial c = search needs
-
-part-make-trial-start : tie.Need-part-make-trial-start
-part-make-trial-start c = search needs
-
-part-make-trial-end : tie.Need-part-make-trial-end
-part-make-trial-end c = c .before .before .before .before .before .before .before .before .before .before .before .before .before .before .before .before .before .before .before .pre .1 .0 .held .planAt .fits
-
-make-trial-requires : tie.Need-make-trial-requires
-make-trial-requires c κs = let p = c .before .before .before .before .before .before .before .before .before .before .before .before .before .before .before .before .before .before .before .before .before .before .before .pre .0 in let n = trial-names (p .0) (p .1) (p .2) (p .3) (c .before .before .before .before .before .before .before .before .before .before .before .before .before .before .before .before .before .before .before .before .before .before .before .pre .1 .0) (c .before .before .before .before .before .before .before .before .before .before .before .before .before .before .before .before .before .before .before .before .before .before .before .pre .1 .1) (c .before .before .before .before .before .before .before .before .before .before .next-trial .ensures) (c .before .before .before .before .before .before .before .before .before .if1 .taken) in (p .0, p .1, n .small, n .known, some-made (p .0) (p .1) (p .2) (p .3) (c .before .before .before .before .before .before .before .before .before .before .before .before .before .before .before .before .before .before .before .before .before .before .before .pre .1 .0) (c .before .before .before .before .before .before .before .before .before .before .before .before .before .before .before .before .before .before .before .before .before .before .before .pre .1 .1) (c .before .before .before .before .before .before .before .before .before .before .next-trial .ensures) (c .before .before .before .before .before .before .before .before .before .if1 .taken), p .4)
-
-after-trial-requires : tie.Need-after-trial-requires
-after-trial-requires c κs = let p = c .before .before .before .before .before .before .before .before .before .before .before .before .before .before .before .before .before .before .before .before .before .before .before .before .before .before .before .before .before .before .before .pre .0 in (p .0, p .1, p .5, after-made (p .0) (p .1) (p .2) (p .3) (c .before .before .before .before .before .before .before .before .before .before .before .before .before .before .before .before .before .before .before .before .before .before .before .before .before .before .before .before .before .before .before .pre .1 .0) (c .before .before .before .before .before .before .before .before .before .before .before .before .before .before .before .before .before .before .before .before .before .before .before .before .before .before .before .before .before .before .before .pre .1 .1) (c .before .before .before .before .before .before .before .before .before .before .before .before .before .before .before .before .before .before .next-trial .ensures) (c .before .before .before .before .before .before .before .before .before .before .before .before .before .before .before .before .before .if1 .taken) _ (c .before .before .before .before .before .before .before .before .before .before .before .before .before .before .before .if2 .left) (c .before .before .before .before .before .before .before .make-trial .ensures))
+step-on-requires : tie.Need-step-on-requires
+step-on-requires c κs = let p = c .before .before .before .before .before .before .before .before .before .before .before .before .before .before .before .before .before .before .before .before .before .before .pre .0 in (p .0, p .1, p .4, p .5, next-trial (p .0) (p .1) (p .2) (p .3) (c .before .before .before .before .before .before .before .before .before .before .before .before .before .before .before .before .before .before .before .before .before .before .pre .1 .0) (c .before .before .before .before .before .before .before .before .before .before .before .before .before .before .before .before .before .before .before .before .before .before .pre .1 .1) (c .before .before .before .before .before .before .before .before .before .before .list-next .ensures) (c .before .before .before .before .before .before .before .before .before .if1 .taken) (c .before .before .before .before .before .before .if2 .left))
 
 same-length-4 : tie.Need-same-length-4
 same-length-4 c = search needs
@@ -63,14 +47,14 @@ same-length-7 c = search needs
 same-length-8 : tie.Need-same-length-8
 same-length-8 c = search needs
 
+same-length-9 : tie.Need-same-length-9
+same-length-9 c = search needs
+
 returns-2 : tie.Need-returns-2
 returns-2 c = search needs
 
 end-requires-2 : tie.Need-end-requires-2
 end-requires-2 c κs = search needs
-
-same-length-9 : tie.Need-same-length-9
-same-length-9 c = search needs
 
 same-length-10 : tie.Need-same-length-10
 same-length-10 c = search needs
@@ -78,35 +62,32 @@ same-length-10 c = search needs
 same-length-11 : tie.Need-same-length-11
 same-length-11 c = search needs
 
+same-length-12 : tie.Need-same-length-12
+same-length-12 c = search needs
+
 returns-3 : tie.Need-returns-3
-returns-3 c = let p = c .before .before .before .before .before .before .before .before .before .before .before .before .before .before .before .pre .0 in let e = c .end2 .ensures in (ends-settled (p .0) (p .1) (p .2) (p .3) (c .before .before .before .before .before .before .before .before .before .before .before .before .before .before .before .pre .1 .0) _ (c .before .before .before .before .before .before .before .before .before .before .before .before .before .before .before .pre .1 .1) (c .before .before .next-trial .ensures) (c .before .if1 .left) (e .0) (e .1) (e .2) (e .3) (e .4) (e .5), λ n. absurd (true≢false (sym (e .4) ∙ n)))
+returns-3 c = let p = c .before .before .before .before .before .before .before .before .before .before .before .before .before .before .pre .0 in let e = c .end2 .ensures in (ends-settled (p .0) (p .1) (p .2) (p .3) (c .before .before .before .before .before .before .before .before .before .before .before .before .before .before .pre .1 .0) _ (c .before .before .before .before .before .before .before .before .before .before .before .before .before .before .pre .1 .1) (c .before .before .list-next .ensures) (c .before .if1 .left) (e .0) (e .1) (e .2) (e .3) (e .4) (e .5), λ n. absurd (true≢false (sym (e .4) ∙ n)))
 
 pub next-step-spec : {M : Type 1} → statement M
 next-step-spec =
     tie.close
     (tie.spec
-    sub-next-trial
-    part-next-trial-start
-    part-next-trial-end
-    next-trial-requires
+    list-next-requires
     end-requires
     same-length
     same-length-2
     same-length-3
     returns
-    sub-make-trial
-    part-make-trial-start
-    part-make-trial-end
-    make-trial-requires
-    after-trial-requires
+    step-on-requires
     same-length-4
     same-length-5
     same-length-6
     same-length-7
     same-length-8
+    same-length-9
     returns-2
     end-requires-2
-    same-length-9
     same-length-10
     same-length-11
+    same-length-12
     returns-3)

@@ -9,42 +9,53 @@ use Rattle.trials.specs.Searches.{Searching}
 use Rattle.trials.proofs.SearchSteps.{is-on, is-off, fewer-left}
 use Rattle.trials.proofs.search.run_trials.Statement.{statement}
 use Rattle.trials.proofs.search.run_trials.Tie as tie
+use Rattle.trials.proofs.search.run_trials.Reads as reads
+use Rattle.trials.proofs.search.run_trials.Lts as lts
+use Rattle.trials.proofs.search.begin.Reads as begin-reads
+use Rattle.trials.proofs.search.is_going.Reads as is-going-reads
+use Rattle.trials.proofs.search.next_step.Reads as next-step-reads
 
 abbrev Inv-loop : tie.InvT-loop
-Inv-loop day z k budget table work₀ plan₀ starts₀ vehicles₀ distances₀ s₀ work plan starts vehicles distances s = Searching day k budget plan starts vehicles distances s × (length plan ≡ length plan₀) × (length work ≡ length work₀)
+Inv-loop day z set table work₀ plan₀ starts₀ vehicles₀ driven₀ tracks₀ s₀ work plan starts vehicles driven tracks s = Searching day (set .k) (set .budget) plan starts vehicles driven tracks s × (length plan ≡ length plan₀) × (length work ≡ length work₀)
 
 abbrev μ-loop : tie.MeasureT-loop
-μ-loop day z k budget table work₀ plan₀ starts₀ vehicles₀ distances₀ s₀ work plan starts vehicles distances s = if s .ended then 0 else budget - s .made + 1
+μ-loop day z set table work₀ plan₀ starts₀ vehicles₀ driven₀ tracks₀ s₀ work plan starts vehicles driven tracks s = if s .ended then 0 else set .budget - s .made + 1
+
+begin-requires : tie.Need-begin-requires Inv-loop μ-loop
+begin-requires c κs = ((c .before .before .before .before .before .before .before .before .before .before .before .before .before .before .pre .0 .0, c .before .before .before .before .before .before .before .before .before .before .before .before .before .before .pre .0 .1, c .before .before .before .before .before .before .before .before .before .before .before .before .before .before .pre .1 .0 .0, c .before .before .before .before .before .before .before .before .before .before .before .before .before .before .pre .1 .0 .1, c .before .before .before .before .before .before .before .before .before .before .before .before .before .before .pre .0 .4), c .before .before .before .before .before .before .before .before .before .before .before .before .before .before .pre .1 .1)
 
 loop-holds : tie.Need-loop-holds Inv-loop μ-loop
-loop-holds c = (c .before .before .before .before .before .before .before .pre .1, refl, refl)
+loop-holds c = (c .before .before .before .before .before .before .before .before .before .before .begin .ensures _ _, refl, refl)
 
 is-going-requires : tie.Need-is-going-requires Inv-loop μ-loop
 is-going-requires c κs = tt
 
 next-step-requires : tie.Need-next-step-requires Inv-loop μ-loop
-next-step-requires c κs = ((c .before .before .before .before .before .before .before .before .before .before .before .before .before .before .before .pre .0 .0, c .before .before .before .before .before .before .before .before .before .before .before .before .before .before .before .pre .0 .1, c .before .before .before .before .before .before .before .before .before .before .before .before .before .before .before .pre .0 .2, c .before .before .before .before .before .before .before .before .before .before .before .before .before .before .before .pre .0 .3, omega (arith, c .before .before .before .before .before .before .before .before .before .before .before .before .before .before .before .pre .0 .4, c .before .before .before .before .before .before .before .loop .inv .2), omega (arith, c .before .before .before .before .before .before .before .before .before .before .before .before .before .before .before .pre .0 .5, c .before .before .before .before .before .before .before .loop .inv .1)), (c .before .before .before .before .before .before .before .loop .inv .0, is-on (c .before .before .before .before .before .before .is-going .ensures) (c .before .before .before .before .before .if1 .taken)))
+next-step-requires c κs = ((c .before .before .before .before .before .before .before .before .before .before .before .before .before .before .before .before .before .before .before .before .before .before .before .before .before .before .before .before .before .before .before .before .before .before .pre .0 .0, c .before .before .before .before .before .before .before .before .before .before .before .before .before .before .before .before .before .before .before .before .before .before .before .before .before .before .before .before .before .before .before .before .before .before .pre .0 .1, c .before .before .before .before .before .before .before .before .before .before .before .before .before .before .before .before .before .before .before .before .before .before .before .before .before .before .before .before .before .before .before .before .before .before .pre .0 .2, c .before .before .before .before .before .before .before .before .before .before .before .before .before .before .before .before .before .before .before .before .before .before .before .before .before .before .before .before .before .before .before .before .before .before .pre .0 .3, omega (arith, c .before .before .before .before .before .before .before .before .before .before .before .before .before .before .before .before .before .before .before .before .before .before .before .before .before .before .before .before .before .before .before .before .before .before .pre .0 .4, c .before .before .before .before .before .before .before .before .loop .inv .2, c .before .before .before .before .before .before .before .before .before .before .before .before .before .before .before .before .before .before .before .begin .kept .1 .1 .1 .1 .1 .1 .1 .1 .0), omega (arith, c .before .before .before .before .before .before .before .before .before .before .before .before .before .before .before .before .before .before .before .before .before .before .before .before .before .before .before .before .before .before .before .before .before .before .pre .0 .5, c .before .before .before .before .before .before .before .before .loop .inv .1)), (c .before .before .before .before .before .before .before .before .loop .inv .0, is-on (c .before .before .before .before .before .before .before .is-going .ensures) (c .before .before .before .before .before .before .if1 .taken)))
 
 loop-less : tie.Need-loop-less Inv-loop μ-loop
-loop-less c = fewer-left (c .before .before .before .before .before .before .before .before .before .before .before .before .before .before .before .before .before .before .loop .s) (c .before .before .before .before .before .before .before .before .before .before .next-step .result) (is-on (c .before .before .before .before .before .before .before .before .before .before .before .before .before .before .before .before .before .is-going .ensures) (c .before .before .before .before .before .before .before .before .before .before .before .before .before .before .before .before .if1 .taken)) (c .before .before .before .before .before .before .before .before .before .before .next-step .ensures .0) (c .before .before .before .before .before .before .before .before .before .before .next-step .ensures .1)
+loop-less c = fewer-left (c .before .before .before .before .before .before .before .before .before .before .before .before .before .before .before .before .before .before .before .before .before .loop .s) (c .before .before .before .before .before .before .before .before .before .before .before .before .next-step .result) (is-on (c .before .before .before .before .before .before .before .before .before .before .before .before .before .before .before .before .before .before .before .before .is-going .ensures) (c .before .before .before .before .before .before .before .before .before .before .before .before .before .before .before .before .before .before .before .if1 .taken)) (c .before .before .before .before .before .before .before .before .before .before .before .before .next-step .ensures .0) (c .before .before .before .before .before .before .before .before .before .before .before .before .next-step .ensures .1)
 
 loop-again : tie.Need-loop-again Inv-loop μ-loop
-loop-again c = (c .before .before .before .before .before .before .before .before .before .before .next-step .ensures .0, search needs, search needs)
+loop-again c = (c .before .before .before .before .before .before .before .before .before .before .before .before .next-step .ensures .0, search needs, search needs)
 
 same-length : tie.Need-same-length Inv-loop μ-loop
-same-length c = c .before .before .loop .inv .2
+same-length c = c .before .before .loop .inv .2 ∙ c .before .before .before .before .before .before .before .before .before .before .before .before .before .begin .kept .1 .1 .1 .1 .1 .1 .1 .1 .0
 
 same-length-2 : tie.Need-same-length-2 Inv-loop μ-loop
 same-length-2 c = c .before .before .loop .inv .1
 
 same-length-3 : tie.Need-same-length-3 Inv-loop μ-loop
-same-length-3 c = c .before .before .loop .inv .0 .held .surveyed .startsSize ∙ sym (c .before .before .before .before .before .before .before .before .before .before .pre .1 .held .surveyed .startsSize)
+same-length-3 c = c .before .before .loop .inv .0 .held .surveyed .startsSize ∙ sym (c .before .before .before .before .before .before .before .before .before .before .before .before .before .before .before .before .before .before .before .before .before .before .before .before .before .before .before .before .pre .1 .1 .0)
 
 same-length-4 : tie.Need-same-length-4 Inv-loop μ-loop
-same-length-4 c = c .before .before .loop .inv .0 .held .surveyed .vehiclesSize ∙ sym (c .before .before .before .before .before .before .before .before .before .before .pre .1 .held .surveyed .vehiclesSize)
+same-length-4 c = c .before .before .loop .inv .0 .held .surveyed .vehiclesSize ∙ sym (c .before .before .before .before .before .before .before .before .before .before .before .before .before .before .before .before .before .before .before .before .before .before .before .before .before .before .before .before .pre .1 .1 .1)
 
 same-length-5 : tie.Need-same-length-5 Inv-loop μ-loop
-same-length-5 c = c .before .before .loop .inv .0 .held .surveyed .distancesSize ∙ sym (c .before .before .before .before .before .before .before .before .before .before .pre .1 .held .surveyed .distancesSize)
+same-length-5 c = c .before .before .loop .inv .0 .held .surveyed .distancesSize ∙ sym (c .before .before .before .before .before .before .before .before .before .before .before .before .before .before .before .before .before .before .before .before .before .before .before .before .before .before .before .before .pre .1 .1 .2)
+
+same-length-6 : tie.Need-same-length-6 Inv-loop μ-loop
+same-length-6 c = c .before .before .loop .inv .0 .held .tracked .size ∙ sym (c .before .before .before .before .before .before .before .before .before .before .before .before .before .before .before .before .before .before .before .before .before .before .before .before .before .before .before .before .pre .1 .1 .3)
 
 returns : tie.Need-returns Inv-loop μ-loop
 returns c = (c .before .before .loop .inv .0, is-off (c .before .is-going .ensures) (c .if1 .left))
@@ -55,6 +66,7 @@ run-trials-spec =
     (tie.spec
     Inv-loop
     μ-loop
+    begin-requires
     loop-holds
     is-going-requires
     next-step-requires
@@ -65,4 +77,5 @@ run-trials-spec =
     same-length-3
     same-length-4
     same-length-5
+    same-length-6
     returns)

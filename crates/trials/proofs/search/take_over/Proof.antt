@@ -1,11 +1,14 @@
 -- `trials::search::take_over` meets its contract.
 use native.Mathlib.Omega.{arith}
 use Rattle.builder.proofs.BuiltPlans.{room-is}
-use Rattle.day.proofs.Ranges.{accepted-ranges}
-use Rattle.trials.proofs.TakeOverLaws.{words-most, slice-size, copied, some-plan, taken-over}
+use Rattle.trials.proofs.TakeOverLaws.{slice-size, words-most, copied, some-held, taken-over}
 use borrow.Author.Needs.{needs}
 use Rattle.trials.proofs.search.take_over.Statement.{statement}
 use Rattle.trials.proofs.search.take_over.Tie as tie
+use Rattle.trials.proofs.search.take_over.Reads as reads
+use Rattle.trials.proofs.search.take_over.Lts as lts
+use Rattle.attempts.proofs.candidate.copy_words.Reads as copy-words-reads
+use Rattle.trials.proofs.held.make_tables.Reads as make-tables-reads
 
 sub-copy-words : tie.Need-sub-copy-words
 sub-copy-words c = search needs
@@ -17,19 +20,19 @@ part-copy-words-end : tie.Need-part-copy-words-end
 part-copy-words-end c = search needs
 
 copy-words-requires : tie.Need-copy-words-requires
-copy-words-requires c κs = let s = c .before .before .before .before .before .before .before .before .pre .0 .2 in omega (arith, slice-size (s .planAt), words-most (s .planAt), room-is (c .before .before .before .before .before .before .before .before .pre .0 .0) (c .before .before .before .before .before .before .before .before .pre .0 .3))
+copy-words-requires c κs = let s = c .before .before .before .before .before .before .before .before .before .before .pre .0 .2 in omega (arith, slice-size (s .planAt), words-most (s .planAt), room-is (c .before .before .before .before .before .before .before .before .before .before .pre .0 .0) (c .before .before .before .before .before .before .before .before .before .before .pre .0 .3))
 
-sub-survey : tie.Need-sub-survey
-sub-survey c = search needs
+sub-make-tables : tie.Need-sub-make-tables
+sub-make-tables c = search needs
 
-part-survey-start : tie.Need-part-survey-start
-part-survey-start c = search needs
+part-make-tables-start : tie.Need-part-make-tables-start
+part-make-tables-start c = search needs
 
-part-survey-end : tie.Need-part-survey-end
-part-survey-end c = let s = c .before .before .before .before .before .before .before .before .before .before .before .before .pre .0 .2 in omega (arith, words-most (s .planAt), room-is (c .before .before .before .before .before .before .before .before .before .before .before .before .pre .0 .0) (c .before .before .before .before .before .before .before .before .before .before .before .before .pre .0 .3), c .before .before .before .copy-words .ensures .size)
+part-make-tables-end : tie.Need-part-make-tables-end
+part-make-tables-end c = let s = c .before .before .before .before .before .before .before .before .before .before .before .before .before .before .pre .0 .2 in omega (arith, words-most (s .planAt), room-is (c .before .before .before .before .before .before .before .before .before .before .before .before .before .before .pre .0 .0) (c .before .before .before .before .before .before .before .before .before .before .before .before .before .before .pre .0 .3), c .before .before .before .copy-words .ensures .size)
 
-survey-requires : tie.Need-survey-requires
-survey-requires c κs = let s = c .before .before .before .before .before .before .before .before .before .before .before .before .before .before .before .before .pre .0 .2 in let h = copied (s .planAt) (c .before .before .before .before .before .before .before .copy-words .ensures) (omega (arith, words-most (s .planAt), room-is (c .before .before .before .before .before .before .before .before .before .before .before .before .before .before .before .before .pre .0 .0) (c .before .before .before .before .before .before .before .before .before .before .before .before .before .before .before .before .pre .0 .3), c .before .before .before .before .before .before .before .copy-words .ensures .size)) in ((c .before .before .before .before .before .before .before .before .before .before .before .before .before .before .before .before .pre .0 .0, omega (arith, slice-size h, words-most h, accepted-ranges _ (c .before .before .before .before .before .before .before .before .before .before .before .before .before .before .before .before .pre .0 .1) .stopsMost), some-plan (c .before .before .before .before .before .before .before .before .before .before .before .before .before .before .before .before .pre .0 .1) (record { rounds = s .rounds; planAt = h })), c .before .before .before .before .before .before .before .before .before .before .before .before .before .before .before .before .pre .1)
+make-tables-requires : tie.Need-make-tables-requires
+make-tables-requires c κs = let s = c .before .before .before .before .before .before .before .before .before .before .before .before .before .before .before .before .before .before .before .before .pre .0 .2 in let h = copied (s .planAt) (c .before .before .before .before .before .before .before .before .before .copy-words .ensures) (omega (arith, words-most (s .planAt), room-is (c .before .before .before .before .before .before .before .before .before .before .before .before .before .before .before .before .before .before .before .before .pre .0 .0) (c .before .before .before .before .before .before .before .before .before .before .before .before .before .before .before .before .before .before .before .before .pre .0 .3), c .before .before .before .before .before .before .before .before .before .copy-words .ensures .size)) in ((c .before .before .before .before .before .before .before .before .before .before .before .before .before .before .before .before .before .before .before .before .pre .0 .0, c .before .before .before .before .before .before .before .before .before .before .before .before .before .before .before .before .before .before .before .before .pre .0 .1, some-held (record { rounds = s .rounds; planAt = h }), c .before .before .before .before .before .before .before .before .before .before .before .before .before .before .before .before .before .before .before .before .pre .0 .4), c .before .before .before .before .before .before .before .before .before .before .before .before .before .before .before .before .before .before .before .before .pre .1)
 
 same-length : tie.Need-same-length
 same-length c = search needs
@@ -43,8 +46,14 @@ same-length-3 c = search needs
 same-length-4 : tie.Need-same-length-4
 same-length-4 c = search needs
 
+same-length-5 : tie.Need-same-length-5
+same-length-5 c = search needs
+
+same-length-6 : tie.Need-same-length-6
+same-length-6 c = search needs
+
 returns : tie.Need-returns
-returns c = λ rounds h. taken-over (c .before .before .before .before .before .before .before .before .before .before .before .before .before .before .before .before .before .before .before .before .before .before .before .pre .0 .1) (copied h (c .before .before .before .before .before .before .before .before .before .before .before .before .before .before .copy-words .ensures) (omega (arith, words-most h, room-is (c .before .before .before .before .before .before .before .before .before .before .before .before .before .before .before .before .before .before .before .before .before .before .before .pre .0 .0) (c .before .before .before .before .before .before .before .before .before .before .before .before .before .before .before .before .before .before .before .before .before .before .before .pre .0 .3), c .before .before .before .before .before .before .before .before .before .before .before .before .before .before .copy-words .ensures .size))) (c .before .before .before .before .before .before .survey .ensures)
+returns c = λ rounds h. taken-over (copied h (c .before .before .before .before .before .before .before .before .before .before .before .before .before .before .before .before .before .before .before .before .copy-words .ensures) (omega (arith, words-most h, room-is (c .before .before .before .before .before .before .before .before .before .before .before .before .before .before .before .before .before .before .before .before .before .before .before .before .before .before .before .before .before .before .before .pre .0 .0) (c .before .before .before .before .before .before .before .before .before .before .before .before .before .before .before .before .before .before .before .before .before .before .before .before .before .before .before .before .before .before .before .pre .0 .3), c .before .before .before .before .before .before .before .before .before .before .before .before .before .before .before .before .before .before .before .before .copy-words .ensures .size))) (c .before .before .before .before .before .before .before .before .before .before .make-tables .ensures)
 
 pub take-over-spec : {M : Type 1} → statement M
 take-over-spec =
@@ -54,12 +63,14 @@ take-over-spec =
     part-copy-words-start
     part-copy-words-end
     copy-words-requires
-    sub-survey
-    part-survey-start
-    part-survey-end
-    survey-requires
+    sub-make-tables
+    part-make-tables-start
+    part-make-tables-end
+    make-tables-requires
     same-length
     same-length-2
     same-length-3
     same-length-4
+    same-length-5
+    same-length-6
     returns)
