@@ -11,7 +11,7 @@ ghost use Rattle.checker.specs.Check.{checkPlan};
 ghost use Rattle.checker.specs.SameRounds.{sameRounds};
 ghost use Rattle.checker.specs.VehiclePlace.{vehiclePlace};
 ghost use Rattle.builder.specs.Built.{planValues, buildAnswer, buildBuffer};
-ghost use Rattle.planner.specs.Planned.{planAnswer, planBuffer};
+ghost use Rattle.planner.specs.Planned.{planAnswer, planBuffer, SpareKept};
 
 // All six places of an answer.
 fn write_six(out: &mut [u64; 6], a: u64, b: u64, c: u64, d: u64, e: u64, f: u64)
@@ -159,6 +159,7 @@ pub extern "C" fn kz_plan(
 )
     ensures answer { λ r. ⌜ now (out .exit) ≡ inSix (planAnswer (now (day .entry)) k budget (length (now (plan .entry))) (length (now (work .entry)))) ⌝ }
     ensures buffer { λ r. ⌜ now (plan .exit) ≡ planBuffer (now (day .entry)) k budget (length (now (work .entry))) (now (plan .entry)) ⌝ }
+    ensures spare { λ r. ⌜ SpareKept (planAnswer (now (day .entry)) k budget (length (now (plan .entry))) (length (now (work .entry)))) (now (work .entry)) (now (work .exit)) ⌝ }
 {
     let answer = planner::plan(day, k, budget, plan, work);
     write_plan_answer(answer, out)

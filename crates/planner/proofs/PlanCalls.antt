@@ -1,7 +1,7 @@
 -- The call that plans with trials answers, and leaves the plan's buffer, as the definitions say. Assumes nothing.
 use Prim.Native.Nat.{ℕ, _+_, _-_, _*_, _≤_, _<_}
 use mathlib.Core.Path.{_≡_, refl, sym, ap, _∙_}
-use mathlib.Core.Bool.{Bool, true, false}
+use mathlib.Core.Bool.{Bool, true, false, true≢false}
 use mathlib.Core.List.{List, [], _∷_, _++_, append-assoc}
 use native.Mathlib.Omega.{arith}
 use borrow.Rule.Slice.PartMut.{putMid}
@@ -36,7 +36,7 @@ use Rattle.trials.specs.Search.{Result, improve}
 use Rattle.trials.specs.Searches.{PlanAt, fromGreedy, Improved}
 use Rattle.trials.specs.declared.search.Search.{Search}
 use Rattle.trials.proofs.Searching.{lists-one}
-use Rattle.planner.specs.Planned.{fewNeighbours, longEnough, resultValues, plannedAnswer, plannedBuffer, planAnswer, planBuffer, WorkedOver}
+use Rattle.planner.specs.Planned.{fewNeighbours, longEnough, resultValues, plannedAnswer, plannedBuffer, planAnswer, planBuffer, SpareKept, WorkedOver}
 
 -- one neighbourhood
 searched-one : (day : List ℕ) (K budget : ℕ) → searched day (K ∷ []) budget ≡ fromGreedy day K budget
@@ -182,6 +182,12 @@ module _ (day : List ℕ) (K budget spare : ℕ) (plan : List ℕ) where
   unfolding plannedBuffer
   worked-buffer e l w = rw (sym e, sym l) (w .buffer)
 
+  -- the working buffer is as it was where the day is not planned
+  pub worked-spare : {before after : List ℕ} → true ≡ fewNeighbours K → true ≡ longEnough day (length plan) spare
+      → SpareKept (plannedAnswer day K budget (length plan) spare) before after
+  unfolding plannedAnswer
+  worked-spare e l n = absurd (true≢false (rw (sym e, sym l) at n))
+
 -- and on any day
 module _ (day : List ℕ) (K budget spare : ℕ) (plan : List ℕ) {judged : DayAnswer} (e : dayValues judged ≡ judgeDay day) where
   module _ {number place : ℕ} (r : judged ≡ Days.Refused number place) where
@@ -203,6 +209,11 @@ module _ (day : List ℕ) (K budget spare : ℕ) (plan : List ℕ) {judged : Day
     pub accepted-plan-answer : (answer : List ℕ) → answer ≡ plannedAnswer day K budget (length plan) spare → answer ≡ planAnswer day K budget (length plan) spare
     unfolding planAnswer
     accepted-plan-answer answer h = rw (← accepted-day) h
+
+    pub accepted-plan-spare : {before after : List ℕ} → SpareKept (plannedAnswer day K budget (length plan) spare) before after
+        → SpareKept (planAnswer day K budget (length plan) spare) before after
+    unfolding planAnswer
+    accepted-plan-spare h = rw (← accepted-day) h
 
     pub accepted-plan-buffer : (now : List ℕ) → now ≡ plannedBuffer day K budget spare plan → now ≡ planBuffer day K budget spare plan
     unfolding planBuffer

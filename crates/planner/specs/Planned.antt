@@ -2,7 +2,7 @@
 -- Assumes nothing.
 use Prim.Native.Nat.{ℕ, _*_}
 use mathlib.Core.Path.{_≡_}
-use mathlib.Core.Bool.{Bool, _&&_}
+use mathlib.Core.Bool.{Bool, false, _&&_}
 use mathlib.Core.List.{List, [], _∷_}
 use lib.Dec.{leb}
 use lib.ListN.{length}
@@ -48,6 +48,10 @@ planAnswer day K budget room spare = if isGiven (judgeDay day) then plannedAnswe
 
 unfoldable pub planBuffer : List ℕ → (K budget spare : ℕ) → List ℕ → List ℕ
 planBuffer day K budget spare plan = if isGiven (judgeDay day) then plannedBuffer day K budget spare plan else plan
+
+-- "each refusal changes no buffer"; after an answer "the working buffer's words are free"
+abbrev pub SpareKept : (answer before after : List ℕ) → Type 0
+SpareKept answer before after = isGiven answer ≡ false → after ≡ before
 
 -- the answer and the buffer of a plan that was worked over. It serves the contracts of this crate's own functions.
 pub record WorkedOver (day : List ℕ) (K budget : ℕ) (plan now answer : List ℕ) : Type 0 where

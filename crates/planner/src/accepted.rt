@@ -5,7 +5,7 @@ ghost use lib.ListN.{length};
 ghost use Rattle.day.specs.Accepted.{IsAccepted};
 ghost use Rattle.day.specs.Layout.{LayoutOf};
 ghost use Rattle.builder.specs.Built.{planValues};
-ghost use Rattle.planner.specs.Planned.{fewNeighbours, longEnough, WorkedOver, plannedAnswer, plannedBuffer};
+ghost use Rattle.planner.specs.Planned.{fewNeighbours, longEnough, WorkedOver, plannedAnswer, plannedBuffer, SpareKept};
 use builder::PlanAnswer;
 use builder::greedy::build_accepted;
 use day::fields::Layout;
@@ -80,6 +80,7 @@ pub fn plan_accepted(
     requires { ⌜ LayoutOf (now day) z × IsAccepted (now day) ⌝ }
     ensures answer { λ r. ⌜ planValues r ≡ plannedAnswer (now (day .entry)) k budget (length (now (plan .entry))) (length (now (work .entry))) ⌝ }
     ensures buffer { λ r. ⌜ now (plan .exit) ≡ plannedBuffer (now (day .entry)) k budget (length (now (work .entry))) (now (plan .entry)) ⌝ }
+    ensures spare { λ r. ⌜ SpareKept (plannedAnswer (now (day .entry)) k budget (length (now (plan .entry))) (length (now (work .entry)))) (now (work .entry)) (now (work .exit)) ⌝ }
 {
     if is_few(k) {
         if are_long(day, z, plan.len(), work.len()) {

@@ -4,7 +4,7 @@ pub mod accepted;
 ghost use mathlib.Core.Path.{_≡_};
 ghost use lib.ListN.{length};
 ghost use Rattle.builder.specs.Built.{planValues, buildAnswer, buildBuffer};
-ghost use Rattle.planner.specs.Planned.{planAnswer, planBuffer};
+ghost use Rattle.planner.specs.Planned.{planAnswer, planBuffer, SpareKept};
 use crate::accepted::plan_accepted;
 use builder::PlanAnswer;
 use builder::greedy::build_accepted;
@@ -26,6 +26,7 @@ pub fn build(day: &[u32], plan: &mut [u32]) -> PlanAnswer
 pub fn plan(day: &[u32], k: u64, budget: u64, plan: &mut [u32], work: &mut [u32]) -> PlanAnswer
     ensures answer { λ r. ⌜ planValues r ≡ planAnswer (now (day .entry)) k budget (length (now (plan .entry))) (length (now (work .entry))) ⌝ }
     ensures buffer { λ r. ⌜ now (plan .exit) ≡ planBuffer (now (day .entry)) k budget (length (now (work .entry))) (now (plan .entry)) ⌝ }
+    ensures spare { λ r. ⌜ SpareKept (planAnswer (now (day .entry)) k budget (length (now (plan .entry))) (length (now (work .entry)))) (now (work .entry)) (now (work .exit)) ⌝ }
 {
     match day::judge(day) {
         day::DayAnswer::Accepted { stops: _, tips: _ } => {

@@ -18,7 +18,7 @@ same-length-2 : tie.Need-same-length-2
 same-length-2 c = search needs
 
 returns : tie.Need-returns
-returns c = (c .write-plan-answer .ensures ∙ ap inSix (c .before .before .before .before .before .before .plan .ensures .0), c .before .before .before .before .before .before .plan .ensures .1)
+returns c = (c .write-plan-answer .ensures ∙ ap inSix (c .before .before .before .before .before .before .plan .ensures .0), (c .before .before .before .before .before .before .plan .ensures .1 .0, c .before .before .before .before .before .before .plan .ensures .1 .1))
 
 pub kz-plan-spec : {M : Type 1} → statement M
 kz-plan-spec =

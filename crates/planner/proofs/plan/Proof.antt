@@ -1,6 +1,7 @@
 -- `planner::plan` meets its contract.
+use mathlib.Core.Path.{refl}
 use Rattle.builder.proofs.BuiltPlans.{is-accepted, accepted-long}
-use Rattle.planner.proofs.PlanCalls.{refused-plan-answer, refused-plan-buffer, accepted-plan-answer, accepted-plan-buffer}
+use Rattle.planner.proofs.PlanCalls.{refused-plan-answer, refused-plan-buffer, accepted-plan-answer, accepted-plan-buffer, accepted-plan-spare}
 use borrow.Author.Needs.{needs}
 use Rattle.planner.proofs.plan.Statement.{statement}
 use Rattle.planner.proofs.plan.Tie as tie
@@ -27,10 +28,10 @@ same-length-2 : tie.Need-same-length-2
 same-length-2 c = search needs
 
 returns : tie.Need-returns
-returns c = (search accepted-plan-answer, search accepted-plan-buffer)
+returns c = (search accepted-plan-answer, (search accepted-plan-buffer, search accepted-plan-spare))
 
 returns-2 : tie.Need-returns-2
-returns-2 c = (search refused-plan-answer, search refused-plan-buffer)
+returns-2 c = (search refused-plan-answer, (search refused-plan-buffer, λ _. refl))
 
 pub plan-spec : {M : Type 1} → statement M
 plan-spec =

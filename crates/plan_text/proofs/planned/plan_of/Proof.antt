@@ -23,7 +23,7 @@ returns c =
     let start = at-empty-plan .before .before .before in
     let empty = at-empty-plan .empty-plan in
     let planned = at-plan .plan .ensures in
-    (planned-answer _ _ (empty .result) (start .pre) (empty .ensures) (planned .0), planned-buffer _ _ (empty .result) (start .pre) (empty .ensures) (planned .1))
+    (planned-answer _ _ (empty .result) (start .pre) (empty .ensures) (planned .0), planned-buffer _ _ (empty .result) (start .pre) (empty .ensures) (planned .1 .0))
 
 pub plan-of-spec : {M : Type 1} → statement M
 plan-of-spec = tie.close (tie.spec empty-plan-requires slice-aggregate-plan plan-requires same-length returns)
