@@ -44,8 +44,24 @@ pub struct Outcome {
     pub best: Step,
     /// The distance of the greedy plan, which every step begins with.
     pub greedy: u64,
+    /// The steps behind the greedy plan's.
+    pub steps: usize,
+    /// How many of them kept a plan shorter than the step before.
+    pub kept: usize,
     /// Whether an interrupt ended it before the budget or the trials did.
     pub interrupted: bool,
+}
+
+impl Outcome {
+    /// One step more; the first has the greedy plan.
+    fn behind(before: Option<Outcome>, best: Step) -> Outcome {
+        let distance = best.planned.distance;
+        let (greedy, steps, kept) = before.map_or((distance, 0, 0), |before| {
+            let shorter = distance < before.best.planned.distance;
+            (before.greedy, before.steps + 1, before.kept + usize::from(shorter))
+        });
+        Outcome { best, greedy, steps, kept, interrupted: false }
+    }
 }
 
 /// Plans a day with `k` neighbours of each stop, and shows each step that is finished.
@@ -67,8 +83,8 @@ pub fn run(
         match steps.recv_timeout(PATIENCE) {
             Ok(step) => {
                 let best = step.map_err(|refusal| refusals::of_plans(refusal, &day.words, &[]))?;
-                let greedy = last.as_ref().map_or(best.planned.distance, |outcome| outcome.greedy);
-                show(last.insert(Outcome { best, greedy, interrupted: false }));
+                let outcome = Outcome::behind(last.take(), best);
+                show(last.insert(outcome));
             }
             Err(RecvTimeoutError::Timeout) => {}
             Err(RecvTimeoutError::Disconnected) => {

@@ -30,8 +30,9 @@ impl Progress {
         let planned = outcome.best.planned;
         let saved = outcome.greedy - planned.distance;
         let text = format!(
-            "{} trials, distance {}, {saved} below the greedy plan",
-            planned.trials, planned.distance
+            "{} trials, distance {}, {saved} below the greedy plan, \
+             a shorter plan kept in {} of {} steps",
+            planned.trials, planned.distance, outcome.kept, outcome.steps
         );
         match self {
             Progress::OneLine => say(&format!("\r\x1b[K{text}")),

@@ -46,10 +46,11 @@ pub const COMMAND: Command = Command {
         "A trial moves a stop beside a neighbour, interchanges two stops of different vehicles, or \
          takes out or changes a tip. It is kept where the plan is then lawful and shorter. A plan \
          is settled when no trial would be kept. A day of 60 stops settles within a tenth of a \
-         second, one of 240 in a second or two.",
+         second, one of 240 within a second.",
         "Planning goes in steps: first the greedy plan, then with a budget of trials that doubles \
          from step to step, each time from the beginning. On a terminal standard error shows the \
-         trials made, the distance so far, and how far it is below the greedy plan's.",
+         trials made, the distance so far, how far it is below the greedy plan's, and in how many \
+         steps a shorter plan was kept.",
         "It can be interrupted at any time (Ctrl-C): the best plan so far is then written, this is \
          said, and the exit status is 0. That is sound because the plan of every budget is lawful \
          and never longer than the plan of a smaller budget: this is proved (demand 3 of document \

@@ -55,9 +55,11 @@ fn progress_shows_trials_and_distances_that_never_grow() {
     let steps: Vec<Vec<u64>> = ran.err.lines().map(numbers).collect();
     assert!(steps.len() > 3, "{}", ran.err);
     for pair in steps.windows(2) {
-        let [trials, distance, saved] = pair[1][..] else { panic!("{}", ran.err) };
+        let [trials, distance, saved, kept, made] = pair[1][..] else { panic!("{}", ran.err) };
         assert!(pair[0][0] < trials && pair[0][1] >= distance, "{}", ran.err);
         assert_eq!(distance + saved, steps[0][1], "{}", ran.err);
+        let shorter = u64::from(distance < pair[0][1]);
+        assert_eq!((kept, made), (pair[0][3] + shorter, pair[0][4] + 1), "{}", ran.err);
     }
     assert_eq!(steps[0][0], 0);
     let plan = fs::read(&output).expect("the plan is there");
@@ -132,7 +134,12 @@ fn a_terminal_shows_progress_and_words_as_lines() {
         println!("there is no `script` here: nothing was shown on a terminal");
         return;
     };
-    assert!(shown.contains("0 trials, distance 35, 0 below the greedy plan\r"), "{shown:?}");
+    assert!(
+        shown.contains(
+            "0 trials, distance 35, 0 below the greedy plan, a shorter plan kept in 0 of 0 steps\r"
+        ),
+        "{shown:?}"
+    );
     assert!(shown.contains("\nE0000000\r\n"), "{shown:?}");
     assert!(shown.contains("6 trials, settled"), "{shown:?}");
 }
