@@ -8,13 +8,13 @@ use native.Mathlib.Omega.{arith}
 use lib.Dec.{eqb}
 use lib.ListN.{length, take, drop}
 use borrow.Author.Tests.{eq-eqb, ne-eqb}
+use Rattle.rules.specs.Tests.{if_then_else_}
+use Rattle.rules.specs.Plan.{Round}
+use Rattle.rules.specs.Edits.{Edit, changed}
+use Rattle.rules.specs.WalkedAgain.{walkedAgain}
 use Rattle.laws.specs.Buffer.{Wrote}
-use Rattle.laws.specs.Tests.{if_then_else_}
 use Rattle.laws.proofs.Buffer.{wrote-same}
-use Rattle.checker.specs.Plan.{Round}
-use Rattle.walks.specs.Edits.{Edit, changed}
 use Rattle.walks.specs.Rewalks.{Walkable, SomeWalkable, WalkedAs}
-use Rattle.walks.specs.Walk.{walkedAgain}
 use Rattle.walks.specs.declared.vehicle.Walked.{Walked}
 use Rattle.attempts.specs.Candidates.{Roundable, SomeRoundable, RoundAs}
 use Rattle.attempts.proofs.CopyLaws.{inner-words}

@@ -6,10 +6,10 @@ use native.Mathlib.Omega.{arith}
 use native.Mathlib.Numerals.{add-one}
 use lib.ListN.{length, length-append, length-map, getD, take, drop, set}
 use lib.Seq.{take-suc, take-at, take-all}
+use Rattle.rules.specs.PlanWords.{backWord}
+use Rattle.rules.specs.Plan.{Round, taskWord, roundWords}
 use Rattle.laws.specs.Buffer.{Wrote}
 use Rattle.laws.proofs.Buffer.{wrote-put, wrote-same}
-use Rattle.checker.specs.Plan.{Round, taskWord, roundWords}
-use Rattle.checker.specs.PlanWords.{backWord}
 
 -- one word more is copied
 pub copy-next : (words : List ℕ) (i d : ℕ) {p part : List ℕ} → Wrote (take i words) p part i → i < length words → length words ≤ length p

@@ -9,13 +9,13 @@ use native.Mathlib.Omega.{arith}
 use lib.Dec.{eqb}
 use lib.ListN.{length, getD}
 use borrow.Author.Tests.{eq-eqb, ne-eqb, eqb-true}
-use Rattle.laws.specs.Lists.{total}
-use Rattle.laws.specs.Tests.{if_then_else_}
-use Rattle.checker.specs.Lawful.{distanceFrom}
-use Rattle.checker.specs.Plan.{Round}
+use Rattle.rules.specs.Tests.{if_then_else_}
+use Rattle.rules.specs.Lists.{total}
+use Rattle.rules.specs.Plan.{Round}
+use Rattle.rules.specs.Lawful.{distanceFrom}
+use Rattle.rules.specs.Edits.{Trial, touches}
+use Rattle.rules.specs.Attempts.{retried, joined, triedFrom, distanceOf}
 use Rattle.builder.proofs.Decided.{known}
-use Rattle.walks.specs.Edits.{Trial, touches}
-use Rattle.attempts.specs.Attempts.{retried, joined, triedFrom, distanceOf}
 
 -- the vehicles' numbers that pass a test, their distances summed
 unfoldable pub drivenBy : List ℕ → (ℕ → Bool) → ℕ → List Round → ℕ

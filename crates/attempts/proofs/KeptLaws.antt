@@ -9,21 +9,22 @@ use native.Mathlib.Omega.{arith}
 use lib.Dec.{ltb}
 use lib.ListN.{length, length-append, getD, take, drop}
 use borrow.Author.Tests.{le-ltb, lt-ltb}
-use Rattle.laws.specs.Answers.{given, refused, isGiven}
-use Rattle.laws.specs.Buffer.{Wrote, over}
-use Rattle.laws.specs.Tests.{if_then_else_}
+use Rattle.rules.specs.Tests.{if_then_else_}
+use Rattle.rules.specs.Answers.{given, refused, isGiven}
+use Rattle.rules.specs.Buffer.{over}
+use Rattle.rules.specs.Accepted.{IsAccepted}
+use Rattle.rules.specs.Plan.{Round, planWords}
+use Rattle.rules.specs.Lawful.{totals}
+use Rattle.rules.specs.Check.{checkWords, checkPlan}
+use Rattle.rules.specs.Build.{greedyLefts}
+use Rattle.rules.specs.Edits.{Trial}
+use Rattle.rules.specs.Attempts.{tried, distanceOf, isLawful, keptIf, attempt}
+use Rattle.laws.specs.Buffer.{Wrote}
 use Rattle.laws.proofs.Buffer.{over-front}
-use Rattle.day.specs.Accepted.{IsAccepted}
-use Rattle.checker.specs.Check.{checkWords, checkPlan}
-use Rattle.checker.specs.Lawful.{totals}
-use Rattle.checker.specs.Plan.{Round, planWords}
-use Rattle.builder.specs.Build.{greedyLefts}
 use Rattle.builder.proofs.Decided.{known}
-use Rattle.walks.specs.Edits.{Trial}
 use Rattle.walks.specs.declared.vehicle.Walked.{Walked}
 use Rattle.trial_list.specs.Shapes.{Shaped}
 use Rattle.trial_list.proofs.Shapes.{shaped-formed}
-use Rattle.attempts.specs.Attempts.{tried, distanceOf, isLawful, keptIf, attempt}
 use Rattle.attempts.specs.Candidates.{CandidateAs}
 use Rattle.attempts.specs.Tries.{Made, NoneKept, TriedAs, LawfulBy, Judged}
 use Rattle.attempts.specs.declared.tries.Tried.{Tried}

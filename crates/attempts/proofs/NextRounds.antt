@@ -7,21 +7,21 @@ use mathlib.Core.Option.{some}
 use native.Mathlib.Omega.{arith}
 use lib.Dec.{eqb}
 use lib.ListN.{length, length-append, getD, take, drop}
-use Rattle.laws.specs.Lists.{Every}
-use Rattle.laws.specs.Tests.{if_then_else_}
-use Rattle.day.specs.Accepted.{IsAccepted}
+use Rattle.rules.specs.Tests.{if_then_else_}
+use Rattle.rules.specs.Lists.{Every}
+use Rattle.rules.specs.Fields.{stops}
+use Rattle.rules.specs.Accepted.{IsAccepted}
+use Rattle.rules.specs.Plan.{Round, roundWords, roundsWords, stopsOn, stopsOnAll, Known}
+use Rattle.rules.specs.Build.{greedyLefts}
+use Rattle.rules.specs.Edits.{Trial, touches, changed}
+use Rattle.rules.specs.WalkedAgain.{walkedAgain}
+use Rattle.rules.specs.Attempts.{retried}
 use Rattle.day.proofs.Ranges.{accepted-ranges}
-use Rattle.day.specs.Fields.{stops}
-use Rattle.checker.specs.Plan.{Round, roundWords, roundsWords, stopsOn, stopsOnAll, Known}
-use Rattle.builder.specs.Build.{greedyLefts}
 use Rattle.builder.specs.Rooms.{Room}
 use Rattle.builder.proofs.GreedyRoom.{plan-length}
-use Rattle.walks.specs.Edits.{Trial, touches, changed}
-use Rattle.walks.specs.Walk.{walkedAgain}
 use Rattle.walks.specs.declared.vehicle.Walked.{Walked}
 use Rattle.walks.proofs.MidwayLaws.{every-at}
 use Rattle.trial_list.proofs.Shapes.{each-vehicle, shaped-few, shaped-length, shaped-stops}
-use Rattle.attempts.specs.Attempts.{retried}
 use Rattle.attempts.specs.Candidates.{Roundable, SomeRoundable, RoundAs, Trying, SomeNext}
 use Rattle.attempts.proofs.CopyLaws.{round-long}
 use Rattle.attempts.proofs.RoundLists.{cut-whole, cut-words, front-more, front-length, rounds-more, slice-words, stops-parts}

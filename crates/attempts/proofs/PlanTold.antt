@@ -7,15 +7,14 @@ use mathlib.Core.Bool.{true}
 use mathlib.Core.List.{List, [], _∷_, _++_, map, append-assoc, nil≢cons, head-eq-of-cons-eq, tail-eq-of-cons-eq}
 use native.Mathlib.Omega.{arith}
 use lib.ListN.{length}
-use Rattle.laws.specs.Answers.{given, isGiven}
-use Rattle.laws.specs.Lists.{Every}
-use Rattle.day.specs.Accepted.{IsAccepted}
-use Rattle.day.specs.Fields.{stops}
-use Rattle.checker.specs.Check.{checkPlan, checkWords}
-use Rattle.checker.specs.Lawful.{Loads, Timed, Lawful, totals}
-use Rattle.checker.specs.Plan.{Task, serve, empty, lunch, Round, taskWord, roundWords, roundsWords, planWords, Known, Formed}
-use Rattle.checker.specs.PlanWords.{Word, vehicle, stop, tip, rest, back, left, stray, vehicleWord, backWord, leftWord, wordOf}
-use Rattle.checker.specs.Vehicles.{wordFor}
+use Rattle.rules.specs.Answers.{given, isGiven}
+use Rattle.rules.specs.Lists.{Every}
+use Rattle.rules.specs.Fields.{stops}
+use Rattle.rules.specs.Accepted.{IsAccepted}
+use Rattle.rules.specs.PlanWords.{Word, vehicle, stop, tip, rest, back, left, stray, vehicleWord, backWord, leftWord, wordOf}
+use Rattle.rules.specs.Plan.{Task, serve, empty, lunch, Round, taskWord, roundWords, roundsWords, planWords, Known, Formed, wordFor}
+use Rattle.rules.specs.Lawful.{Loads, Timed, Lawful, totals}
+use Rattle.rules.specs.Check.{checkPlan, checkWords}
 use Rattle.checker.proofs.LawfulIff.{lawful-iff, lawful-totals}
 use Rattle.checker.proofs.PlanChecks.{few-rounds}
 use Rattle.checker.proofs.RoundChecks.{task-form}

@@ -7,10 +7,10 @@ use native.Mathlib.Omega.{arith}
 use native.Mathlib.Numerals.{add-one}
 use lib.ListN.{length, length-append, getD, take, drop, take-append-drop}
 use lib.Seq.{take-suc, drop-cons, take-at, drop-at, length-take-le}
-use Rattle.checker.specs.Plan.{Round, roundWords, roundsWords, planWords, stopsOn, stopsOnAll}
-use Rattle.checker.specs.PlanWords.{leftWord}
-use Rattle.walks.specs.Edits.{Trial}
-use Rattle.attempts.specs.Attempts.{retried, joined, triedFrom}
+use Rattle.rules.specs.PlanWords.{leftWord}
+use Rattle.rules.specs.Plan.{Round, roundWords, roundsWords, planWords, stopsOn, stopsOnAll}
+use Rattle.rules.specs.Edits.{Trial}
+use Rattle.rules.specs.Attempts.{retried, joined, triedFrom}
 
 -- the words of two parts of the vehicles
 pub rounds-append : (from : ℕ) (xs ys : List Round) → roundsWords from (xs ++ ys) ≡ roundsWords from xs ++ roundsWords (from + length xs) ys

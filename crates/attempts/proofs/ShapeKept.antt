@@ -10,18 +10,18 @@ use mathlib.Core.Option.{Option, none, some, Option·some-injective, Option·non
 use native.Mathlib.Omega.{arith}
 use lib.Dec.{eqb}
 use lib.ListN.{length, length-append}
-use Rattle.laws.specs.Lists.{Every, times}
-use Rattle.laws.specs.Tests.{if_then_else_}
-use Rattle.checker.specs.Plan.{Round, stopsOn, stopsOnAll, Known}
+use Rattle.rules.specs.Tests.{if_then_else_}
+use Rattle.rules.specs.Lists.{Every, times}
+use Rattle.rules.specs.Plan.{Round, stopsOn, stopsOnAll, Known}
+use Rattle.rules.specs.Edits.{changed, Trial, touches}
+use Rattle.rules.specs.Attempts.{retried, joined, triedFrom, tried}
 use Rattle.builder.proofs.Decided.{known}
 use Rattle.builder.proofs.GreedyForm.{times-append}
 use Rattle.builder.specs.Rooms.{Room}
-use Rattle.walks.specs.Edits.{changed, Trial, touches}
 use Rattle.walks.proofs.EditLaws.{renamed, Suits}
 use Rattle.walks.proofs.EditSuits.{suits-before, suits-after, suits-swap, suits-remove, suits-replace, swap-elsewhere}
 use Rattle.walks.proofs.Walking.{walked-again}
 use Rattle.trial_list.specs.Shapes.{Shaped, EachFrom, StandsOn, Valid, moved-before, moved-after, swapped, removed, replaced}
-use Rattle.attempts.specs.Attempts.{retried, joined, triedFrom, tried}
 
 -- what a trial's edit does to a vehicle that it touches, and to one that it does not
 pub record Suited (day : List ℕ) (m : Trial) (number : ℕ) (tasks : Round) : Type 0 where

@@ -9,16 +9,16 @@ use native.Mathlib.Omega.{arith}
 use lib.Dec.{ltb, eqb}
 use lib.ListN.{length, getD}
 use borrow.Author.Tests.{le-ltb, eq-eqb, ltb-false}
-use Rattle.checker.specs.Lawful.{distanceFrom}
-use Rattle.checker.specs.Plan.{Round}
-use Rattle.builder.specs.Build.{greedyLefts}
+use Rattle.rules.specs.Plan.{Round}
+use Rattle.rules.specs.Lawful.{distanceFrom}
+use Rattle.rules.specs.Build.{greedyLefts}
+use Rattle.rules.specs.Edits.{Trial, touches, changed}
+use Rattle.rules.specs.WalkedAgain.{walkedAgain}
+use Rattle.rules.specs.Attempts.{retried, tried, distanceOf, keptIf, attempt}
 use Rattle.builder.proofs.Decided.{known}
-use Rattle.walks.specs.Edits.{Trial, touches, changed}
 use Rattle.walks.specs.Rewalks.{AgainAs}
-use Rattle.walks.specs.Walk.{walkedAgain}
 use Rattle.walks.specs.declared.vehicle.Walked.{Walked}
 use Rattle.trial_list.specs.Shapes.{Valid, moved-before, moved-after, swapped, removed, replaced}
-use Rattle.attempts.specs.Attempts.{retried, tried, distanceOf, keptIf, attempt}
 use Rattle.attempts.specs.Tries.{SomeTouched, Retries, Measured, SomeMeasured}
 use Rattle.attempts.proofs.Gains.{gain, tried-at, driven-one, driven-pair, tried-length}
 use Rattle.attempts.proofs.RoundLists.{tried-fails}

@@ -5,12 +5,12 @@ use mathlib.Core.Bool.{true}
 use mathlib.Core.List.{List, [], map}
 use native.Mathlib.Omega.{arith}
 use lib.ListN.{length, length-map, getD, take, drop}
-use Rattle.day.specs.Accepted.{IsAccepted}
-use Rattle.day.specs.Fields.{stops}
+use Rattle.rules.specs.Fields.{stops}
+use Rattle.rules.specs.Accepted.{IsAccepted}
+use Rattle.rules.specs.Plan.{Round, taskWord}
+use Rattle.rules.specs.Build.{greedyLefts}
+use Rattle.rules.specs.Edits.{Trial, touches}
 use Rattle.day.proofs.Ranges.{accepted-ranges}
-use Rattle.checker.specs.Plan.{Round, taskWord}
-use Rattle.builder.specs.Build.{greedyLefts}
-use Rattle.walks.specs.Edits.{Trial, touches}
 use Rattle.walks.specs.Rewalks.{Walkable}
 use Rattle.tracks.specs.Before.{BeforeOf}
 use Rattle.tracks.specs.Behind.{BehindOf}

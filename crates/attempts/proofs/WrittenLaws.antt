@@ -7,23 +7,23 @@ use native.Mathlib.Omega.{arith}
 use lib.ListN.{length, length-append, length-map, length-drop, getD, take, drop, take-append-drop}
 use lib.Seq.{take-all, drop-at, drop-cons}
 use borrow.Rule.Slice.PartMut.{putMid, same-len-mid}
+use Rattle.rules.specs.Lists.{Every}
+use Rattle.rules.specs.Fields.{stops}
+use Rattle.rules.specs.PlanWords.{leftWord}
+use Rattle.rules.specs.Plan.{Round, roundWords, roundsWords, planWords, stopsOn, stopsOnAll, Known}
+use Rattle.rules.specs.Build.{greedyLefts}
+use Rattle.rules.specs.Edits.{Trial}
+use Rattle.rules.specs.Attempts.{retried, triedFrom}
 use Rattle.laws.specs.Buffer.{Wrote}
-use Rattle.laws.specs.Lists.{Every}
 use Rattle.laws.proofs.Buffer.{wrote-none, wrote-lend, wrote-same, rest-whole}
 use Rattle.laws.proofs.Fresh.{every-split}
-use Rattle.day.specs.Fields.{stops}
-use Rattle.checker.specs.Plan.{Round, roundWords, roundsWords, planWords, stopsOn, stopsOnAll, Known}
-use Rattle.checker.specs.PlanWords.{leftWord}
-use Rattle.builder.specs.Build.{greedyLefts}
 use Rattle.builder.proofs.GreedyForm.{greedy-named}
 use Rattle.builder.specs.Rooms.{Room}
 use Rattle.builder.proofs.GreedyRoom.{rounds-words, plan-length}
-use Rattle.walks.specs.Edits.{Trial}
 use Rattle.walks.specs.declared.vehicle.Walked.{Walked}
 use Rattle.walks.proofs.EditLaws.{renamed}
 use Rattle.trial_list.specs.Shapes.{EachFrom}
 use Rattle.trial_list.proofs.Shapes.{each-front}
-use Rattle.attempts.specs.Attempts.{retried, triedFrom}
 use Rattle.attempts.specs.Candidates.{RoundDone, RoundAs, Trying, Written, RoundsAs, CandidateAs}
 use Rattle.attempts.proofs.RoundLists.{front-length, rounds-more, stops-parts, tried-more, tried-fails}
 use Rattle.attempts.proofs.ShapeKept.{Suited, valid-suits, AllRemade, tried-remade}

@@ -5,14 +5,14 @@ use mathlib.Core.Bool.{Bool, true, false}
 use mathlib.Core.List.{List, []}
 use mathlib.Core.Option.{Option, none, some}
 use lib.ListN.{length, getD, take}
+use Rattle.rules.specs.Lists.{Every}
+use Rattle.rules.specs.Plan.{Round, roundWords, roundsWords, planWords, stopsOn, Known}
+use Rattle.rules.specs.Build.{greedyLefts}
+use Rattle.rules.specs.Edits.{Edit, Trial, changed}
+use Rattle.rules.specs.Attempts.{retried, triedFrom, tried}
 use Rattle.laws.specs.Buffer.{Wrote}
-use Rattle.laws.specs.Lists.{Every}
-use Rattle.checker.specs.Plan.{Round, roundWords, roundsWords, planWords, stopsOn, Known}
-use Rattle.builder.specs.Build.{greedyLefts}
-use Rattle.walks.specs.Edits.{Edit, Trial, changed}
 use Rattle.walks.specs.declared.vehicle.Walked.{Walked}
 use Rattle.trial_list.specs.Shapes.{Shaped, Valid}
-use Rattle.attempts.specs.Attempts.{retried, triedFrom, tried}
 
 -- these are the words of a vehicle, and there is room for them and for what they become
 pub record Roundable (day : List ℕ) (e : Edit) (touched : Bool) (number : ℕ) (words part : List ℕ) (tasks : Round) : Type 0 where

@@ -1,3 +1,2 @@
-pub mod Attempts
 pub mod Candidates
 pub mod Tries

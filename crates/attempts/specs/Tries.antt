@@ -5,16 +5,16 @@ use mathlib.Core.Bool.{true, false}
 use mathlib.Core.List.{List, [], _∷_}
 use mathlib.Core.Option.{none, some}
 use lib.ListN.{length, getD, take}
-use Rattle.laws.specs.Answers.{given}
-use Rattle.checker.specs.Check.{checkWords}
-use Rattle.checker.specs.Lawful.{distanceFrom}
-use Rattle.checker.specs.Plan.{Round, planWords}
-use Rattle.builder.specs.Build.{greedyLefts}
-use Rattle.walks.specs.Edits.{Trial, touches, changed}
+use Rattle.rules.specs.Answers.{given}
+use Rattle.rules.specs.Plan.{Round, planWords}
+use Rattle.rules.specs.Lawful.{distanceFrom}
+use Rattle.rules.specs.Check.{checkWords}
+use Rattle.rules.specs.Build.{greedyLefts}
+use Rattle.rules.specs.Edits.{Trial, touches, changed}
+use Rattle.rules.specs.Attempts.{distanceOf, attempt}
 use Rattle.walks.specs.Rewalks.{AgainAs}
 use Rattle.walks.specs.declared.vehicle.Walked.{Walked}
 use Rattle.tracks.specs.Tables.{TrackedIn}
-use Rattle.attempts.specs.Attempts.{distanceOf, attempt}
 use Rattle.attempts.specs.Candidates.{Trying}
 use Rattle.attempts.specs.declared.tries.Tried.{Tried}
 

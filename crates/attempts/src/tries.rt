@@ -4,14 +4,15 @@ ghost use mathlib.Core.Bool.{true, false};
 ghost use mathlib.Core.List.{List};
 ghost use Prim.Native.Nat.{_≤_, _<_, _*_};
 ghost use lib.ListN.{length};
-ghost use Rattle.day.specs.Accepted.{IsAccepted};
+ghost use Rattle.rules.specs.Accepted.{IsAccepted};
+ghost use Rattle.rules.specs.Plan.{Round};
 ghost use Rattle.day.specs.Layout.{LayoutOf};
-ghost use Rattle.checker.specs.Plan.{Round};
 ghost use Rattle.walks.specs.Rewalks.{EditKnown, EditSmall};
 ghost use Rattle.trial_list.specs.TrialRest.{listedTrial};
 ghost use Rattle.attempts.specs.Tries.{SomeTouched, Retries, SomeMeasured, NoneKept, TriedAs, Judged, Made, SomeMade};
 use crate::candidate::write_candidate;
 use day::fields::Layout;
+use rules::answers::Answer;
 use tracks::measure::measure;
 use tracks::span::span_of;
 use trial_list::listing::Trial;
@@ -109,7 +110,7 @@ fn judge_candidate(day: &[u32], z: Layout, distance: u32, plan: &[u32]) -> Tried
 {
     let answer = checker::check_accepted(day, z, plan);
     match answer {
-        checker::Answer::Lawful {
+        Answer::Lawful {
             distance: driven,
             vehicles: _,
             served: _,
@@ -123,7 +124,7 @@ fn judge_candidate(day: &[u32], z: Layout, distance: u32, plan: &[u32]) -> Tried
             }
             not_kept()
         }
-        checker::Answer::Refused {
+        Answer::Refused {
             number: _,
             place: _,
         } => not_kept(),

@@ -7,30 +7,30 @@ use native.Mathlib.Omega.{arith}
 use lib.ListN.{length, take, drop, replicate, getD, length-append, length-replicate}
 use lib.Seq.{drop-drop, take-at}
 use borrow.Author.Tests.{lt-ltb, le-ltb}
-use Rattle.laws.specs.Answers.{given, refused}
-use Rattle.laws.specs.Buffer.{over, Wrote}
-use Rattle.laws.specs.Lists.{total}
+use Rattle.rules.specs.Answers.{given, refused}
+use Rattle.rules.specs.Lists.{total}
+use Rattle.rules.specs.Buffer.{over}
+use Rattle.rules.specs.DayFile.{wordsOf, judgeDay}
+use Rattle.rules.specs.Fields.{tips, stops}
+use Rattle.rules.specs.Accepted.{IsAccepted}
+use Rattle.rules.specs.Plan.{roundsWords, planWords}
+use Rattle.rules.specs.Lawful.{distanceFrom, totals}
+use Rattle.rules.specs.Check.{checkWords, checkPlan}
+use Rattle.rules.specs.Build.{greedyRounds, greedyLefts, greedyPlan, routed}
+use Rattle.rules.specs.AnswerValues.{dayValues, answerValues}
+use Rattle.rules.specs.Built.{planned, builtAnswer, builtBuffer, buildAnswer, buildBuffer}
+use Rattle.rules.specs.declared.answers.Answer.{Answer}
+use Rattle.rules.specs.declared.answers.Answer.the-variants as Answers
+use Rattle.rules.specs.declared.answers.DayAnswer.{DayAnswer}
+use Rattle.rules.specs.declared.answers.DayAnswer.the-variants as Days
+use Rattle.laws.specs.Buffer.{Wrote}
 use Rattle.laws.specs.Marks.{onesOf}
 use Rattle.laws.proofs.Buffer.{over-drop, over-front, over-rest, length-over}
-use Rattle.day.specs.Accepted.{IsAccepted}
-use Rattle.day.specs.Answers.{dayValues}
-use Rattle.day.specs.Day.{wordsOf, judgeDay}
-use Rattle.day.specs.Fields.{tips, stops}
 use Rattle.day.specs.Layout.{LayoutOf}
 use Rattle.day.specs.declared.fields.Layout.{Layout}
-use Rattle.day.specs.declared.DayAnswer.{DayAnswer}
-use Rattle.day.specs.declared.DayAnswer.the-variants as Days
 use Rattle.day.proofs.Answered.{refused-not-given, given-accepted}
 use Rattle.day.proofs.Ranges.{accepted-ranges}
-use Rattle.checker.specs.Answers.{answerValues}
-use Rattle.checker.specs.Check.{checkWords, checkPlan}
-use Rattle.checker.specs.Lawful.{distanceFrom, totals}
-use Rattle.checker.specs.Plan.{roundsWords, planWords}
-use Rattle.checker.specs.declared.Answer.{Answer}
-use Rattle.checker.specs.declared.Answer.the-variants as Answers
 use Rattle.marks.specs.declared.Marks.{Marks}
-use Rattle.builder.specs.Build.{greedyRounds, greedyLefts, greedyPlan, routed}
-use Rattle.builder.specs.Built.{planned, builtAnswer, builtBuffer, buildAnswer, buildBuffer}
 use Rattle.builder.specs.Going.{LeftOf}
 use Rattle.builder.specs.Lefts.{LeavesAll}
 use Rattle.builder.proofs.GreedyLawful.{greedy-answer}

@@ -7,21 +7,21 @@ use mathlib.Core.List.{List}
 use native.Mathlib.Omega.{arith}
 use lib.Dec.{ltb, leb, eqb}
 use borrow.Author.Tests.{le-leb, lt-leb, le-ltb, lt-ltb, eq-eqb, ne-eqb, leb-true, leb-false}
+use Rattle.rules.specs.Least.{better}
+use Rattle.rules.specs.Fields.{tips, stops, stopPlace, loadLimit, dayLimit, stopLimit, opening, quantity, legMinutes}
+use Rattle.rules.specs.Cargo.{loaded, overLimits}
+use Rattle.rules.specs.Trip.{arrival, visited}
+use Rattle.rules.specs.Home.{wayHome}
+use Rattle.rules.specs.Choice.{taking, suits, takeable, waitable, nearKey, openKey}
+use Rattle.rules.specs.declared.walk.Cargo.{Cargo}
+use Rattle.rules.specs.declared.walk.Trip.{Trip}
 use Rattle.laws.specs.Marks.{both, upTo}
-use Rattle.laws.specs.Least.{better}
 use Rattle.laws.proofs.Marks.{both-in, both-out, upTo-low, upTo-out, upTo-in}
 use Rattle.laws.proofs.Least.{better-fails, better-wins, better-loses}
-use Rattle.day.specs.Fields.{tips, stops, stopPlace, loadLimit, dayLimit, stopLimit, opening, quantity, legMinutes}
 use Rattle.day.specs.Layout.{LayoutOf, WindowOf, LegOf}
 use Rattle.day.specs.declared.fields.Layout.{Layout}
 use Rattle.day.specs.declared.fields.Leg.{Leg}
 use Rattle.day.specs.declared.fields.Window.{Window}
-use Rattle.checker.specs.Cargo.{loaded, overLimits}
-use Rattle.checker.specs.Trip.{arrival, visited}
-use Rattle.checker.specs.declared.walk.Cargo.{Cargo}
-use Rattle.checker.specs.declared.walk.Trip.{Trip}
-use Rattle.builder.specs.Choice.{taking, suits, takeable, waitable, nearKey, openKey}
-use Rattle.builder.specs.Home.{wayHome}
 use Rattle.builder.specs.States.{SmallTrip}
 
 -- one stop more: over Q, over Q*, and else by S*

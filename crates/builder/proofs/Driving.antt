@@ -10,17 +10,17 @@ use mathlib.Core.Option.{none, some}
 use native.Mathlib.Omega.{arith}
 use lib.Dec.{ltb}
 use borrow.Author.Tests.{lt-ltb}
-use Rattle.laws.specs.Lists.{unmet}
-use Rattle.laws.specs.Tests.{if_then_else_}
+use Rattle.rules.specs.Tests.{if_then_else_}
+use Rattle.rules.specs.Lists.{unmet}
+use Rattle.rules.specs.Fields.{stops}
+use Rattle.rules.specs.Plan.{Task, lunch}
+use Rattle.rules.specs.Cargo.{cargoAfter}
+use Rattle.rules.specs.Check.{metAfter}
+use Rattle.rules.specs.Home.{due, restIfDue}
+use Rattle.rules.specs.Build.{Truck, fresh, doing, resting, nextTask, drive, oneVehicle}
 use Rattle.laws.proofs.Fresh.{unmet-most}
 use Rattle.laws.proofs.Lists.{unmet-less}
-use Rattle.day.specs.Fields.{stops}
-use Rattle.checker.specs.Cargo.{cargoAfter}
-use Rattle.checker.specs.Check.{metAfter}
-use Rattle.checker.specs.Plan.{Task, lunch}
-use Rattle.builder.specs.Build.{Truck, fresh, doing, resting, nextTask, drive, oneVehicle}
 use Rattle.builder.specs.Reached.{Reached, setOut, goesOn}
-use Rattle.builder.specs.Home.{due, restIfDue}
 use Rattle.builder.proofs.Decided.{known, known-option, bit-most}
 use Rattle.builder.proofs.NextTasks.{IsNext, takes, empties, waits, next-some}
 

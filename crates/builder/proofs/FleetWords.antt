@@ -10,15 +10,15 @@ use native.Mathlib.Omega.{arith}
 use native.Mathlib.Numerals.{add-one}
 use lib.ListN.{length, take, drop, length-drop}
 use borrow.Rule.Slice.PartMut.{putMid}
+use Rattle.rules.specs.Lists.{mem, unmet}
+use Rattle.rules.specs.Fields.{stops}
+use Rattle.rules.specs.Plan.{Round, roundWords, roundsWords}
+use Rattle.rules.specs.Build.{oneVehicle, greedyRounds, routed}
 use Rattle.laws.specs.Buffer.{Wrote}
-use Rattle.laws.specs.Lists.{mem, unmet}
 use Rattle.laws.specs.Marks.{marked, onesOf, upTo}
 use Rattle.laws.proofs.Buffer.{wrote-none, wrote-lend, wrote-same, over-none, rest-whole}
 use Rattle.laws.proofs.Lists.{unmet-nil}
-use Rattle.day.specs.Fields.{stops}
-use Rattle.checker.specs.Plan.{Round, roundWords, roundsWords}
 use Rattle.marks.specs.declared.Marks.{Marks}
-use Rattle.builder.specs.Build.{oneVehicle, greedyRounds, routed}
 use Rattle.builder.specs.Going.{LeftOf, SomeLeft, VehicleWritten}
 use Rattle.builder.specs.States.{unrouted}
 use Rattle.builder.proofs.Fleets.{fleetFrom, routedFrom, from-start, from-none, from-some, vehicle-unmet}

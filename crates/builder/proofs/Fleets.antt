@@ -8,11 +8,12 @@ use mathlib.Core.Logic.{inl, inr}
 use native.Mathlib.Nat.{eq-zero-or-pos}
 use native.Mathlib.Omega.{arith}
 use borrow.Author.Tests.{eq-eqb, ne-eqb}
-use Rattle.laws.specs.Lists.{Every, unmet, collect, Fresh}
+use Rattle.rules.specs.Lists.{Every, unmet}
+use Rattle.rules.specs.Fields.{stops}
+use Rattle.rules.specs.Plan.{Round, stopsOn, stopsOnAll}
+use Rattle.rules.specs.Build.{oneVehicle, fleet, routed, greedyRounds}
+use Rattle.laws.specs.Lists.{collect, Fresh}
 use Rattle.laws.proofs.Fresh.{collect-append, fresh-append, unmet-most}
-use Rattle.day.specs.Fields.{stops}
-use Rattle.checker.specs.Plan.{Round, stopsOn, stopsOnAll}
-use Rattle.builder.specs.Build.{oneVehicle, fleet, routed, greedyRounds}
 use Rattle.builder.proofs.VehicleStops.{routes-unmet, vehicle-routes}
 
 -- the stops that a vehicle takes are no longer missing

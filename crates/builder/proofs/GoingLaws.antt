@@ -10,30 +10,31 @@ use native.Mathlib.Omega.{arith}
 use native.Mathlib.Decide.{ℕ-discrete}
 use lib.ListN.{length, length-map, set, length-set}
 use borrow.Author.Tests.{lt-ltb}
+use Rattle.rules.specs.Tests.{if_then_else_}
+use Rattle.rules.specs.Lists.{mem, unmet}
+use Rattle.rules.specs.Fields.{stops, stopPlace}
+use Rattle.rules.specs.PlanWords.{vehicleWord, restWord, backWord}
+use Rattle.rules.specs.Plan.{Task, serve, empty, lunch, Round, taskWord, roundWords, stopsOn}
+use Rattle.rules.specs.Cargo.{cargoAfter, emptied}
+use Rattle.rules.specs.Trip.{visited}
+use Rattle.rules.specs.Check.{metAfter}
+use Rattle.rules.specs.Home.{due, restIfDue}
+use Rattle.rules.specs.Choice.{taking}
+use Rattle.rules.specs.Build.{Truck, doing, resting, nextTask, oneVehicle}
+use Rattle.rules.specs.declared.walk.Cargo.{Cargo}
+use Rattle.rules.specs.declared.walk.Trip.{Trip}
 use Rattle.laws.specs.Buffer.{Wrote}
-use Rattle.laws.specs.Lists.{mem, unmet, Fresh}
+use Rattle.laws.specs.Lists.{Fresh}
 use Rattle.laws.specs.Marks.{without, upTo, Unmarked, marked}
-use Rattle.laws.specs.Tests.{if_then_else_}
 use Rattle.laws.proofs.Buffer.{wrote-put, wrote-same}
 use Rattle.laws.proofs.Fresh.{unmet-most}
 use Rattle.laws.proofs.Lists.{mem-same, mem-other, unmet-less}
 use Rattle.laws.proofs.Marks.{without-same, without-other}
-use Rattle.day.specs.Fields.{stops, stopPlace}
 use Rattle.day.specs.Layout.{LayoutOf}
 use Rattle.day.specs.declared.fields.Layout.{Layout}
-use Rattle.checker.specs.Cargo.{cargoAfter, emptied}
-use Rattle.checker.specs.Check.{metAfter}
-use Rattle.checker.specs.Plan.{Task, serve, empty, lunch, Round, taskWord, roundWords, stopsOn}
-use Rattle.checker.specs.PlanWords.{vehicleWord, restWord, backWord}
-use Rattle.checker.specs.Trip.{visited}
-use Rattle.checker.specs.declared.walk.Cargo.{Cargo}
-use Rattle.checker.specs.declared.walk.Trip.{Trip}
 use Rattle.marks.specs.declared.Marks.{Marks}
-use Rattle.builder.specs.Build.{Truck, doing, resting, nextTask, oneVehicle}
-use Rattle.builder.specs.Choice.{taking}
 use Rattle.builder.specs.Done.{Done, Doable}
 use Rattle.builder.specs.Going.{LeftOf, Going, SomeGoing, GoesOn, VehicleDone}
-use Rattle.builder.specs.Home.{due, restIfDue}
 use Rattle.builder.specs.NextBy.{nextOf, nextBy, NextWithin, nextWord, isTask}
 use Rattle.builder.specs.Reached.{goesOn}
 use Rattle.builder.specs.States.{SmallTrip, SmallCargo, unrouted}

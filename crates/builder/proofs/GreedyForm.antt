@@ -6,12 +6,13 @@ use mathlib.Core.Path.{_≡_, ap}
 use mathlib.Core.List.{List, [], _∷_, _++_}
 use native.Mathlib.Omega.{arith}
 use lib.ListN.{length, length-append}
-use Rattle.laws.specs.Lists.{Every, mem, times, collect, Rising}
+use Rattle.rules.specs.Lists.{Every, mem, times, Rising}
+use Rattle.rules.specs.Fields.{stops}
+use Rattle.rules.specs.Plan.{stopsOn, stopsOnAll, Known}
+use Rattle.rules.specs.Build.{routed, greedyRounds, greedyLefts}
+use Rattle.laws.specs.Lists.{collect}
 use Rattle.laws.proofs.Fresh.{once, fresh-times, fresh-length, once-fresh, every-append, every-weaker, unmet-most}
-use Rattle.day.specs.Fields.{stops}
-use Rattle.checker.specs.Plan.{stopsOn, stopsOnAll, Known}
 use Rattle.checker.proofs.PlanChecks.{known-all}
-use Rattle.builder.specs.Build.{routed, greedyRounds, greedyLefts}
 use Rattle.builder.proofs.Fleets.{fleet-every, fleet-routes}
 use Rattle.builder.proofs.LeftOut.{Remains, remaining-are, remaining-rising, remaining-once}
 use Rattle.builder.proofs.VehicleStops.{vehicle-routes}

@@ -4,19 +4,19 @@ use Prim.Native.Nat.{ℕ, _+_}
 use mathlib.Core.Path.{_≡_, refl}
 use mathlib.Core.List.{List, []}
 use native.Mathlib.Omega.{arith}
-use Rattle.laws.specs.Answers.{given}
-use Rattle.laws.specs.Lists.{Every}
+use Rattle.rules.specs.Answers.{given}
+use Rattle.rules.specs.Lists.{Every}
+use Rattle.rules.specs.Fields.{stops}
+use Rattle.rules.specs.Accepted.{IsAccepted}
+use Rattle.rules.specs.Plan.{Formed}
+use Rattle.rules.specs.Lawful.{Loads, Timed, Lawful, totals}
+use Rattle.rules.specs.Check.{checkPlan}
+use Rattle.rules.specs.Build.{greedyRounds, greedyLefts, greedyPlan}
 use Rattle.laws.proofs.Fresh.{every-weaker}
-use Rattle.day.specs.Accepted.{IsAccepted}
-use Rattle.day.specs.Fields.{stops}
 use Rattle.day.proofs.Ranges.{accepted-ranges}
-use Rattle.checker.specs.Check.{checkPlan}
-use Rattle.checker.specs.Lawful.{Loads, Timed, Lawful, totals}
-use Rattle.checker.specs.Plan.{Formed}
 use Rattle.checker.specs.Vehicles.{Clear}
 use Rattle.checker.proofs.Clear.{clear-loads, clear-timed}
 use Rattle.checker.proofs.LawfulIff.{lawful-totals}
-use Rattle.builder.specs.Build.{greedyRounds, greedyLefts, greedyPlan}
 use Rattle.builder.proofs.Fleets.{fleet-every}
 use Rattle.builder.proofs.GreedyForm.{greedy-known, greedy-busy, greedy-rising, greedy-once, greedy-others}
 use Rattle.builder.proofs.GreedyRoom.{greedy-room}

@@ -9,15 +9,15 @@ use native.Mathlib.Omega.{arith}
 use lib.Dec.{ltb}
 use lib.ListN.{length, length-append, length-map}
 use borrow.Author.Tests.{lt-ltb}
-use Rattle.laws.specs.Lists.{Every, total}
-use Rattle.laws.specs.Tests.{if_then_else_}
-use Rattle.day.specs.Fields.{stops}
-use Rattle.checker.specs.Cargo.{cargoAfter}
-use Rattle.checker.specs.Lawful.{restsIn}
-use Rattle.checker.specs.Plan.{Task, serve, empty, lunch, Round, taskWord, roundWords, roundsWords, planWords, stopsOn, stopsOnAll}
-use Rattle.checker.specs.PlanWords.{backWord, leftWord}
-use Rattle.builder.specs.Build.{Truck, fresh, doing, oneVehicle, greedyRounds, greedyLefts, greedyPlan, resting}
-use Rattle.builder.specs.Home.{due}
+use Rattle.rules.specs.Tests.{if_then_else_}
+use Rattle.rules.specs.Lists.{Every, total}
+use Rattle.rules.specs.Fields.{stops}
+use Rattle.rules.specs.PlanWords.{backWord, leftWord}
+use Rattle.rules.specs.Plan.{Task, serve, empty, lunch, Round, taskWord, roundWords, roundsWords, planWords, stopsOn, stopsOnAll}
+use Rattle.rules.specs.Lawful.{restsIn}
+use Rattle.rules.specs.Cargo.{cargoAfter}
+use Rattle.rules.specs.Home.{due}
+use Rattle.rules.specs.Build.{Truck, fresh, doing, oneVehicle, greedyRounds, greedyLefts, greedyPlan, resting}
 use Rattle.builder.specs.Reached.{Reached}
 use Rattle.builder.specs.Rooms.{emptiesIn, Paid, Room}
 use Rattle.builder.proofs.Decided.{bit-most}

@@ -7,18 +7,18 @@ use mathlib.Core.List.{List}
 use native.Mathlib.Omega.{arith}
 use lib.Dec.{leb}
 use borrow.Author.Tests.{le-leb, lt-leb, leb-true, eq-eqb, ne-eqb}
-use Rattle.laws.specs.Tests.{if_then_else_}
+use Rattle.rules.specs.Tests.{if_then_else_}
+use Rattle.rules.specs.Fields.{places, stopPlace, opening, closing, restOpening, restClosing, restMinutes, service}
+use Rattle.rules.specs.Trip.{visited, restedAt}
+use Rattle.rules.specs.Tips.{nearestTip}
+use Rattle.rules.specs.Home.{due, restIfDue, homeDirect, homeByTip, homeLoaded, wayHome}
+use Rattle.rules.specs.declared.walk.Trip.{Trip}
 use Rattle.laws.proofs.Tests.{both-true}
-use Rattle.day.specs.Fields.{places, stopPlace, opening, closing, restOpening, restClosing, restMinutes, service}
 use Rattle.day.specs.Layout.{LayoutOf, WindowOf, LegOf}
 use Rattle.day.specs.declared.fields.Layout.{Layout}
 use Rattle.day.specs.declared.fields.Leg.{Leg}
 use Rattle.day.specs.declared.fields.Window.{Window}
-use Rattle.checker.specs.Trip.{visited, restedAt}
-use Rattle.checker.specs.declared.walk.Trip.{Trip}
-use Rattle.builder.specs.Home.{due, restIfDue, homeDirect, homeByTip, homeLoaded, wayHome}
 use Rattle.builder.specs.States.{SmallTrip}
-use Rattle.builder.specs.Tips.{nearestTip}
 
 -- whether a rest is due: done already, too early, and else by R2
 module _ (day : List ℕ) (t : Trip) where

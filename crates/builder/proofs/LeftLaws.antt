@@ -9,14 +9,14 @@ use native.Mathlib.Decide.{ℕ-discrete, decLt}
 use native.Mathlib.Nat.{eq-or-lt-of-le}
 use native.Mathlib.Omega.{arith}
 use lib.ListN.{length, set}
+use Rattle.rules.specs.Lists.{mem}
+use Rattle.rules.specs.PlanWords.{leftWord}
+use Rattle.rules.specs.Build.{remaining}
 use Rattle.laws.specs.Buffer.{Wrote}
-use Rattle.laws.specs.Lists.{mem}
 use Rattle.laws.specs.Marks.{without, Lowest, marked, Unmarked}
 use Rattle.laws.proofs.Buffer.{wrote-put, wrote-same}
 use Rattle.laws.proofs.Marks.{without-same, without-other, upTo-low, upTo-out}
-use Rattle.checker.specs.PlanWords.{leftWord}
 use Rattle.marks.specs.declared.Marks.{Marks}
-use Rattle.builder.specs.Build.{remaining}
 use Rattle.builder.specs.Lefts.{listed, Leaving}
 use Rattle.builder.specs.States.{unrouted}
 use Rattle.builder.proofs.Decided.{known}

@@ -11,16 +11,16 @@ use native.Mathlib.Nat.{eq-or-lt-of-le}
 use native.Mathlib.Omega.{arith}
 use lib.ListN.{length}
 use borrow.Author.Tests.{eq-eqb, ne-eqb}
-use Rattle.laws.specs.Lists.{Every, mem, times, unmet, Rising}
-use Rattle.laws.specs.Tests.{if_then_else_}
+use Rattle.rules.specs.Tests.{if_then_else_}
+use Rattle.rules.specs.Lists.{Every, mem, times, unmet, Rising}
+use Rattle.rules.specs.Fields.{stops}
+use Rattle.rules.specs.Plan.{Task}
+use Rattle.rules.specs.Cargo.{cargoAfter}
+use Rattle.rules.specs.Home.{due}
+use Rattle.rules.specs.Choice.{takeable, waitable, nearestStop}
+use Rattle.rules.specs.Build.{Truck, fresh, doing, resting, nextTask, drive, oneVehicle, routed, remaining, greedyLefts, couldTakeFirst}
+use Rattle.rules.specs.declared.walk.Cargo.{Cargo}
 use Rattle.laws.proofs.Fresh.{once, times-other, every-weaker, unmet-most}
-use Rattle.day.specs.Fields.{stops}
-use Rattle.checker.specs.Cargo.{cargoAfter}
-use Rattle.checker.specs.Plan.{Task}
-use Rattle.checker.specs.declared.walk.Cargo.{Cargo}
-use Rattle.builder.specs.Build.{Truck, fresh, doing, resting, nextTask, drive, oneVehicle, routed, remaining, greedyLefts, couldTakeFirst}
-use Rattle.builder.specs.Choice.{takeable, waitable, nearestStop}
-use Rattle.builder.specs.Home.{due}
 use Rattle.builder.proofs.Decided.{known, known-option}
 use Rattle.builder.proofs.Driving.{resting-trip, resting-cargo, resting-taken, drive-some, drive-keeps}
 use Rattle.builder.proofs.Fleets.{routed-idle}

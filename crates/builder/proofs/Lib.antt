@@ -1,4 +1,3 @@
-pub mod BuildCases
 pub mod BuiltPlans
 pub mod ChoiceLaws
 pub mod Decided

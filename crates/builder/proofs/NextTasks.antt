@@ -8,18 +8,18 @@ use mathlib.Core.Option.{none, some, Option·some-injective, Option·none-ne-som
 use native.Mathlib.Omega.{arith}
 use lib.Dec.{ltb, leb, eqb}
 use borrow.Author.Tests.{eqb-true, eqb-false, ltb-true, ltb-false, leb-true, not-true}
-use Rattle.laws.specs.Lists.{mem}
-use Rattle.laws.specs.Least.{IsLeast, least}
-use Rattle.laws.specs.Tests.{if_then_else_}
+use Rattle.rules.specs.Tests.{if_then_else_}
+use Rattle.rules.specs.Lists.{mem}
+use Rattle.rules.specs.Least.{IsLeast, least}
+use Rattle.rules.specs.Fields.{stops, tips, opening, closing, legMinutes}
+use Rattle.rules.specs.Plan.{Task, serve, empty}
+use Rattle.rules.specs.Tips.{openTip, nearestTip}
+use Rattle.rules.specs.Choice.{takeable, waitable, nearKey, openKey, nearestStop, earliestStop, nearCapacity, farther, chosenStop}
+use Rattle.rules.specs.Build.{Truck, serving, emptying, nextTask}
+use Rattle.rules.specs.declared.walk.Cargo.{Cargo}
+use Rattle.rules.specs.declared.walk.Trip.{Trip}
 use Rattle.laws.proofs.Least.{least-is}
 use Rattle.laws.proofs.Tests.{both-true, only-first, only-second}
-use Rattle.day.specs.Fields.{stops, tips, opening, closing, legMinutes}
-use Rattle.checker.specs.Plan.{Task, serve, empty}
-use Rattle.checker.specs.declared.walk.Cargo.{Cargo}
-use Rattle.checker.specs.declared.walk.Trip.{Trip}
-use Rattle.builder.specs.Build.{Truck, serving, emptying, nextTask}
-use Rattle.builder.specs.Choice.{takeable, waitable, nearKey, openKey, nearestStop, earliestStop, nearCapacity, farther, chosenStop}
-use Rattle.builder.specs.Tips.{openTip, nearestTip}
 
 -- a stop that is chosen: it is the day's, it is not routed yet, and the conditions hold for it
 pub record Chosen (day taken : List ℕ) (ok : ℕ → Bool) (k : ℕ) : Type 0 where

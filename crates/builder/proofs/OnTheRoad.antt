@@ -9,22 +9,22 @@ use native.Mathlib.Omega.{arith}
 use lib.Dec.{leb, ltb}
 use lib.Seq.{append-snoc}
 use borrow.Author.Tests.{leb-true, ltb-true, not-true, le-ltb}
+use Rattle.rules.specs.Fields.{stopPlace, opening, closing}
+use Rattle.rules.specs.Accepted.{IsAccepted}
+use Rattle.rules.specs.PlanWords.{stop}
+use Rattle.rules.specs.Plan.{Task, serve, empty, lunch, Round, wordFor}
+use Rattle.rules.specs.Cargo.{overLimits, cargoFault, cargoAfter}
+use Rattle.rules.specs.Cargo as Carried
+use Rattle.rules.specs.Trip.{leaving, arrival, visitStart, visited, visitFault, tripFault}
+use Rattle.rules.specs.Tips.{nearestTip}
+use Rattle.rules.specs.Home.{due, wayHome}
+use Rattle.rules.specs.Choice.{taking, suits, takeable, waitable}
+use Rattle.rules.specs.Build.{Truck, fresh, doing, resting, oneVehicle}
+use Rattle.rules.specs.declared.walk.Cargo.{Cargo}
+use Rattle.rules.specs.declared.walk.Trip.{Trip}
 use Rattle.laws.proofs.Tests.{both-true}
-use Rattle.day.specs.Accepted.{IsAccepted}
-use Rattle.day.specs.Fields.{stopPlace, opening, closing}
 use Rattle.day.proofs.Ranges.{accepted-ranges}
-use Rattle.checker.specs.Cargo.{overLimits, cargoFault, cargoAfter}
-use Rattle.checker.specs.Cargo as Carried
-use Rattle.checker.specs.Plan.{Task, serve, empty, lunch, Round}
-use Rattle.checker.specs.PlanWords.{stop}
-use Rattle.checker.specs.Trip.{leaving, arrival, visitStart, visited, visitFault, tripFault}
-use Rattle.checker.specs.Vehicles.{wordFor, CargoClear, TripClear, Clear}
-use Rattle.checker.specs.declared.walk.Cargo.{Cargo}
-use Rattle.checker.specs.declared.walk.Trip.{Trip}
-use Rattle.builder.specs.Build.{Truck, fresh, doing, resting, oneVehicle}
-use Rattle.builder.specs.Choice.{taking, suits, takeable, waitable}
-use Rattle.builder.specs.Home.{due, wayHome}
-use Rattle.builder.specs.Tips.{nearestTip}
+use Rattle.checker.specs.Vehicles.{CargoClear, TripClear, Clear}
 use Rattle.builder.specs.Reached.{Reached}
 use Rattle.builder.proofs.Driving.{Ended, resting-done, resting-keeps, reached-keeps, vehicle-keeps, vehicle-ended}
 use Rattle.builder.proofs.NextTasks.{OpenTip, IsNext, takes, empties, waits, next-none}

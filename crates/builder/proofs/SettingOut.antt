@@ -9,22 +9,22 @@ use mathlib.Core.Option.{none, some, Option·some-ne-none}
 use native.Mathlib.Nat.{eq-zero-or-pos}
 use native.Mathlib.Omega.{arith}
 use lib.ListN.{length, set, length-set}
+use Rattle.rules.specs.Tests.{if_then_else_}
+use Rattle.rules.specs.Lists.{unmet}
+use Rattle.rules.specs.Fields.{stops}
+use Rattle.rules.specs.PlanWords.{vehicleWord, restWord}
+use Rattle.rules.specs.Cargo as Carried
+use Rattle.rules.specs.Trip.{leaving}
+use Rattle.rules.specs.Home.{due, restIfDue}
+use Rattle.rules.specs.Build.{Truck, fresh, resting, oneVehicle}
+use Rattle.rules.specs.declared.walk.Cargo.{Cargo}
+use Rattle.rules.specs.declared.walk.Trip.{Trip}
 use Rattle.laws.specs.Buffer.{Wrote}
-use Rattle.laws.specs.Lists.{unmet}
 use Rattle.laws.specs.Marks.{marked}
-use Rattle.laws.specs.Tests.{if_then_else_}
 use Rattle.laws.proofs.Buffer.{wrote-none, wrote-put}
-use Rattle.day.specs.Fields.{stops}
 use Rattle.day.specs.declared.fields.Layout.{Layout}
-use Rattle.checker.specs.Cargo as Carried
-use Rattle.checker.specs.PlanWords.{vehicleWord, restWord}
-use Rattle.checker.specs.Trip.{leaving}
-use Rattle.checker.specs.declared.walk.Cargo.{Cargo}
-use Rattle.checker.specs.declared.walk.Trip.{Trip}
 use Rattle.marks.specs.declared.Marks.{Marks}
-use Rattle.builder.specs.Build.{Truck, fresh, resting, oneVehicle}
 use Rattle.builder.specs.Going.{LeftOf, First, SetsOut, Going, SomeGoing, SomeLeft, VehicleDone, VehicleWritten}
-use Rattle.builder.specs.Home.{due, restIfDue}
 use Rattle.builder.specs.NextBy.{nextOf, nextBy, NextWithin, isTask}
 use Rattle.builder.specs.Reached.{setOut}
 use Rattle.builder.specs.States.{SmallTrip, SmallCargo}

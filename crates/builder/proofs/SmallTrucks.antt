@@ -9,16 +9,16 @@ use native.Mathlib.Omega.{arith}
 use lib.ListN.{length, length-append}
 use lib.Dec.{ltb, leb}
 use borrow.Author.Tests.{leb-true, ltb-true, not-true}
+use Rattle.rules.specs.Fields.{stops, places, stopPlace, opening, closing}
+use Rattle.rules.specs.Plan.{Task, serve, empty, lunch}
+use Rattle.rules.specs.Cargo.{overLimits, cargoAfter}
+use Rattle.rules.specs.Trip.{arrival, visited}
+use Rattle.rules.specs.Home.{due, wayHome}
+use Rattle.rules.specs.Choice.{taking, suits, takeable, waitable}
+use Rattle.rules.specs.Build.{Truck, fresh, doing, resting}
+use Rattle.rules.specs.declared.walk.Cargo.{Cargo}
 use Rattle.laws.proofs.Tests.{both-true}
-use Rattle.day.specs.Fields.{stops, places, stopPlace, opening, closing}
-use Rattle.checker.specs.Cargo.{overLimits, cargoAfter}
-use Rattle.checker.specs.Plan.{Task, serve, empty, lunch}
-use Rattle.checker.specs.Trip.{arrival, visited}
-use Rattle.checker.specs.declared.walk.Cargo.{Cargo}
 use Rattle.checker.proofs.Loads.{not-over}
-use Rattle.builder.specs.Build.{Truck, fresh, doing, resting}
-use Rattle.builder.specs.Choice.{taking, suits, takeable, waitable}
-use Rattle.builder.specs.Home.{due, wayHome}
 use Rattle.builder.specs.States.{SmallCargo}
 use Rattle.builder.specs.Reached.{Reached}
 use Rattle.builder.proofs.Driving.{reached-keeps, resting-keeps}

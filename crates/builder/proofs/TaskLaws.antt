@@ -8,23 +8,23 @@ use mathlib.Core.Option.{Option, none, some}
 use native.Mathlib.Omega.{arith}
 use lib.Dec.{ltb}
 use borrow.Author.Tests.{lt-ltb, le-ltb, eq-eqb, ne-eqb}
+use Rattle.rules.specs.Lists.{mem}
+use Rattle.rules.specs.Least.{least}
+use Rattle.rules.specs.Fields.{stops, loadLimit, dayLimit, stopLimit}
+use Rattle.rules.specs.Plan.{Task, serve, empty}
+use Rattle.rules.specs.Tips.{nearestTip}
+use Rattle.rules.specs.Choice.{takeable, waitable, nearKey, openKey, nearestStop, earliestStop, nearCapacity, farther, chosenStop}
+use Rattle.rules.specs.Build.{Truck, serving, emptying, nextTask}
+use Rattle.rules.specs.declared.walk.Cargo.{Cargo}
+use Rattle.rules.specs.declared.walk.Trip.{Trip}
 use Rattle.laws.specs.Marks.{both}
-use Rattle.laws.specs.Least.{least}
-use Rattle.laws.specs.Lists.{mem}
 use Rattle.laws.proofs.Least.{least-same}
 use Rattle.laws.proofs.Marks.{upTo-in}
-use Rattle.day.specs.Fields.{stops, loadLimit, dayLimit, stopLimit}
 use Rattle.day.specs.Layout.{LayoutOf, LegOf}
 use Rattle.day.specs.declared.fields.Layout.{Layout}
 use Rattle.day.specs.declared.fields.Leg.{Leg}
-use Rattle.checker.specs.Plan.{Task, serve, empty}
-use Rattle.checker.specs.declared.walk.Cargo.{Cargo}
-use Rattle.checker.specs.declared.walk.Trip.{Trip}
-use Rattle.builder.specs.Build.{Truck, serving, emptying, nextTask}
-use Rattle.builder.specs.Choice.{takeable, waitable, nearKey, openKey, nearestStop, earliestStop, nearCapacity, farther, chosenStop}
 use Rattle.builder.specs.NextBy.{waitBy, chosenBy, nextBy}
 use Rattle.builder.specs.States.{unrouted}
-use Rattle.builder.specs.Tips.{nearestTip}
 
 -- near to capacity: no load, and by Q, by Q*, by S*
 module _ (day : List ℕ) (c : Cargo) where

@@ -6,14 +6,14 @@ use mathlib.Core.Bool.{true, false}
 use mathlib.Core.List.{List}
 use native.Mathlib.Omega.{arith}
 use borrow.Author.Tests.{le-leb, lt-leb}
-use Rattle.laws.specs.Least.{better, least}
+use Rattle.rules.specs.Least.{better, least}
+use Rattle.rules.specs.Fields.{tips, opening, closing, legMinutes}
+use Rattle.rules.specs.Tips.{openTip, nearestTip}
 use Rattle.laws.proofs.Least.{better-fails, better-none, better-less, better-more, least-none, least-suc, least-le}
-use Rattle.day.specs.Fields.{tips, opening, closing, legMinutes}
 use Rattle.day.specs.Layout.{LayoutOf, WindowOf, LegOf}
 use Rattle.day.specs.declared.fields.Layout.{Layout}
 use Rattle.day.specs.declared.fields.Leg.{Leg}
 use Rattle.day.specs.declared.fields.Window.{Window}
-use Rattle.builder.specs.Tips.{openTip, nearestTip}
 
 module _ (day : List ℕ) (place minute k : ℕ) (w : Window) (l : Leg) (hw : WindowOf day k w) (hl : LegOf day place k l) where
   tip-open : w .opening ≤ minute + l .minutes → minute + l .minutes ≤ w .closing → openTip day place minute k ≡ true

@@ -1,9 +1,9 @@
 -- The contracts of the calls that plan have one answer: answers of the same values are the same. Assumes nothing.
 use mathlib.Core.Path.{_≡_}
 use mathlib.Core.Bool.{true, false}
-use Rattle.builder.specs.Built.{planValues}
-use Rattle.builder.specs.declared.PlanAnswer.{PlanAnswer}
-use Rattle.builder.specs.declared.PlanAnswer.the-variants as Plans
+use Rattle.rules.specs.AnswerValues.{planValues}
+use Rattle.rules.specs.declared.answers.PlanAnswer.{PlanAnswer}
+use Rattle.rules.specs.declared.answers.PlanAnswer.the-variants as Plans
 
 -- on a planned day
 pub plan-told-apart : (a b : PlanAnswer) → planValues a ≡ planValues b → a ≡ b

@@ -6,17 +6,17 @@ use mathlib.Core.Bool.{true, false}
 use mathlib.Core.List.{List, [], _∷_, _++_, append-nil}
 use native.Mathlib.Omega.{arith}
 use lib.ListN.{length, length-append}
-use Rattle.laws.specs.Lists.{Every, unmet, collect, Fresh}
+use Rattle.rules.specs.Lists.{Every, unmet}
+use Rattle.rules.specs.Fields.{stops}
+use Rattle.rules.specs.Plan.{Task, serve, empty, lunch, Round, stopsOn, stopsOnAll, Known, wordFor}
+use Rattle.rules.specs.Cargo.{cargoAfter}
+use Rattle.rules.specs.Check.{metAfter}
+use Rattle.rules.specs.Home.{due}
+use Rattle.rules.specs.Build.{Truck, fresh, doing, oneVehicle, resting}
+use Rattle.rules.specs.declared.walk.Cargo.{Cargo}
+use Rattle.laws.specs.Lists.{collect, Fresh}
 use Rattle.laws.proofs.Fresh.{collect-append, fresh-append, fresh-length, every-append}
-use Rattle.day.specs.Fields.{stops}
-use Rattle.checker.specs.Cargo.{cargoAfter}
-use Rattle.checker.specs.Check.{metAfter}
-use Rattle.checker.specs.Plan.{Task, serve, empty, lunch, Round, stopsOn, stopsOnAll, Known}
-use Rattle.checker.specs.Vehicles.{wordFor}
-use Rattle.checker.specs.declared.walk.Cargo.{Cargo}
 use Rattle.checker.proofs.PlanChecks.{known-all}
-use Rattle.builder.specs.Build.{Truck, fresh, doing, oneVehicle, resting}
-use Rattle.builder.specs.Home.{due}
 use Rattle.builder.specs.Reached.{Reached}
 use Rattle.builder.proofs.Driving.{reached-keeps, vehicle-keeps, resting-keeps}
 use Rattle.builder.proofs.NextTasks.{IsNext, takes, empties, waits}

@@ -7,13 +7,13 @@ use mathlib.Core.List.{List}
 use native.Mathlib.Omega.{arith}
 use lib.Dec.{leb, eqb, ltb}
 use borrow.Author.Tests.{leb-true, eqb-false, not-true, le-ltb, ne-eqb}
-use Rattle.laws.specs.Tests.{if_then_else_}
+use Rattle.rules.specs.Tests.{if_then_else_}
+use Rattle.rules.specs.Fields.{closing, restOpening, restClosing}
+use Rattle.rules.specs.Trip.{arrival, visited, restStart, restedAt, restFault, backFault}
+use Rattle.rules.specs.Tips.{nearestTip}
+use Rattle.rules.specs.Home.{due, restIfDue, homeDirect, homeByTip, homeLoaded, wayHome}
+use Rattle.rules.specs.declared.walk.Trip.{Trip}
 use Rattle.laws.proofs.Tests.{both-true, only-second}
-use Rattle.day.specs.Fields.{closing, restOpening, restClosing}
-use Rattle.checker.specs.Trip.{arrival, visited, restStart, restedAt, restFault, backFault}
-use Rattle.checker.specs.declared.walk.Trip.{Trip}
-use Rattle.builder.specs.Home.{due, restIfDue, homeDirect, homeByTip, homeLoaded, wayHome}
-use Rattle.builder.specs.Tips.{nearestTip}
 
 module _ (day : List ℕ) (t : Trip) where
   -- a rest that is due: the vehicle had none, and it is within the window

@@ -3,11 +3,11 @@ use Prim.Native.Nat.{ℕ}
 use mathlib.Core.Path.{_≡_}
 use mathlib.Core.Bool.{true}
 use mathlib.Core.List.{List}
+use Rattle.rules.specs.Fields.{stopPlace}
+use Rattle.rules.specs.Cargo.{emptied}
+use Rattle.rules.specs.Trip.{visited}
+use Rattle.rules.specs.Choice.{taking}
 use Rattle.laws.specs.Marks.{marked, Unmarked}
-use Rattle.day.specs.Fields.{stopPlace}
-use Rattle.checker.specs.Cargo.{emptied}
-use Rattle.checker.specs.Trip.{visited}
-use Rattle.builder.specs.Choice.{taking}
 use Rattle.builder.specs.declared.state.State.{State}
 use Rattle.builder.specs.declared.tasks.Next.{Next}
 use Rattle.builder.specs.declared.tasks.Next.the-variants as Nexts

@@ -3,15 +3,15 @@ use Prim.Native.Nat.{ℕ, _*_, _≤_, _<_}
 use mathlib.Core.Path.{_≡_}
 use mathlib.Core.List.{List, _∷_, map}
 use lib.ListN.{length}
+use Rattle.rules.specs.Lists.{unmet}
+use Rattle.rules.specs.Fields.{stops}
+use Rattle.rules.specs.PlanWords.{vehicleWord}
+use Rattle.rules.specs.Plan.{taskWord, roundWords}
+use Rattle.rules.specs.Build.{Truck, fresh, resting, nextTask, oneVehicle}
 use Rattle.laws.specs.Buffer.{Wrote}
-use Rattle.laws.specs.Lists.{unmet}
 use Rattle.laws.specs.Marks.{marked, onesOf}
-use Rattle.day.specs.Fields.{stops}
 use Rattle.day.specs.declared.fields.Layout.{Layout}
-use Rattle.checker.specs.Plan.{taskWord, roundWords}
-use Rattle.checker.specs.PlanWords.{vehicleWord}
 use Rattle.marks.specs.declared.Marks.{Marks}
-use Rattle.builder.specs.Build.{Truck, fresh, resting, nextTask, oneVehicle}
 use Rattle.builder.specs.NextBy.{nextOf, NextWithin}
 use Rattle.builder.specs.Reached.{Reached}
 use Rattle.builder.specs.States.{unrouted}

@@ -3,12 +3,12 @@ use Prim.Native.Nat.{ℕ, zero, suc, _<_}
 use mathlib.Core.Path.{_≡_}
 use mathlib.Core.Bool.{Bool, false}
 use mathlib.Core.List.{List, [], _∷_, _++_, map}
+use Rattle.rules.specs.Tests.{if_then_else_}
+use Rattle.rules.specs.PlanWords.{leftWord}
+use Rattle.rules.specs.Build.{remaining}
 use Rattle.laws.specs.Buffer.{Wrote}
 use Rattle.laws.specs.Marks.{marked}
-use Rattle.laws.specs.Tests.{if_then_else_}
-use Rattle.checker.specs.PlanWords.{leftWord}
 use Rattle.marks.specs.declared.Marks.{Marks}
-use Rattle.builder.specs.Build.{remaining}
 use Rattle.builder.specs.States.{unrouted}
 
 -- the marked ones of the r numbers from k on, rising

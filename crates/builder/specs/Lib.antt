@@ -1,12 +1,7 @@
-pub mod Build
-pub mod Built
-pub mod Choice
 pub mod Done
 pub mod Going
-pub mod Home
 pub mod Lefts
 pub mod NextBy
 pub mod Reached
 pub mod Rooms
 pub mod States
-pub mod Tips

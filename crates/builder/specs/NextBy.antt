@@ -4,18 +4,18 @@ use mathlib.Core.Bool.{Bool, true, false}
 use mathlib.Core.List.{List}
 use mathlib.Core.Option.{Option, none, some}
 use lib.Dec.{ltb}
+use Rattle.rules.specs.Tests.{if_then_else_}
+use Rattle.rules.specs.Least.{least}
+use Rattle.rules.specs.Fields.{stops}
+use Rattle.rules.specs.PlanWords.{stopWord, tipWord, backWord}
+use Rattle.rules.specs.Plan.{Task, serve, empty}
+use Rattle.rules.specs.Tips.{nearestTip}
+use Rattle.rules.specs.Choice.{takeable, waitable, nearKey, openKey, chosenStop}
+use Rattle.rules.specs.Build.{serving, emptying}
+use Rattle.rules.specs.declared.walk.Cargo.{Cargo}
+use Rattle.rules.specs.declared.walk.Trip.{Trip}
 use Rattle.laws.specs.Marks.{both}
-use Rattle.laws.specs.Least.{least}
-use Rattle.laws.specs.Tests.{if_then_else_}
-use Rattle.day.specs.Fields.{stops}
 use Rattle.day.specs.declared.fields.Layout.{Layout}
-use Rattle.checker.specs.Plan.{Task, serve, empty}
-use Rattle.checker.specs.PlanWords.{stopWord, tipWord, backWord}
-use Rattle.checker.specs.declared.walk.Cargo.{Cargo}
-use Rattle.checker.specs.declared.walk.Trip.{Trip}
-use Rattle.builder.specs.Build.{serving, emptying}
-use Rattle.builder.specs.Choice.{takeable, waitable, nearKey, openKey, chosenStop}
-use Rattle.builder.specs.Tips.{nearestTip}
 use Rattle.builder.specs.declared.tasks.Next.{Next}
 use Rattle.builder.specs.declared.tasks.Next.the-variants as Nexts
 

@@ -3,8 +3,8 @@ use Prim.Native.Nat.{ℕ}
 use mathlib.Core.Path.{_≡_}
 use mathlib.Core.List.{List}
 use mathlib.Core.Option.{some}
-use Rattle.checker.specs.Plan.{Task}
-use Rattle.builder.specs.Build.{Truck, fresh, doing, resting, nextTask}
+use Rattle.rules.specs.Plan.{Task}
+use Rattle.rules.specs.Build.{Truck, fresh, doing, resting, nextTask}
 
 -- the vehicles that the build reaches before a rest and a task: a fresh one, and one that has done its next task
 pub data Reached (day before : List ℕ) : Truck → Type 0 where

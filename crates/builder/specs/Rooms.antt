@@ -4,10 +4,10 @@ use mathlib.Core.Path.{_≡_}
 use mathlib.Core.List.{[], _∷_}
 use lib.Dec.{ltb}
 use lib.ListN.{length}
-use Rattle.laws.specs.Tests.{if_then_else_}
-use Rattle.checker.specs.Lawful.{restsIn}
-use Rattle.checker.specs.Plan.{serve, empty, lunch, Round, stopsOn}
-use Rattle.builder.specs.Build.{Truck}
+use Rattle.rules.specs.Tests.{if_then_else_}
+use Rattle.rules.specs.Plan.{serve, empty, lunch, Round, stopsOn}
+use Rattle.rules.specs.Lawful.{restsIn}
+use Rattle.rules.specs.Build.{Truck}
 
 -- how many tips a vehicle visits
 unfoldable pub emptiesIn : Round → ℕ

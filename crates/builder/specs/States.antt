@@ -3,11 +3,11 @@
 use Prim.Native.Nat.{ℕ, _<_}
 use mathlib.Core.Bool.{Bool, not, _&&_}
 use mathlib.Core.List.{List}
-use Rattle.laws.specs.Lists.{mem}
+use Rattle.rules.specs.Lists.{mem}
+use Rattle.rules.specs.Fields.{places}
+use Rattle.rules.specs.declared.walk.Cargo.{Cargo}
+use Rattle.rules.specs.declared.walk.Trip.{Trip}
 use Rattle.laws.specs.Marks.{upTo}
-use Rattle.day.specs.Fields.{places}
-use Rattle.checker.specs.declared.walk.Cargo.{Cargo}
-use Rattle.checker.specs.declared.walk.Trip.{Trip}
 
 -- a trip is at a place of the day, at a small minute, and its distance is below a number
 pub record SmallTrip (day : List ℕ) (most : ℕ) (t : Trip) : Type 0 where

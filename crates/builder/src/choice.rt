@@ -3,21 +3,21 @@ ghost use mathlib.Core.Path.{_≡_};
 ghost use mathlib.Core.Bool.{false, not, _||_};
 ghost use Prim.Native.Nat.{_+_, _<_, _≤_};
 ghost use lib.Dec.{eqb, ltb};
+ghost use Rattle.rules.specs.Least.{better, least};
+ghost use Rattle.rules.specs.Fields.{stops, stopPlace, opening, closing};
+ghost use Rattle.rules.specs.Cargo.{loaded, overLimits};
+ghost use Rattle.rules.specs.Trip.{arrival};
+ghost use Rattle.rules.specs.Choice.{taking, suits, takeable, waitable, nearKey, openKey};
 ghost use Rattle.laws.specs.Marks.{marked, both, upTo};
-ghost use Rattle.laws.specs.Least.{better, least};
 ghost use Rattle.laws.specs.Walk.{bestOf};
-ghost use Rattle.day.specs.Fields.{stops, stopPlace, opening, closing};
 ghost use Rattle.day.specs.Layout.{LayoutOf};
-ghost use Rattle.checker.specs.Cargo.{loaded, overLimits};
-ghost use Rattle.checker.specs.Trip.{arrival};
-ghost use Rattle.builder.specs.Choice.{taking, suits, takeable, waitable, nearKey, openKey};
 ghost use Rattle.builder.specs.States.{SmallTrip, SmallCargo};
 use crate::home::is_way_home;
 use crate::home::visit_stop;
-use checker::walk::Cargo;
-use checker::walk::Trip;
 use day::fields::Layout;
 use marks::Marks;
+use rules::walk::Cargo;
+use rules::walk::Trip;
 
 // Whether the kg of one stop more stay within Q, Q* and S*.
 fn fits(day: &[u32], z: Layout, c: Cargo, q: u32) -> bool

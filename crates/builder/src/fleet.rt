@@ -2,12 +2,12 @@
 ghost use Prim.Native.Nat.{_*_, _+_, _≤_};
 ghost use mathlib.Core.List.{[]};
 ghost use lib.ListN.{length};
+ghost use Rattle.rules.specs.Lists.{unmet};
+ghost use Rattle.rules.specs.Fields.{stops};
+ghost use Rattle.rules.specs.Plan.{roundsWords};
+ghost use Rattle.rules.specs.Build.{greedyRounds, routed};
 ghost use Rattle.laws.specs.Buffer.{Wrote};
-ghost use Rattle.day.specs.Fields.{stops};
 ghost use Rattle.day.specs.Layout.{LayoutOf};
-ghost use Rattle.checker.specs.Plan.{roundsWords};
-ghost use Rattle.laws.specs.Lists.{unmet};
-ghost use Rattle.builder.specs.Build.{greedyRounds, routed};
 ghost use Rattle.builder.specs.Going.{LeftOf};
 use crate::writer::Written;
 use crate::writer::write_vehicle;

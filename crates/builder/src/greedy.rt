@@ -2,15 +2,17 @@
 ghost use mathlib.Core.Path.{_≡_};
 ghost use Prim.Native.Nat.{_*_, _≤_};
 ghost use lib.ListN.{length};
-ghost use Rattle.day.specs.Accepted.{IsAccepted};
+ghost use Rattle.rules.specs.Accepted.{IsAccepted};
+ghost use Rattle.rules.specs.Build.{greedyLefts, greedyPlan};
+ghost use Rattle.rules.specs.AnswerValues.{planValues};
+ghost use Rattle.rules.specs.Built.{planned, builtAnswer, builtBuffer};
 ghost use Rattle.day.specs.Layout.{LayoutOf};
-ghost use Rattle.builder.specs.Build.{greedyLefts, greedyPlan};
-ghost use Rattle.builder.specs.Built.{planValues, planned, builtAnswer, builtBuffer};
-use crate::PlanAnswer;
 use crate::fleet::write_vehicles;
 use crate::lefts::fill_zeros;
 use crate::lefts::write_lefts;
 use day::fields::Layout;
+use rules::answers::Answer;
+use rules::answers::PlanAnswer;
 
 // How many words a plan has, and how many stops it leaves out.
 pub struct Size {
@@ -51,7 +53,7 @@ pub fn build_accepted(day: &[u32], z: Layout, plan: &mut [u32]) -> PlanAnswer
     let words = size.words;
     let answer = checker::check_accepted(day, z, &plan[0..words]);
     match answer {
-        checker::Answer::Lawful {
+        Answer::Lawful {
             distance,
             vehicles: _,
             served: _,
@@ -62,6 +64,6 @@ pub fn build_accepted(day: &[u32], z: Layout, plan: &mut [u32]) -> PlanAnswer
             left_out: size.lefts,
             words,
         },
-        checker::Answer::Refused { number, place } => PlanAnswer::Refused { number, place },
+        Answer::Refused { number, place } => PlanAnswer::Refused { number, place },
     }
 }

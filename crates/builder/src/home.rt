@@ -1,14 +1,14 @@
 // Rest if due, and the way home.
 ghost use mathlib.Core.Path.{_≡_};
 ghost use Prim.Native.Nat.{_<_, _≤_, max};
-ghost use Rattle.day.specs.Fields.{stopPlace, service};
+ghost use Rattle.rules.specs.Fields.{stopPlace, service};
+ghost use Rattle.rules.specs.Trip.{visited};
+ghost use Rattle.rules.specs.Home.{due, restIfDue, homeDirect, homeByTip, wayHome};
 ghost use Rattle.day.specs.Layout.{LayoutOf, WindowOf};
-ghost use Rattle.checker.specs.Trip.{visited};
-ghost use Rattle.builder.specs.Home.{due, restIfDue, homeDirect, homeByTip, wayHome};
 ghost use Rattle.builder.specs.States.{SmallTrip};
-use checker::walk::Trip;
 use day::fields::Layout;
 use day::fields::Window;
+use rules::walk::Trip;
 
 fn later(a: u32, b: u32) -> u32
     ensures { λ r. ⌜ r ≡ max a b ⌝ }

@@ -2,13 +2,13 @@
 ghost use mathlib.Core.Path.{_≡_};
 ghost use mathlib.Core.Bool.{true};
 ghost use Prim.Native.Nat.{_<_, _≤_};
+ghost use Rattle.rules.specs.Fields.{stopPlace};
+ghost use Rattle.rules.specs.Cargo.{empty, emptied};
+ghost use Rattle.rules.specs.Trip.{leaving, visited};
+ghost use Rattle.rules.specs.Home.{restIfDue};
+ghost use Rattle.rules.specs.Choice.{taking};
 ghost use Rattle.laws.specs.Marks.{marked, Unmarked};
-ghost use Rattle.day.specs.Fields.{stopPlace};
 ghost use Rattle.day.specs.Layout.{LayoutOf};
-ghost use Rattle.checker.specs.Cargo.{empty, emptied};
-ghost use Rattle.checker.specs.Trip.{leaving, visited};
-ghost use Rattle.builder.specs.Choice.{taking};
-ghost use Rattle.builder.specs.Home.{restIfDue};
 ghost use Rattle.builder.specs.NextBy.{NextWithin, nextWord, isTask};
 ghost use Rattle.builder.specs.States.{SmallTrip, SmallCargo};
 ghost use Rattle.builder.specs.Done.{Done, Doable};
@@ -16,10 +16,10 @@ use crate::home::rest_if_due;
 use crate::home::visit;
 use crate::home::visit_stop;
 use crate::tasks::Next;
-use checker::walk::Cargo;
-use checker::walk::Trip;
 use day::fields::Layout;
 use marks::Marks;
+use rules::walk::Cargo;
+use rules::walk::Trip;
 
 pub struct State {
     pub trip: Trip,

@@ -1,20 +1,20 @@
 // What a vehicle does next: steps 3, 4 and 5.
 ghost use mathlib.Core.Path.{_≡_};
 ghost use Prim.Native.Nat.{_<_, _≤_};
+ghost use Rattle.rules.specs.Tips.{nearestTip};
+ghost use Rattle.rules.specs.Choice.{nearCapacity, farther, chosenStop};
+ghost use Rattle.rules.specs.Build.{emptying};
 ghost use Rattle.laws.specs.Marks.{marked};
 ghost use Rattle.day.specs.Layout.{LayoutOf};
-ghost use Rattle.builder.specs.Choice.{nearCapacity, farther, chosenStop};
-ghost use Rattle.builder.specs.Build.{emptying};
-ghost use Rattle.builder.specs.Tips.{nearestTip};
 ghost use Rattle.builder.specs.NextBy.{nextOf, waitBy, nextBy, NextWithin};
 ghost use Rattle.builder.specs.States.{SmallTrip, SmallCargo};
 use crate::choice::earliest_stop;
 use crate::choice::nearest_stop;
 use crate::tips::nearest_tip;
-use checker::walk::Cargo;
-use checker::walk::Trip;
 use day::fields::Layout;
 use marks::Marks;
+use rules::walk::Cargo;
+use rules::walk::Trip;
 
 // The next task: a stop, a tip, or back to the depot.
 pub enum Next {

@@ -1,10 +1,10 @@
 // The nearest open tip, in one pass over the tips.
 ghost use mathlib.Core.Path.{_≡_};
 ghost use Prim.Native.Nat.{_<_, _≤_};
-ghost use Rattle.laws.specs.Least.{better};
-ghost use Rattle.day.specs.Fields.{legMinutes};
+ghost use Rattle.rules.specs.Least.{better};
+ghost use Rattle.rules.specs.Fields.{legMinutes};
+ghost use Rattle.rules.specs.Tips.{openTip, nearestTip};
 ghost use Rattle.day.specs.Layout.{LayoutOf};
-ghost use Rattle.builder.specs.Tips.{openTip, nearestTip};
 use day::fields::Layout;
 
 // Tip k in place of the best so far, where it is open on arrival and nearer. 0 stands for none.

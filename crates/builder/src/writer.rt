@@ -2,13 +2,13 @@
 ghost use mathlib.Core.Path.{_≡_};
 ghost use Prim.Native.Nat.{_+_, _<_};
 ghost use lib.ListN.{length, set};
-ghost use Rattle.laws.specs.Tests.{if_then_else_};
+ghost use Rattle.rules.specs.Tests.{if_then_else_};
+ghost use Rattle.rules.specs.PlanWords.{restWord};
+ghost use Rattle.rules.specs.Cargo.{empty};
+ghost use Rattle.rules.specs.Trip.{leaving};
+ghost use Rattle.rules.specs.Home.{due};
 ghost use Rattle.day.specs.Layout.{LayoutOf};
-ghost use Rattle.checker.specs.Cargo.{empty};
-ghost use Rattle.checker.specs.PlanWords.{restWord};
-ghost use Rattle.checker.specs.Trip.{leaving};
 ghost use Rattle.builder.specs.Going.{SomeGoing, GoesOn, EndsAll, SetsOut, SomeLeft, WritesOne};
-ghost use Rattle.builder.specs.Home.{due};
 ghost use mathlib.Core.Bool.{true};
 ghost use Rattle.builder.specs.NextBy.{isTask};
 use crate::home::is_due;
@@ -20,9 +20,9 @@ use crate::state::rest_state;
 use crate::state::word_of;
 use crate::tasks::Next;
 use crate::tasks::next_task;
-use checker::walk::Trip;
 use day::fields::Layout;
 use marks::Marks;
+use rules::walk::Trip;
 
 // The D word where a rest is due; how many words there are then.
 fn write_rest(day: &[u32], z: Layout, t: Trip, part: &mut [u32], at: usize) -> usize

@@ -3,15 +3,15 @@ use Prim.Native.Nat.{ℕ}
 use mathlib.Core.Path.{_≡_, sym, ap, _∙_}
 use mathlib.Core.List.{List, [], _∷_}
 use lib.ListN.{length}
-use Rattle.laws.specs.Answers.{given, refused}
-use Rattle.day.specs.Answers.{dayValues}
-use Rattle.day.specs.Day.{wordsOf, judgeDay}
-use Rattle.day.specs.Fields.{tips, stops}
-use Rattle.day.specs.declared.DayAnswer.{DayAnswer}
-use Rattle.day.specs.declared.DayAnswer.the-variants as Days
+use Rattle.rules.specs.Answers.{given, refused}
+use Rattle.rules.specs.DayFile.{wordsOf, judgeDay}
+use Rattle.rules.specs.Fields.{tips, stops}
+use Rattle.rules.specs.Check.{checkWords, checkPlan}
+use Rattle.rules.specs.AnswerValues.{dayValues}
+use Rattle.rules.specs.declared.answers.DayAnswer.{DayAnswer}
+use Rattle.rules.specs.declared.answers.DayAnswer.the-variants as Days
 use Rattle.day.proofs.Answered.{refused-not-given, given-accepted}
 use Rattle.day.proofs.Ranges.{accepted-ranges}
-use Rattle.checker.specs.Check.{checkWords, checkPlan}
 
 module _ (day plan : List ℕ) (judged : DayAnswer) (e : dayValues judged ≡ judgeDay day) where
   pub day-refused : {number place : ℕ} → judged ≡ Days.Refused number place → refused number place ≡ checkPlan day plan

@@ -7,19 +7,19 @@ use mathlib.Core.List.{List}
 use native.Mathlib.Omega.{arith}
 use lib.Dec.{ltb}
 use borrow.Author.Tests.{ltb-false}
-use Rattle.laws.specs.Tests.{if_then_else_}
+use Rattle.rules.specs.Tests.{if_then_else_}
+use Rattle.rules.specs.Fields.{tips, stops, places, stopPlace, closing, restClosing, quantity}
+use Rattle.rules.specs.PlanWords.{Word, vehicle, stop, tip, rest, back, left, stray}
+use Rattle.rules.specs.Cargo.{empty, loaded, overLimits, cargoFault, cargoAfter}
+use Rattle.rules.specs.Trip.{leaving, visitStart, restStart, arrival, visitFault, restFault, backFault, tripFault, tripAfter}
+use Rattle.rules.specs.Check.{untold, within, wellFormed, tallyAfter}
+use Rattle.rules.specs.declared.walk.Cargo.{Cargo}
+use Rattle.rules.specs.declared.walk.Tally.{Tally}
+use Rattle.rules.specs.declared.walk.Trip.{Trip}
 use Rattle.laws.proofs.Tests.{both-true, only-second}
-use Rattle.day.specs.Fields.{tips, stops, places, stopPlace, closing, restClosing, quantity}
-use Rattle.checker.specs.Cargo.{empty, loaded, overLimits, cargoFault, cargoAfter}
-use Rattle.checker.specs.Check.{untold, within, wellFormed, tallyAfter}
-use Rattle.checker.specs.PlanWords.{Word, vehicle, stop, tip, rest, back, left, stray}
 use Rattle.checker.specs.Steps.{Next, CargoWithin, TripWithin, TallyWithin, Within, walkOf}
-use Rattle.checker.specs.Trip.{leaving, visitStart, restStart, arrival, visitFault, restFault, backFault, tripFault, tripAfter}
 use Rattle.checker.specs.declared.steps.State.{State}
 use Rattle.checker.specs.declared.steps.Step.{Step}
-use Rattle.checker.specs.declared.walk.Cargo.{Cargo}
-use Rattle.checker.specs.declared.walk.Tally.{Tally}
-use Rattle.checker.specs.declared.walk.Trip.{Trip}
 use Rattle.checker.proofs.Forming.{within-both}
 use Rattle.checker.proofs.Loads.{not-over}
 use Rattle.checker.proofs.Passing.{Passes}

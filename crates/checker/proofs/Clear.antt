@@ -4,11 +4,11 @@
 use Prim.Native.Nat.{ℕ}
 use mathlib.Core.List.{List}
 use native.Mathlib.Omega.{arith}
-use Rattle.day.specs.Fields.{opening}
-use Rattle.checker.specs.Cargo as Carried
-use Rattle.checker.specs.Lawful.{Loads, Timed}
-use Rattle.checker.specs.Plan.{Round}
-use Rattle.checker.specs.Trip.{leaving}
+use Rattle.rules.specs.Fields.{opening}
+use Rattle.rules.specs.Plan.{Round}
+use Rattle.rules.specs.Lawful.{Loads, Timed}
+use Rattle.rules.specs.Cargo as Carried
+use Rattle.rules.specs.Trip.{leaving}
 use Rattle.checker.specs.Vehicles.{Clear}
 use Rattle.checker.proofs.Loads.{cargo-loads, loads-cargo}
 use Rattle.checker.proofs.Timetables.{trip-rests, earliest, trip-timetable, timetable-trip}

@@ -6,16 +6,16 @@ use mathlib.Core.List.{List}
 use native.Mathlib.Omega.{arith}
 use lib.Dec.{ltb}
 use borrow.Author.Tests.{lt-ltb, le-ltb}
-use Rattle.laws.specs.Tests.{if_then_else_}
-use Rattle.day.specs.Fields.{stopPlace, opening, closing, restOpening, restClosing, restMinutes, service}
+use Rattle.rules.specs.Tests.{if_then_else_}
+use Rattle.rules.specs.Fields.{stopPlace, opening, closing, restOpening, restClosing, restMinutes, service}
+use Rattle.rules.specs.Trip.{leaving, arrival, visitStart, restStart, driven, visited, restedAt, visitFault, restFault, backFault}
+use Rattle.rules.specs.declared.walk.Trip.{Trip}
 use Rattle.day.specs.Layout.{LayoutOf, WindowOf, LegOf}
 use Rattle.day.specs.declared.fields.Layout.{Layout}
 use Rattle.day.specs.declared.fields.Leg.{Leg}
 use Rattle.day.specs.declared.fields.Window.{Window}
 use Rattle.checker.specs.Steps.{DrivenTo}
-use Rattle.checker.specs.Trip.{leaving, arrival, visitStart, restStart, driven, visited, restedAt, visitFault, restFault, backFault}
 use Rattle.checker.specs.declared.trip.Driven.{Driven}
-use Rattle.checker.specs.declared.walk.Trip.{Trip}
 
 -- a fault other than 0 leaves no trip to speak of
 at-fault : (r : Driven) (f : ℕ) {fault : ℕ} {trip : Trip} → fault ≡ f → 0 < f → r .fault ≡ f → DrivenTo fault trip r

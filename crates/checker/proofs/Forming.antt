@@ -7,11 +7,11 @@ use native.Mathlib.Omega.{arith}
 use lib.Dec.{eqb, ltb, leb}
 use lib.ListN.{getD}
 use borrow.Author.Tests.{eq-eqb, ne-eqb, lt-leb, le-leb, leb-true, not-false}
+use Rattle.rules.specs.PlanWords.{Word, vehicle, stop, tip, rest, back, left, stray, stopWord, tipWord, restWord, backWord, wordOf}
+use Rattle.rules.specs.Check.{within, wellFormed}
 use Rattle.laws.proofs.Tests.{both-true}
 use Rattle.day.specs.Layout.{LayoutOf}
 use Rattle.day.specs.declared.fields.Layout.{Layout}
-use Rattle.checker.specs.Check.{within, wellFormed}
-use Rattle.checker.specs.PlanWords.{Word, vehicle, stop, tip, rest, back, left, stray, stopWord, tipWord, restWord, backWord, wordOf}
 use Rattle.checker.specs.Steps.{isMetIn, formedFault, faultBy, StepOf}
 use Rattle.checker.specs.declared.steps.State.{State}
 use Rattle.checker.specs.declared.steps.Step.{Step}

@@ -6,20 +6,20 @@ use mathlib.Core.List.{List}
 use native.Mathlib.Omega.{arith}
 use lib.ListN.{length, getD, set}
 use borrow.Author.Tests.{not-false}
+use Rattle.rules.specs.PlanWords.{Word, vehicle, stop, tip, rest, back, left, stray, wordOf}
+use Rattle.rules.specs.Cargo.{empty, cargoAfter}
+use Rattle.rules.specs.Trip.{leaving}
+use Rattle.rules.specs.Check.{wellFormed, tallyAfter, start, checkFrom}
+use Rattle.rules.specs.declared.walk.Cargo.{Cargo}
+use Rattle.rules.specs.declared.walk.Tally.{Tally}
+use Rattle.rules.specs.declared.walk.Trip.{Trip}
 use Rattle.day.specs.Layout.{LayoutOf}
 use Rattle.day.specs.declared.fields.Layout.{Layout}
-use Rattle.checker.specs.Cargo.{empty, cargoAfter}
-use Rattle.checker.specs.Check.{wellFormed, tallyAfter, start, checkFrom}
-use Rattle.checker.specs.PlanWords.{Word, vehicle, stop, tip, rest, back, left, stray, wordOf}
 use Rattle.checker.specs.Steps.{faultBy, Next, StepOf, TallyWithin, Within, outWith, endOf, Reached, PartTo, ToldAll}
-use Rattle.checker.specs.Trip.{leaving}
 use Rattle.checker.specs.declared.parts.Part.{Part}
 use Rattle.checker.specs.declared.parts.Told.{Told}
 use Rattle.checker.specs.declared.steps.State.{State}
 use Rattle.checker.specs.declared.steps.Step.{Step}
-use Rattle.checker.specs.declared.walk.Cargo.{Cargo}
-use Rattle.checker.specs.declared.walk.Tally.{Tally}
-use Rattle.checker.specs.declared.walk.Trip.{Trip}
 use Rattle.checker.proofs.Reaching.{stop-byte, reached-next, reached-passed, reached-small, reached-tally, reached-end}
 
 -- a tally with so many stops served

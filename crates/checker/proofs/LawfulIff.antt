@@ -9,20 +9,20 @@ use native.Mathlib.Omega.{arith}
 use lib.ListN.{length}
 use lib.Dec.{ltb, eqb}
 use borrow.Author.Tests.{eqb-false, ltb-false, ne-eqb}
-use Rattle.laws.specs.Answers.{given, refused, isGiven}
-use Rattle.laws.specs.Lists.{Every, unmet, total}
-use Rattle.laws.specs.Tests.{if_then_else_}
+use Rattle.rules.specs.Tests.{if_then_else_}
+use Rattle.rules.specs.Answers.{given, refused, isGiven}
+use Rattle.rules.specs.Lists.{Every, unmet, total}
+use Rattle.rules.specs.DayFile.{judgeDay}
+use Rattle.rules.specs.Fields.{stops}
+use Rattle.rules.specs.Accepted.{IsAccepted}
+use Rattle.rules.specs.PlanWords.{wordOf}
+use Rattle.rules.specs.Plan.{Round, planWords, stopsOnAll}
+use Rattle.rules.specs.Lawful.{Loads, Timed, Lawful, totals, distanceFrom}
+use Rattle.rules.specs.Trip.{leaving}
+use Rattle.rules.specs.Check.{Walk, start, faultAt, walkAfter, finished, checkFrom, checkWords, checkPlan}
 use Rattle.laws.proofs.Fresh.{fresh-once}
 use Rattle.laws.proofs.Tests.{only-second}
-use Rattle.day.specs.Accepted.{IsAccepted}
-use Rattle.day.specs.Day.{judgeDay}
-use Rattle.day.specs.Fields.{stops}
 use Rattle.day.proofs.Answered.{Judged, accepted, refusal, day-judged, given-accepted}
-use Rattle.checker.specs.Check.{Walk, start, faultAt, walkAfter, finished, checkFrom, checkWords, checkPlan}
-use Rattle.checker.specs.Lawful.{Loads, Timed, Lawful, totals, distanceFrom}
-use Rattle.checker.specs.Plan.{Round, planWords, stopsOnAll}
-use Rattle.checker.specs.PlanWords.{wordOf}
-use Rattle.checker.specs.Trip.{leaving}
 use Rattle.checker.specs.Vehicles.{Clear, tripHome}
 use Rattle.checker.proofs.Clear.{clear-loads, clear-timed, timed-clear}
 use Rattle.checker.proofs.Passing.{given-not-refused}

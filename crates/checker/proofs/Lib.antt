@@ -1,6 +1,5 @@
 pub mod Answering
 pub mod Bounds
-pub mod Cases
 pub mod Clear
 pub mod Driving
 pub mod Forming

@@ -5,9 +5,9 @@ use mathlib.Core.Bool.{true}
 use mathlib.Core.List.{List}
 use lib.Dec.{ltb}
 use borrow.Author.Tests.{lt-ltb, le-ltb}
-use Rattle.day.specs.Fields.{loadLimit, dayLimit, stopLimit}
-use Rattle.checker.specs.Cargo.{overLimits}
-use Rattle.checker.specs.declared.walk.Cargo.{Cargo}
+use Rattle.rules.specs.Fields.{loadLimit, dayLimit, stopLimit}
+use Rattle.rules.specs.Cargo.{overLimits}
+use Rattle.rules.specs.declared.walk.Cargo.{Cargo}
 
 module _ (day : List ℕ) (c : Cargo) {load : ℕ} (l : load ≡ loadLimit day) where
   pub over-load : load < c .load → true ≡ overLimits day c

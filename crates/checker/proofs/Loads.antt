@@ -9,15 +9,15 @@ use native.Mathlib.Omega.{arith}
 use lib.ListN.{length}
 use lib.Dec.{ltb}
 use borrow.Author.Tests.{ltb-false, le-ltb}
-use Rattle.laws.specs.Lists.{total}
+use Rattle.rules.specs.Lists.{total}
+use Rattle.rules.specs.Fields.{stopPlace, loadLimit, dayLimit, stopLimit, quantity}
+use Rattle.rules.specs.PlanWords.{stop, back}
+use Rattle.rules.specs.Plan.{serve, empty, lunch, Round, stopsOn}
+use Rattle.rules.specs.Lawful.{loadThen, LoadsWithin, kgOf}
+use Rattle.rules.specs.Cargo.{loaded, emptied, overLimits, cargoFault, cargoAfter}
+use Rattle.rules.specs.declared.walk.Cargo.{Cargo}
 use Rattle.laws.proofs.Tests.{only-second}
-use Rattle.day.specs.Fields.{stopPlace, loadLimit, dayLimit, stopLimit, quantity}
-use Rattle.checker.specs.Cargo.{loaded, emptied, overLimits, cargoFault, cargoAfter}
-use Rattle.checker.specs.Lawful.{loadThen, LoadsWithin, kgOf}
-use Rattle.checker.specs.Plan.{serve, empty, lunch, Round, stopsOn}
-use Rattle.checker.specs.PlanWords.{stop, back}
 use Rattle.checker.specs.Vehicles.{CargoClear}
-use Rattle.checker.specs.declared.walk.Cargo.{Cargo}
 
 -- three tests of which none holds
 none-holds : (a b c : Bool) → (a || b || c) ≡ false → (a ≡ false) × (b ≡ false) × (c ≡ false)

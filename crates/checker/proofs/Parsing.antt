@@ -8,15 +8,16 @@ use native.Mathlib.Omega.{arith}
 use lib.ListN.{length}
 use lib.Dec.{ltb, eqb}
 use borrow.Author.Tests.{ltb-true, ltb-false, eqb-true}
-use Rattle.laws.specs.Answers.{given, refused}
-use Rattle.laws.specs.Lists.{Every, unmet, collect, Fresh, Rising}
-use Rattle.laws.specs.Tests.{if_then_else_}
+use Rattle.rules.specs.Tests.{if_then_else_}
+use Rattle.rules.specs.Answers.{given, refused}
+use Rattle.rules.specs.Lists.{Every, unmet, Rising}
+use Rattle.rules.specs.Fields.{tips, stops}
+use Rattle.rules.specs.PlanWords.{Word, stop, tip, rest, back, left, backWord, leftWord}
+use Rattle.rules.specs.Plan.{serve, empty, lunch, Round, taskWord, stopsOn, Known}
+use Rattle.rules.specs.Cargo.{cargoAfter}
+use Rattle.rules.specs.Check.{within, wellFormed, metAgain, metAfter, tallyAfter, Walk, walkAfter, finished, checkFrom}
+use Rattle.laws.specs.Lists.{collect, Fresh}
 use Rattle.laws.proofs.Tests.{both-true}
-use Rattle.day.specs.Fields.{tips, stops}
-use Rattle.checker.specs.Cargo.{cargoAfter}
-use Rattle.checker.specs.Check.{within, wellFormed, metAgain, metAfter, tallyAfter, Walk, walkAfter, finished, checkFrom}
-use Rattle.checker.specs.Plan.{serve, empty, lunch, Round, taskWord, stopsOn, Known}
-use Rattle.checker.specs.PlanWords.{Word, stop, tip, rest, back, left, backWord, leftWord}
 use Rattle.checker.specs.Vehicles.{CargoClear, TripClear, walkTasks}
 use Rattle.checker.proofs.Forming.{within-both}
 use Rattle.checker.proofs.Passing.{Passes, answer-passes, given-not-refused}

@@ -8,12 +8,12 @@ use native.Mathlib.Omega.{arith}
 use lib.ListN.{length}
 use lib.Dec.{eqb}
 use borrow.Author.Tests.{eq-eqb, eqb-true, eqb-false}
-use Rattle.laws.specs.Answers.{given, refused}
-use Rattle.laws.specs.Tests.{if_then_else_}
-use Rattle.checker.specs.Cargo.{cargoFault}
-use Rattle.checker.specs.Check.{wellFormed, metAgain, Walk, faultAt, walkAfter, checkFrom}
-use Rattle.checker.specs.PlanWords.{Word, wordOf}
-use Rattle.checker.specs.Trip.{tripFault}
+use Rattle.rules.specs.Tests.{if_then_else_}
+use Rattle.rules.specs.Answers.{given, refused}
+use Rattle.rules.specs.PlanWords.{Word, wordOf}
+use Rattle.rules.specs.Cargo.{cargoFault}
+use Rattle.rules.specs.Trip.{tripFault}
+use Rattle.rules.specs.Check.{wellFormed, metAgain, Walk, faultAt, walkAfter, checkFrom}
 
 -- what a word without fault has passed: 7, 8, the load, the minute
 pub record Passes (day : List ℕ) (s : Walk) (w : Word) : Type 0 where

@@ -8,15 +8,15 @@ use native.Mathlib.Omega.{arith}
 use lib.ListN.{length, getD, drop, take, length-drop}
 use lib.Dec.{ltb, eqb}
 use borrow.Author.Tests.{eqb-false, ne-eqb}
-use Rattle.laws.specs.Answers.{given, refused, isGiven}
-use Rattle.laws.specs.Tests.{if_then_else_, neb}
-use Rattle.day.specs.Day.{tipsIn, stopsIn, wordsOf, formAt, faultOf, judgeFrom, judgeSized, judgeDay}
-use Rattle.day.specs.Fields.{stops}
-use Rattle.laws.specs.Lists.{unmet}
-use Rattle.checker.specs.Check.{Walk, start, faultAt, walkAfter, finished, checkFrom, checkWords, checkPlan}
-use Rattle.checker.specs.PlanWords.{backWord, wordOf}
-use Rattle.checker.specs.SameRounds.{counted, sameWords, secondAnswer, sameRounds}
-use Rattle.checker.specs.VehiclePlace.{isVehicle, wordsToBack, placeFrom, vehiclePlace, vehicleWords}
+use Rattle.rules.specs.Tests.{if_then_else_, neb}
+use Rattle.rules.specs.Answers.{given, refused, isGiven}
+use Rattle.rules.specs.Lists.{unmet}
+use Rattle.rules.specs.DayFile.{tipsIn, stopsIn, wordsOf, formAt, faultOf, judgeFrom, judgeSized, judgeDay}
+use Rattle.rules.specs.Fields.{stops}
+use Rattle.rules.specs.PlanWords.{backWord, wordOf}
+use Rattle.rules.specs.Check.{Walk, start, faultAt, walkAfter, finished, checkFrom, checkWords, checkPlan}
+use Rattle.rules.specs.VehiclePlace.{isVehicle, wordsToBack, placeFrom, vehiclePlace, vehicleWords}
+use Rattle.rules.specs.SameRounds.{counted, sameWords, secondAnswer, sameRounds}
 use Rattle.checker.proofs.LawfulIff.{Checked, lawful, fault, words-checked}
 
 -- a refusal is no answer

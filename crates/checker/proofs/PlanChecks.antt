@@ -7,15 +7,16 @@ use mathlib.Core.List.{List, [], _∷_, _++_, map, append-assoc}
 use native.Mathlib.Omega.{arith}
 use lib.ListN.{length, length-append}
 use borrow.Author.Tests.{lt-ltb, le-ltb}
-use Rattle.laws.specs.Answers.{given}
-use Rattle.laws.specs.Lists.{Every, mem, unmet, total, collect, Fresh, Rising}
+use Rattle.rules.specs.Answers.{given}
+use Rattle.rules.specs.Lists.{Every, mem, unmet, total, Rising}
+use Rattle.rules.specs.Fields.{stops}
+use Rattle.rules.specs.PlanWords.{left, leftWord}
+use Rattle.rules.specs.Plan.{serve, empty, lunch, Round, roundWords, roundsWords, planWords, stopsOn, stopsOnAll, Known, Formed}
+use Rattle.rules.specs.Cargo.{cargoFault}
+use Rattle.rules.specs.Trip.{leaving}
+use Rattle.rules.specs.Check.{wellFormed, metAgain, metAfter, tallyAfter, Walk, start, walkAfter, finished, checkFrom, checkWords}
+use Rattle.laws.specs.Lists.{collect, Fresh}
 use Rattle.laws.proofs.Fresh.{collect-append, every-append, fresh-first, fresh-second, fresh-length, once-fresh, once-all, unmet-most}
-use Rattle.day.specs.Fields.{stops}
-use Rattle.checker.specs.Cargo.{cargoFault}
-use Rattle.checker.specs.Check.{wellFormed, metAgain, metAfter, tallyAfter, Walk, start, walkAfter, finished, checkFrom, checkWords}
-use Rattle.checker.specs.Plan.{serve, empty, lunch, Round, roundWords, roundsWords, planWords, stopsOn, stopsOnAll, Known, Formed}
-use Rattle.checker.specs.PlanWords.{left, leftWord}
-use Rattle.checker.specs.Trip.{leaving}
 use Rattle.checker.specs.Vehicles.{Clear, tripHome, walkRound, walkRounds}
 use Rattle.checker.proofs.Passing.{Passes, word-passes}
 use Rattle.checker.proofs.RoundChecks.{within-true, round-check}

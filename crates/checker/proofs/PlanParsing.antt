@@ -7,15 +7,16 @@ use native.Mathlib.Omega.{arith}
 use lib.ListN.{length, length-append}
 use lib.Dec.{ltb, eqb}
 use borrow.Author.Tests.{ltb-true, eqb-true}
-use Rattle.laws.specs.Answers.{given}
-use Rattle.laws.specs.Lists.{Every, unmet, collect, Fresh, Rising}
+use Rattle.rules.specs.Answers.{given}
+use Rattle.rules.specs.Lists.{Every, unmet, Rising}
+use Rattle.rules.specs.Fields.{stops}
+use Rattle.rules.specs.PlanWords.{Word, vehicle, left, vehicleWord, backWord, leftWord}
+use Rattle.rules.specs.Plan.{Round, taskWord, roundWords, roundsWords, stopsOn, stopsOnAll, Known}
+use Rattle.rules.specs.Cargo.{cargoAfter}
+use Rattle.rules.specs.Check.{within, wellFormed, metAfter, tallyAfter, Walk, walkAfter, checkFrom}
+use Rattle.laws.specs.Lists.{collect, Fresh}
 use Rattle.laws.proofs.Fresh.{collect-append, fresh-append}
 use Rattle.laws.proofs.Tests.{both-true}
-use Rattle.day.specs.Fields.{stops}
-use Rattle.checker.specs.Cargo.{cargoAfter}
-use Rattle.checker.specs.Check.{within, wellFormed, metAfter, tallyAfter, Walk, walkAfter, checkFrom}
-use Rattle.checker.specs.Plan.{Round, taskWord, roundWords, roundsWords, stopsOn, stopsOnAll, Known}
-use Rattle.checker.specs.PlanWords.{Word, vehicle, left, vehicleWord, backWord, leftWord}
 use Rattle.checker.specs.Vehicles.{Clear, walkRound}
 use Rattle.checker.proofs.Parsing.{inside-needed, InRound, inside-parse, InLefts, none-missing, left-first, lefts-parse}
 use Rattle.checker.proofs.Passing.{Passes, answer-passes}

@@ -11,20 +11,20 @@ use lib.Dec.{eqb, ltb}
 use lib.ListN.{length, getD, set, drop, length-set, length-replicate, getD-replicate, drop-of-length-le}
 use lib.Seq.{drop-cons, getD-set-same, getD-set-other}
 use borrow.Author.Tests.{ne-eqb, lt-ltb, le-ltb}
-use Rattle.laws.specs.Answers.{refused}
-use Rattle.laws.specs.Lists.{mem, unmet}
-use Rattle.laws.specs.Tests.{if_then_else_}
+use Rattle.rules.specs.Tests.{if_then_else_}
+use Rattle.rules.specs.Answers.{refused}
+use Rattle.rules.specs.Lists.{mem, unmet}
+use Rattle.rules.specs.Fields.{stops}
+use Rattle.rules.specs.PlanWords.{Word, vehicle, stop, tip, rest, back, left, stray, wordOf}
+use Rattle.rules.specs.Check.{within, wellFormed, metAgain, metAfter, tallyAfter, Walk, start, faultAt, walkAfter, finished, checkFrom}
+use Rattle.rules.specs.declared.walk.Trip.{Trip}
 use Rattle.laws.proofs.Lists.{mem-same, mem-other, unmet-nil, unmet-less}
 use Rattle.laws.proofs.Tests.{both-true}
-use Rattle.day.specs.Fields.{stops}
 use Rattle.day.specs.Layout.{LayoutOf}
 use Rattle.day.specs.declared.fields.Layout.{Layout}
-use Rattle.checker.specs.Check.{within, wellFormed, metAgain, metAfter, tallyAfter, Walk, start, faultAt, walkAfter, finished, checkFrom}
-use Rattle.checker.specs.PlanWords.{Word, vehicle, stop, tip, rest, back, left, stray, wordOf}
 use Rattle.checker.specs.Steps.{isMet, noneMet, stopIn, isMetIn, formedFault, faultBy, Next, StepOf, TallyWithin, Within, walkOf, endOf, metBy, Reached}
 use Rattle.checker.specs.declared.steps.State.{State}
 use Rattle.checker.specs.declared.steps.Step.{Step}
-use Rattle.checker.specs.declared.walk.Trip.{Trip}
 use Rattle.checker.proofs.Bounds.{within-step, within-start, within-more}
 use Rattle.checker.proofs.Forming.{within-both}
 use Rattle.checker.proofs.Passing.{Passes, fault-passes}

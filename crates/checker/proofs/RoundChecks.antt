@@ -8,14 +8,15 @@ use mathlib.Core.List.{List, [], _∷_, _++_, map, append-assoc}
 use native.Mathlib.Omega.{arith}
 use lib.ListN.{length, length-append}
 use borrow.Author.Tests.{le-leb, lt-ltb, eq-eqb}
-use Rattle.laws.specs.Lists.{Every, Fresh}
-use Rattle.day.specs.Fields.{tips, stops}
-use Rattle.checker.specs.Cargo.{cargoFault, cargoAfter}
-use Rattle.checker.specs.Check.{within, wellFormed, metAgain, metAfter, tallyAfter, Walk, walkAfter, checkFrom}
-use Rattle.checker.specs.Plan.{Task, serve, empty, lunch, Round, taskWord, roundWords, stopsOn, Known}
-use Rattle.checker.specs.PlanWords.{vehicle, back, vehicleWord, backWord, wordOf}
-use Rattle.checker.specs.Trip.{tripFault}
-use Rattle.checker.specs.Vehicles.{wordFor, CargoClear, TripClear, Clear, walkTasks, walkRound}
+use Rattle.rules.specs.Lists.{Every}
+use Rattle.rules.specs.Fields.{tips, stops}
+use Rattle.rules.specs.PlanWords.{vehicle, back, vehicleWord, backWord, wordOf}
+use Rattle.rules.specs.Plan.{Task, serve, empty, lunch, Round, taskWord, roundWords, stopsOn, Known, wordFor}
+use Rattle.rules.specs.Cargo.{cargoFault, cargoAfter}
+use Rattle.rules.specs.Trip.{tripFault}
+use Rattle.rules.specs.Check.{within, wellFormed, metAgain, metAfter, tallyAfter, Walk, walkAfter, checkFrom}
+use Rattle.laws.specs.Lists.{Fresh}
+use Rattle.checker.specs.Vehicles.{CargoClear, TripClear, Clear, walkTasks, walkRound}
 use Rattle.checker.proofs.Passing.{Passes, word-passes}
 use Rattle.checker.proofs.WordForms.{stop-form, tip-form, vehicle-form, rest-form, back-form}
 

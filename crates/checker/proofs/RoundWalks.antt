@@ -6,15 +6,16 @@ use mathlib.Core.Bool.{false}
 use mathlib.Core.List.{List, [], _∷_}
 use native.Mathlib.Omega.{arith}
 use lib.ListN.{length, length-append}
-use Rattle.laws.specs.Lists.{total, collect}
+use Rattle.rules.specs.Lists.{total}
+use Rattle.rules.specs.PlanWords.{vehicle, back}
+use Rattle.rules.specs.Plan.{serve, empty, lunch, Round, stopsOn, stopsOnAll, wordFor}
+use Rattle.rules.specs.Cargo.{cargoAfter}
+use Rattle.rules.specs.Trip.{leaving, tripAfter}
+use Rattle.rules.specs.Check.{Walk, metAfter, tallyAfter, walkAfter}
+use Rattle.rules.specs.declared.walk.Trip.{Trip}
+use Rattle.laws.specs.Lists.{collect}
 use Rattle.laws.proofs.Fresh.{collect-append}
-use Rattle.checker.specs.Cargo.{cargoAfter}
-use Rattle.checker.specs.Check.{Walk, metAfter, tallyAfter, walkAfter}
-use Rattle.checker.specs.Plan.{serve, empty, lunch, Round, stopsOn, stopsOnAll}
-use Rattle.checker.specs.PlanWords.{vehicle, back}
-use Rattle.checker.specs.Trip.{leaving, tripAfter}
-use Rattle.checker.specs.declared.walk.Trip.{Trip}
-use Rattle.checker.specs.Vehicles.{wordFor, tripHome, walkTasks, walkRound, walkRounds}
+use Rattle.checker.specs.Vehicles.{tripHome, walkTasks, walkRound, walkRounds}
 
 -- what changes on the way through a vehicle's tasks
 pub record AfterTasks (day : List ℕ) (s : Walk) (tasks : Round) (t : Walk) : Type 0 where

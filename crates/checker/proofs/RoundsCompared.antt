@@ -10,10 +10,10 @@ use lib.ListN.{length, getD, drop, drop-of-length-le}
 use lib.Seq.{drop-cons}
 use lib.Dec.{eqb, leb}
 use borrow.Author.Tests.{eq-eqb, ne-eqb, eqb-true, eqb-false, leb-true, leb-false}
-use Rattle.laws.specs.Tests.{if_then_else_}
-use Rattle.checker.specs.PlanWords.{Word, wordOf}
+use Rattle.rules.specs.Tests.{if_then_else_}
+use Rattle.rules.specs.PlanWords.{Word, wordOf}
+use Rattle.rules.specs.SameRounds.{counts, counted, sameWords}
 use Rattle.checker.specs.Rounds.{NextCounted}
-use Rattle.checker.specs.SameRounds.{counts, counted, sameWords}
 use Rattle.checker.proofs.WordForms.{Apart, isVehicle, isStop, isTip, isRest, isBack, isLeft, isStray, apart, vehicle-read}
 
 -- a stop's word counts, and else only a vehicle's

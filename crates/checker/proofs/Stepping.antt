@@ -6,18 +6,18 @@ use mathlib.Core.Bool.{Bool, true, false}
 use mathlib.Core.List.{List}
 use native.Mathlib.Omega.{arith}
 use borrow.Author.Tests.{lt-ltb, le-ltb}
-use Rattle.day.specs.Fields.{stopPlace, quantity}
-use Rattle.checker.specs.Cargo.{empty, loaded, emptied, overLimits, cargoFault, cargoAfter}
-use Rattle.checker.specs.Check.{tallyAfter}
-use Rattle.checker.specs.PlanWords.{Word, vehicle, stop, tip, rest, back, left}
+use Rattle.rules.specs.Fields.{stopPlace, quantity}
+use Rattle.rules.specs.PlanWords.{Word, vehicle, stop, tip, rest, back, left}
+use Rattle.rules.specs.Cargo.{empty, loaded, emptied, overLimits, cargoFault, cargoAfter}
+use Rattle.rules.specs.Trip.{leaving, arrival, driven, visited, restedAt, visitFault, restFault, backFault}
+use Rattle.rules.specs.Check.{tallyAfter}
+use Rattle.rules.specs.declared.walk.Cargo.{Cargo}
+use Rattle.rules.specs.declared.walk.Tally.{Tally}
+use Rattle.rules.specs.declared.walk.Trip.{Trip}
 use Rattle.checker.specs.Steps.{oneOut, oneServed, oneLeft, oneBack, DrivenTo, stopIn, formedFault, StepOf, Within}
-use Rattle.checker.specs.Trip.{leaving, arrival, driven, visited, restedAt, visitFault, restFault, backFault}
 use Rattle.checker.specs.declared.steps.State.{State}
 use Rattle.checker.specs.declared.steps.Step.{Step}
 use Rattle.checker.specs.declared.trip.Driven.{Driven}
-use Rattle.checker.specs.declared.walk.Cargo.{Cargo}
-use Rattle.checker.specs.declared.walk.Tally.{Tally}
-use Rattle.checker.specs.declared.walk.Trip.{Trip}
 
 -- a fault other than 0 leaves no state to speak of
 pub step-fault : (day : List ℕ) (s : State) (w : Word) (r : Step) (f : ℕ) {fault : ℕ} → fault ≡ f → 0 < f → r .fault ≡ f → StepOf fault day s w r

@@ -8,14 +8,14 @@ use mathlib.Core.List.{List, [], _∷_}
 use native.Mathlib.Omega.{arith}
 use lib.Dec.{ltb}
 use borrow.Author.Tests.{ltb-false, le-ltb}
-use Rattle.laws.specs.Tests.{if_then_else_}
+use Rattle.rules.specs.Tests.{if_then_else_}
+use Rattle.rules.specs.Fields.{stopPlace, closing, restClosing, restMinutes, service}
+use Rattle.rules.specs.Plan.{serve, empty, lunch, Round}
+use Rattle.rules.specs.Lawful.{restsIn, Visits, Rests, Returns, Timetable, distanceFrom}
+use Rattle.rules.specs.Trip.{leaving, arrival, visitStart, restStart, visited, restedAt, visitFault, restFault, backFault}
+use Rattle.rules.specs.declared.walk.Trip.{Trip}
 use Rattle.laws.proofs.Tests.{only-second}
-use Rattle.day.specs.Fields.{stopPlace, closing, restClosing, restMinutes, service}
-use Rattle.checker.specs.Lawful.{restsIn, Visits, Rests, Returns, Timetable, distanceFrom}
-use Rattle.checker.specs.Plan.{serve, empty, lunch, Round}
-use Rattle.checker.specs.Trip.{leaving, arrival, visitStart, restStart, visited, restedAt, visitFault, restFault, backFault}
 use Rattle.checker.specs.Vehicles.{TripClear, tripHome}
-use Rattle.checker.specs.declared.walk.Trip.{Trip}
 
 -- a test of a limit that finds no fault: the number is within it, and what is tested next finds no fault either
 within-limit : (fault limit x : ℕ) {next : ℕ} → 0 < fault → (if ltb limit x then fault else next) ≡ 0 → (x ≤ limit) × (next ≡ 0)

@@ -2,14 +2,13 @@
 -- by the refusal's number, which is at least 1. Assumes nothing.
 use mathlib.Core.Path.{_≡_}
 use native.Mathlib.Omega.{arith}
-use Rattle.checker.specs.Answers.{answerValues, roundsValues, RoundsNumbered}
-use Rattle.checker.specs.PlaceValues.{placeValues}
-use Rattle.checker.specs.declared.Answer.{Answer}
-use Rattle.checker.specs.declared.Answer.the-variants as Answers
-use Rattle.checker.specs.declared.RoundsAnswer.{RoundsAnswer}
-use Rattle.checker.specs.declared.RoundsAnswer.the-variants as Compared
-use Rattle.checker.specs.declared.vehicles.PlaceAnswer.{PlaceAnswer}
-use Rattle.checker.specs.declared.vehicles.PlaceAnswer.the-variants as Places
+use Rattle.rules.specs.AnswerValues.{answerValues, roundsValues, RoundsNumbered, placeValues}
+use Rattle.rules.specs.declared.answers.Answer.{Answer}
+use Rattle.rules.specs.declared.answers.Answer.the-variants as Answers
+use Rattle.rules.specs.declared.answers.PlaceAnswer.{PlaceAnswer}
+use Rattle.rules.specs.declared.answers.PlaceAnswer.the-variants as Places
+use Rattle.rules.specs.declared.answers.RoundsAnswer.{RoundsAnswer}
+use Rattle.rules.specs.declared.answers.RoundsAnswer.the-variants as Compared
 
 -- on a plan
 pub answer-told-apart : (a b : Answer) → answerValues a ≡ answerValues b → a ≡ b

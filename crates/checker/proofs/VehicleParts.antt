@@ -10,10 +10,10 @@ use lib.ListN.{length, getD, drop, drop-of-length-le}
 use lib.Seq.{drop-cons}
 use lib.Dec.{eqb}
 use borrow.Author.Tests.{eq-eqb, ne-eqb}
-use Rattle.laws.specs.Answers.{given, refused}
-use Rattle.laws.specs.Tests.{if_then_else_}
-use Rattle.checker.specs.PlanWords.{Word, backWord, wordOf}
-use Rattle.checker.specs.VehiclePlace.{isVehicle, wordsToBack, placeFrom}
+use Rattle.rules.specs.Tests.{if_then_else_}
+use Rattle.rules.specs.Answers.{given, refused}
+use Rattle.rules.specs.PlanWords.{Word, backWord, wordOf}
+use Rattle.rules.specs.VehiclePlace.{isVehicle, wordsToBack, placeFrom}
 use Rattle.checker.proofs.WordForms.{Apart, apart, vehicle-read}
 use Rattle.checker.proofs.WordForms as Forms
 

@@ -8,15 +8,15 @@ use native.Mathlib.Omega.{arith}
 use lib.ListN.{length, length-append, take}
 use lib.Seq.{take-at, drop-at}
 use borrow.Author.Tests.{eq-eqb, ne-eqb}
-use Rattle.laws.specs.Answers.{given, refused}
-use Rattle.laws.specs.Lists.{Every}
+use Rattle.rules.specs.Answers.{given, refused}
+use Rattle.rules.specs.Lists.{Every}
+use Rattle.rules.specs.Fields.{stops}
+use Rattle.rules.specs.Accepted.{IsAccepted}
+use Rattle.rules.specs.PlanWords.{vehicleWord, backWord, leftWord, wordOf}
+use Rattle.rules.specs.Plan.{Task, serve, empty, lunch, Round, taskWord, roundWords, roundsWords, planWords, Known}
+use Rattle.rules.specs.Lawful.{Lawful}
+use Rattle.rules.specs.VehiclePlace.{isVehicle, wordsToBack, placeFrom, vehiclePlace, vehicleWords}
 use Rattle.laws.proofs.Fresh.{every-split}
-use Rattle.day.specs.Accepted.{IsAccepted}
-use Rattle.day.specs.Fields.{stops}
-use Rattle.checker.specs.Lawful.{Lawful}
-use Rattle.checker.specs.Plan.{Task, serve, empty, lunch, Round, taskWord, roundWords, roundsWords, planWords, Known}
-use Rattle.checker.specs.PlanWords.{vehicleWord, backWord, leftWord, wordOf}
-use Rattle.checker.specs.VehiclePlace.{isVehicle, wordsToBack, placeFrom, vehiclePlace, vehicleWords}
 use Rattle.checker.proofs.LawfulIff.{lawful-totals}
 use Rattle.checker.proofs.PlanChecks.{few-rounds}
 use Rattle.checker.proofs.RoundChecks.{task-form}

@@ -6,8 +6,8 @@ use mathlib.Core.Bool.{Bool, true, false}
 use native.Mathlib.Omega.{arith}
 use lib.Dec.{eqb}
 use borrow.Author.Tests.{eq-eqb, ne-eqb, eqb-true}
-use Rattle.laws.specs.Tests.{if_then_else_}
-use Rattle.checker.specs.PlanWords.{Word, vehicle, stop, tip, rest, back, left, stray, vehicleWord, stopWord, tipWord, restWord, backWord, leftWord, wordOf}
+use Rattle.rules.specs.Tests.{if_then_else_}
+use Rattle.rules.specs.PlanWords.{Word, vehicle, stop, tip, rest, back, left, stray, vehicleWord, stopWord, tipWord, restWord, backWord, leftWord, wordOf}
 
 -- the word of a kind and a number of eight bits
 module _ (k : ℕ) (h : k < 256) where

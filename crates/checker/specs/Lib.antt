@@ -1,14 +1,3 @@
-pub mod Answers
-pub mod Cargo
-pub mod Check
-pub mod DayM
-pub mod Lawful
-pub mod PlaceValues
-pub mod Plan
-pub mod PlanWords
 pub mod Rounds
-pub mod SameRounds
 pub mod Steps
-pub mod Trip
-pub mod VehiclePlace
 pub mod Vehicles

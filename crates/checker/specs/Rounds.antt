@@ -4,8 +4,8 @@ use mathlib.Core.Path.{_≡_}
 use mathlib.Core.Bool.{true}
 use mathlib.Core.List.{List}
 use lib.ListN.{length, drop, getD}
-use Rattle.checker.specs.PlanWords.{wordOf}
-use Rattle.checker.specs.SameRounds.{counts, counted}
+use Rattle.rules.specs.PlanWords.{wordOf}
+use Rattle.rules.specs.SameRounds.{counts, counted}
 
 -- the next word that counts, or the end: those between do not count
 pub record NextCounted (plan : List ℕ) (from r : ℕ) : Type 0 where

@@ -6,23 +6,23 @@ use mathlib.Core.Bool.{Bool, true, false, not}
 use mathlib.Core.List.{List, [], _∷_}
 use lib.Dec.{ltb}
 use lib.ListN.{length, getD, drop, replicate}
-use Rattle.laws.specs.Answers.{given, refused}
-use Rattle.laws.specs.Lists.{mem, unmet}
-use Rattle.laws.specs.Tests.{if_then_else_, neb}
-use Rattle.day.specs.Fields.{stops, places, loadLimit, dayLimit, stopLimit}
-use Rattle.checker.specs.Cargo.{cargoFault, cargoAfter}
-use Rattle.checker.specs.Check.{wellFormed, metAfter, tallyAfter, Walk, start, checkFrom}
-use Rattle.checker.specs.PlanWords.{Word, vehicle, stop, tip, rest, back, left, stray, wordOf}
-use Rattle.checker.specs.Trip.{tripFault, tripAfter}
+use Rattle.rules.specs.Tests.{if_then_else_, neb}
+use Rattle.rules.specs.Answers.{given, refused}
+use Rattle.rules.specs.Lists.{mem, unmet}
+use Rattle.rules.specs.Fields.{stops, places, loadLimit, dayLimit, stopLimit}
+use Rattle.rules.specs.PlanWords.{Word, vehicle, stop, tip, rest, back, left, stray, wordOf}
+use Rattle.rules.specs.Cargo.{cargoFault, cargoAfter}
+use Rattle.rules.specs.Trip.{tripFault, tripAfter}
+use Rattle.rules.specs.Check.{wellFormed, metAfter, tallyAfter, Walk, start, checkFrom}
+use Rattle.rules.specs.declared.walk.Cargo.{Cargo}
+use Rattle.rules.specs.declared.walk.Tally.{Tally}
+use Rattle.rules.specs.declared.walk.Trip.{Trip}
 use Rattle.checker.specs.declared.cargo.Limits.{Limits}
 use Rattle.checker.specs.declared.parts.Part.{Part}
 use Rattle.checker.specs.declared.parts.Told.{Told}
 use Rattle.checker.specs.declared.steps.State.{State}
 use Rattle.checker.specs.declared.steps.Step.{Step}
 use Rattle.checker.specs.declared.trip.Driven.{Driven}
-use Rattle.checker.specs.declared.walk.Cargo.{Cargo}
-use Rattle.checker.specs.declared.walk.Tally.{Tally}
-use Rattle.checker.specs.declared.walk.Trip.{Trip}
 
 -- one vehicle more, which is out
 abbrev pub oneOut : Tally → Tally

@@ -2,20 +2,14 @@
 use Prim.Native.Nat.{ℕ, _+_}
 use mathlib.Core.Path.{_≡_}
 use mathlib.Core.List.{List, [], _∷_}
-use Rattle.checker.specs.Cargo.{cargoFault, cargoAfter}
-use Rattle.checker.specs.Cargo as Carried
-use Rattle.checker.specs.Check.{Walk, walkAfter}
-use Rattle.checker.specs.Plan.{Task, serve, empty, lunch, Round}
-use Rattle.checker.specs.PlanWords.{Word, vehicle, stop, tip, rest, back}
-use Rattle.checker.specs.Trip.{leaving, tripFault, tripAfter}
-use Rattle.checker.specs.declared.walk.Cargo.{Cargo}
-use Rattle.checker.specs.declared.walk.Trip.{Trip}
-
--- the word of a task, taken apart
-abbrev pub wordFor : Task → Word
-wordFor (serve k) = stop k
-wordFor (empty k) = tip k
-wordFor lunch = rest
+use Rattle.rules.specs.PlanWords.{vehicle, back}
+use Rattle.rules.specs.Plan.{Round, wordFor}
+use Rattle.rules.specs.Cargo.{cargoFault, cargoAfter}
+use Rattle.rules.specs.Cargo as Carried
+use Rattle.rules.specs.Trip.{leaving, tripFault, tripAfter}
+use Rattle.rules.specs.Check.{Walk, walkAfter}
+use Rattle.rules.specs.declared.walk.Cargo.{Cargo}
+use Rattle.rules.specs.declared.walk.Trip.{Trip}
 
 -- no task, and not the return, is at fault by the load
 unfoldable pub CargoClear : List ℕ → Cargo → Round → Type 0

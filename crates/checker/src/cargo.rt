@@ -2,10 +2,10 @@
 // slower.
 ghost use mathlib.Core.Path.{_≡_};
 ghost use Prim.Native.Nat.{_<_};
+ghost use Rattle.rules.specs.Cargo.{empty, loaded, emptied, overLimits};
 ghost use Rattle.day.specs.Layout.{LayoutOf};
-ghost use Rattle.checker.specs.Cargo.{empty, loaded, emptied, overLimits};
 ghost use Rattle.checker.specs.Steps.{CargoWithin, LimitsOf};
-use crate::walk::Cargo;
+use rules::walk::Cargo;
 
 // Nothing, as a vehicle starts.
 pub fn nothing() -> Cargo

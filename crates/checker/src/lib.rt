@@ -7,41 +7,22 @@ pub mod steps;
 pub mod tally;
 pub mod trip;
 pub mod vehicles;
-pub mod walk;
 pub mod words;
 
 ghost use mathlib.Core.Path.{_≡_};
 ghost use Rattle.day.specs.Layout.{LayoutOf};
 ghost use lib.ListN.{length};
-ghost use Rattle.checker.specs.Answers.{answerValues, roundsValues, RoundsNumbered};
-ghost use Rattle.checker.specs.Check.{checkWords, checkPlan};
-ghost use Rattle.checker.specs.PlaceValues.{placeValues};
-ghost use Rattle.checker.specs.SameRounds.{sameRounds, secondAnswer};
-ghost use Rattle.checker.specs.VehiclePlace.{vehiclePlace, vehicleWords};
+ghost use Rattle.rules.specs.Check.{checkWords, checkPlan};
+ghost use Rattle.rules.specs.VehiclePlace.{vehiclePlace, vehicleWords};
+ghost use Rattle.rules.specs.SameRounds.{sameRounds, secondAnswer};
+ghost use Rattle.rules.specs.AnswerValues.{answerValues, roundsValues, RoundsNumbered, placeValues};
 use crate::rounds::are_same;
 use crate::run::check_words;
-use crate::vehicles::PlaceAnswer;
 use crate::vehicles::place_in;
-
-// The answer on a plan: its distance, vehicles and stops served, or the refusal's number and place.
-pub enum Answer {
-    Lawful {
-        distance: u32,
-        vehicles: u32,
-        served: u32,
-    },
-    Refused {
-        number: u32,
-        place: usize,
-    },
-}
-
-// The answer on two plans: the same rounds or not, or the refusal's number and place.
-pub enum RoundsAnswer {
-    Same,
-    Different,
-    Refused { number: u32, place: usize },
-}
+use rules::answers::Answer;
+use rules::answers::DayAnswer;
+use rules::answers::PlaceAnswer;
+use rules::answers::RoundsAnswer;
 
 // The answer on a plan of an accepted day, whose layout is at hand: for callers that check many plans of one day.
 pub fn check_accepted(day: &[u32], z: day::fields::Layout, plan: &[u32]) -> Answer
@@ -62,10 +43,10 @@ pub fn check(day: &[u32], plan: &[u32]) -> Answer
     ensures { λ r. ⌜ answerValues r ≡ checkPlan (now (day .entry)) (now (plan .entry)) ⌝ }
 {
     match day::judge(day) {
-        day::DayAnswer::Accepted { stops: _, tips: _ } => {
+        DayAnswer::Accepted { stops: _, tips: _ } => {
             check_accepted(day, day::fields::layout_of(day), plan)
         }
-        day::DayAnswer::Refused { number, place } => Answer::Refused { number, place },
+        DayAnswer::Refused { number, place } => Answer::Refused { number, place },
     }
 }
 

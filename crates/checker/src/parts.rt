@@ -4,10 +4,10 @@ ghost use mathlib.Core.Path.{_≡_};
 ghost use mathlib.Core.Bool.{true, false};
 ghost use Prim.Native.Nat.{_+_, _<_, _≤_};
 ghost use lib.ListN.{length};
+ghost use Rattle.rules.specs.Cargo.{empty};
+ghost use Rattle.rules.specs.Trip.{leaving};
 ghost use Rattle.day.specs.Layout.{LayoutOf};
-ghost use Rattle.checker.specs.Cargo.{empty};
 ghost use Rattle.checker.specs.Steps.{LimitsOf, outWith, PartTo, Reached, ToldAll};
-ghost use Rattle.checker.specs.Trip.{leaving};
 use crate::cargo::Limits;
 use crate::cargo::nothing;
 use crate::cargo::same_cargo;
@@ -18,12 +18,12 @@ use crate::steps::at_fault;
 use crate::tally::none_told;
 use crate::trip::leave;
 use crate::trip::same_trip;
-use crate::walk::Cargo;
-use crate::walk::Tally;
-use crate::walk::Trip;
 use crate::words::left_word;
 use crate::words::task_step;
 use crate::words::vehicle_word;
+use rules::walk::Cargo;
+use rules::walk::Tally;
+use rules::walk::Trip;
 
 // The state behind a part and the index there, if the part was gone through.
 pub struct Part {

@@ -3,8 +3,8 @@ ghost use mathlib.Core.Path.{_≡_};
 ghost use mathlib.Core.Bool.{true};
 ghost use Prim.Native.Nat.{_≤_};
 ghost use lib.ListN.{length};
-ghost use Rattle.checker.specs.PlanWords.{wordOf};
-ghost use Rattle.checker.specs.SameRounds.{counts, counted, sameWords};
+ghost use Rattle.rules.specs.PlanWords.{wordOf};
+ghost use Rattle.rules.specs.SameRounds.{counts, counted, sameWords};
 ghost use Rattle.checker.specs.Rounds.{NextCounted};
 
 // Whether a word counts: a vehicle or a stop.

@@ -3,11 +3,10 @@ ghost use mathlib.Core.Path.{_≡_};
 ghost use mathlib.Core.List.{[]};
 ghost use Prim.Native.Nat.{_≤_};
 ghost use lib.ListN.{length};
+ghost use Rattle.rules.specs.Check.{start, checkFrom};
+ghost use Rattle.rules.specs.AnswerValues.{answerValues};
 ghost use Rattle.day.specs.Layout.{LayoutOf};
-ghost use Rattle.checker.specs.Answers.{answerValues};
-ghost use Rattle.checker.specs.Check.{start, checkFrom};
 ghost use Rattle.checker.specs.Steps.{LimitsOf, noneMet, TallyWithin, walkOf, endOf};
-use crate::Answer;
 use crate::cargo::Limits;
 use crate::cargo::limits_of;
 use crate::cargo::nothing;
@@ -15,8 +14,9 @@ use crate::parts::all_parts;
 use crate::steps::State;
 use crate::tally::none_told;
 use crate::trip::leave;
-use crate::walk::Tally;
 use crate::words::word_step;
+use rules::answers::Answer;
+use rules::walk::Tally;
 
 // Before the first word.
 pub fn first_state(day: &[u32], z: day::fields::Layout) -> State

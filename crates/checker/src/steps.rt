@@ -2,8 +2,8 @@
 ghost use mathlib.Core.Path.{_≡_};
 ghost use mathlib.Core.Bool.{true};
 ghost use Prim.Native.Nat.{_<_, _≤_};
+ghost use Rattle.rules.specs.PlanWords.{vehicle, stop, tip, rest, back, left};
 ghost use Rattle.day.specs.Layout.{LayoutOf};
-ghost use Rattle.checker.specs.PlanWords.{vehicle, stop, tip, rest, back, left};
 ghost use Rattle.checker.specs.Steps.{formedFault, LimitsOf, StepOf, Within};
 use crate::cargo::Limits;
 use crate::cargo::is_over;
@@ -24,9 +24,9 @@ use crate::trip::rest;
 use crate::trip::same_trip;
 use crate::trip::visit_stop;
 use crate::trip::visit_tip;
-use crate::walk::Cargo;
-use crate::walk::Tally;
-use crate::walk::Trip;
+use rules::walk::Cargo;
+use rules::walk::Tally;
+use rules::walk::Trip;
 
 // The walk between two words, but for the stops met.
 pub struct State {

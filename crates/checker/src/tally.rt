@@ -2,9 +2,9 @@
 // a block it is slower.
 ghost use mathlib.Core.Path.{_≡_};
 ghost use Prim.Native.Nat.{_+_, _<_};
-ghost use Rattle.checker.specs.Check.{untold};
+ghost use Rattle.rules.specs.Check.{untold};
 ghost use Rattle.checker.specs.Steps.{oneOut, oneServed, oneLeft, oneBack, TallyWithin};
-use crate::walk::Tally;
+use rules::walk::Tally;
 
 // Before the first word.
 pub fn none_told() -> Tally

@@ -4,11 +4,11 @@ ghost use mathlib.Core.Path.{_≡_};
 ghost use Prim.Native.Nat.{_<_, _≤_, max};
 ghost use mathlib.Core.Bool.{not, _&&_};
 ghost use lib.Dec.{ltb};
-ghost use Rattle.day.specs.Fields.{stopPlace, restClosing, service};
+ghost use Rattle.rules.specs.Fields.{stopPlace, restClosing, service};
+ghost use Rattle.rules.specs.Trip.{leaving, arrival, driven, visited, restedAt, visitFault, restFault, backFault};
 ghost use Rattle.day.specs.Layout.{LayoutOf, WindowOf};
 ghost use Rattle.checker.specs.Steps.{DrivenTo, TripWithin};
-ghost use Rattle.checker.specs.Trip.{leaving, arrival, driven, visited, restedAt, visitFault, restFault, backFault};
-use crate::walk::Trip;
+use rules::walk::Trip;
 
 // A trip after a word, or the word's fault, which is not 0; the trip means nothing then.
 pub struct Driven {

@@ -2,15 +2,10 @@
 ghost use mathlib.Core.Path.{_≡_};
 ghost use Prim.Native.Nat.{_+_, _≤_};
 ghost use lib.ListN.{length, drop};
-ghost use Rattle.checker.specs.PlaceValues.{placeValues};
-ghost use Rattle.checker.specs.PlanWords.{wordOf};
-ghost use Rattle.checker.specs.VehiclePlace.{isVehicle, wordsToBack, placeFrom};
-
-// The answer on one vehicle: where its words start and how many they are, or the refusal's number and place.
-pub enum PlaceAnswer {
-    Found { start: usize, length: usize },
-    Refused { number: u32, place: usize },
-}
+ghost use Rattle.rules.specs.PlanWords.{wordOf};
+ghost use Rattle.rules.specs.VehiclePlace.{isVehicle, wordsToBack, placeFrom};
+ghost use Rattle.rules.specs.AnswerValues.{placeValues};
+use rules::answers::PlaceAnswer;
 
 // Whether a word is the A word of a number.
 fn is_vehicle(w: u32, number: u64) -> bool

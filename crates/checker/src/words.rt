@@ -1,9 +1,9 @@
 // A word of the plan: its form, then whether the stop that it names was met before, then what the word does.
 ghost use mathlib.Core.Path.{_≡_};
 ghost use mathlib.Core.Bool.{_&&_};
+ghost use Rattle.rules.specs.PlanWords.{vehicle, stop, tip, rest, back, left, wordOf};
+ghost use Rattle.rules.specs.Check.{within};
 ghost use Rattle.day.specs.Layout.{LayoutOf};
-ghost use Rattle.checker.specs.Check.{within};
-ghost use Rattle.checker.specs.PlanWords.{vehicle, stop, tip, rest, back, left, wordOf};
 ghost use Rattle.checker.specs.Steps.{faultBy, LimitsOf, StepOf, Within};
 use crate::cargo::Limits;
 use crate::steps::State;

@@ -9,12 +9,12 @@ use lib.ListN.{length, getD, drop, length-drop}
 use lib.Seq.{getD-drop}
 use lib.Dec.{eqb, ltb}
 use borrow.Author.Tests.{eqb-true, eqb-false, ltb-false, not-false, ne-eqb}
-use Rattle.laws.specs.Answers.{given, refused, isGiven}
-use Rattle.laws.specs.Tests.{if_then_else_, neb}
+use Rattle.rules.specs.Tests.{if_then_else_, neb}
+use Rattle.rules.specs.Answers.{given, refused, isGiven}
+use Rattle.rules.specs.DayFile.{tipsIn, stopsIn, wordsOf, formAt, faultOf, judgeFrom, judgeSized, judgeDay}
+use Rattle.rules.specs.Fields.{wordAt, tips, stops}
+use Rattle.rules.specs.Accepted.{IsAccepted}
 use Rattle.laws.proofs.Tests.{only-first, only-second}
-use Rattle.day.specs.Accepted.{IsAccepted}
-use Rattle.day.specs.Day.{tipsIn, stopsIn, wordsOf, formAt, faultOf, judgeFrom, judgeSized, judgeDay}
-use Rattle.day.specs.Fields.{wordAt, tips, stops}
 
 -- an answer of the judge: a size, or a refusal's number and place
 pub data Judged : List ℕ → Type 0 where

@@ -6,9 +6,9 @@ use native.Mathlib.Nat.{mul-le-mul, mul-le-mul-right, suc-mul, mul-add-div-right
 use native.Mathlib.Omega.{arith}
 use lib.Dec.{eqb}
 use borrow.Author.Tests.{lt-ltb, le-ltb, eq-eqb, ne-eqb}
-use Rattle.laws.specs.Tests.{if_then_else_}
-use Rattle.day.specs.Day.{lone, window, leg, stay, placesOf, tipsEnd, legsAt, wordsOf, headForm, tipForm, stopForm, legForm, formAt}
-use Rattle.day.specs.Fields.{legIndex}
+use Rattle.rules.specs.Tests.{if_then_else_}
+use Rattle.rules.specs.DayFile.{lone, window, leg, stay, placesOf, tipsEnd, legsAt, wordsOf, headForm, tipForm, stopForm, legForm, formAt}
+use Rattle.rules.specs.Fields.{legIndex}
 
 pub head-form : (d n i : ℕ) → i < 7 → formAt d n i ≡ headForm i
 unfolding formAt

@@ -8,8 +8,8 @@ use native.Mathlib.Omega.{arith}
 use lib.ListN.{length, getD, drop-of-length-le}
 use lib.Seq.{drop-cons}
 use borrow.Author.Tests.{eq-eqb, ne-eqb}
-use Rattle.laws.specs.Answers.{given, refused}
-use Rattle.day.specs.Day.{Form, lone, window, tipsEnd, legsAt, wordsOf, headForm, formAt, faultOf, judgeFrom}
+use Rattle.rules.specs.Answers.{given, refused}
+use Rattle.rules.specs.DayFile.{Form, lone, window, tipsEnd, legsAt, wordsOf, headForm, formAt, faultOf, judgeFrom}
 use Rattle.day.specs.Judging.{judgedFrom, judgedAfter, Whole}
 use Rattle.day.specs.declared.faults.Fault.{Fault}
 use Rattle.day.proofs.Forms.{legs-few, head-form, tip-window-form, tip-service-form, stop-window-form, stop-service-form, stop-quantity-form}

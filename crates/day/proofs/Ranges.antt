@@ -9,10 +9,11 @@ use native.Mathlib.Omega.{arith}
 use lib.ListN.{length}
 use lib.Dec.{eqb}
 use borrow.Author.Tests.{eq-eqb}
-use Rattle.laws.specs.Tests.{if_then_else_}
-use Rattle.day.specs.Accepted.{IsAccepted, Accepted}
-use Rattle.day.specs.Day.{Form, lone, window, leg, stay, headForm, formAt, faultOf}
-use Rattle.day.specs.Fields.{wordAt, tips, stops, places, stopPlace, windowIndex, opening, closing, service, legIndex, legWord, legMinutes}
+use Rattle.rules.specs.Tests.{if_then_else_}
+use Rattle.rules.specs.DayFile.{Form, lone, window, leg, stay, headForm, formAt, faultOf}
+use Rattle.rules.specs.Fields.{wordAt, tips, stops, places, stopPlace, windowIndex, opening, closing, service, legIndex, legWord, legMinutes}
+use Rattle.rules.specs.Accepted.{IsAccepted}
+use Rattle.day.specs.Accepted.{Accepted}
 use Rattle.day.proofs.Answered.{Faultless, given-faultless}
 use Rattle.day.proofs.Forms.{head-form, tip-window-form, tip-service-form, stop-window-form, stop-service-form, stop-quantity-form, leg-form, leg-inside}
 use Rattle.day.proofs.Readers.{tip-index, stop-index}

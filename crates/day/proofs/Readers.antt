@@ -8,13 +8,14 @@ use native.Mathlib.Omega.{arith}
 use lib.ListN.{length, getD, set, take, drop}
 use lib.Seq.{getD-take, getD-drop}
 use borrow.Author.Tests.{le-leb, lt-leb, ne-eqb}
-use Rattle.laws.specs.Answers.{given, refused}
-use Rattle.laws.specs.Buffer.{over, Wrote}
+use Rattle.rules.specs.Answers.{given, refused}
+use Rattle.rules.specs.Buffer.{over}
+use Rattle.rules.specs.DayFile.{loneNumber, windowOpening, windowClosing, minutesOf, distanceOf}
+use Rattle.rules.specs.Fields.{wordAt, tips, stopPlace, windowIndex, service, quantity}
+use Rattle.rules.specs.Bytes.{byteWord, byteWords, readAnswer, readBuffer}
+use Rattle.laws.specs.Buffer.{Wrote}
 use Rattle.laws.proofs.Buffer.{wrote-none, wrote-put, wrote-same}
 use Rattle.laws.proofs.Tests.{branches}
-use Rattle.day.specs.Bytes.{byteWord, byteWords, readAnswer, readBuffer}
-use Rattle.day.specs.Day.{loneNumber, windowOpening, windowClosing, minutesOf, distanceOf}
-use Rattle.day.specs.Fields.{wordAt, tips, stopPlace, windowIndex, service, quantity}
 use Rattle.day.specs.Layout.{LayoutOf, WindowOf, LegOf}
 use Rattle.day.specs.declared.fields.Layout.{Layout}
 use Rattle.day.specs.declared.fields.Window.{Window}

@@ -11,9 +11,9 @@ use native.Mathlib.Omega.{arith}
 use lib.ListN.{length, getD}
 use lib.Dec.{eqb}
 use borrow.Author.Tests.{eq-eqb, ne-eqb, eqb-true, eqb-false}
-use Rattle.laws.specs.Tests.{if_then_else_}
-use Rattle.day.specs.Day.{leg, stay, placesOf, legsAt, formAt, faultOf}
-use Rattle.day.specs.Fields.{legIndex}
+use Rattle.rules.specs.Tests.{if_then_else_}
+use Rattle.rules.specs.DayFile.{leg, stay, placesOf, legsAt, formAt, faultOf}
+use Rattle.rules.specs.Fields.{legIndex}
 use Rattle.day.specs.Judging.{judgedFrom, judgedAfter, Whole, InRange, RowRight, Row}
 use Rattle.day.specs.declared.faults.Fault.{Fault}
 use Rattle.day.proofs.Forms.{leg-form, row-below}

@@ -2,11 +2,11 @@
 -- by the refusal's number, which is at least 1. Assumes nothing.
 use mathlib.Core.Path.{_≡_}
 use native.Mathlib.Omega.{arith}
-use Rattle.day.specs.Answers.{dayValues, wordsValues, WordsNumbered}
-use Rattle.day.specs.declared.DayAnswer.{DayAnswer}
-use Rattle.day.specs.declared.DayAnswer.the-variants as Days
-use Rattle.day.specs.declared.WordsAnswer.{WordsAnswer}
-use Rattle.day.specs.declared.WordsAnswer.the-variants as Reads
+use Rattle.rules.specs.AnswerValues.{dayValues, wordsValues, WordsNumbered}
+use Rattle.rules.specs.declared.answers.DayAnswer.{DayAnswer}
+use Rattle.rules.specs.declared.answers.DayAnswer.the-variants as Days
+use Rattle.rules.specs.declared.answers.WordsAnswer.{WordsAnswer}
+use Rattle.rules.specs.declared.answers.WordsAnswer.the-variants as Reads
 
 -- on a day
 pub day-told-apart : (a b : DayAnswer) → dayValues a ≡ dayValues b → a ≡ b

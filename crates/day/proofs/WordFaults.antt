@@ -6,8 +6,8 @@ use mathlib.Core.Bool.{true}
 use native.Mathlib.Omega.{arith}
 use lib.Dec.{leb}
 use borrow.Author.Tests.{le-leb, lt-leb, eq-eqb, ne-eqb, leb-true, eqb-true}
+use Rattle.rules.specs.DayFile.{Form, lone, window, leg, stay, loneNumber, windowOpening, windowClosing, minutesOf, kindRight, valueRight, faultOf}
 use Rattle.laws.proofs.Tests.{only-first, both-true}
-use Rattle.day.specs.Day.{Form, lone, window, leg, stay, loneNumber, windowOpening, windowClosing, minutesOf, kindRight, valueRight, faultOf}
 
 -- a lone number
 module _ (w kind least most : ℕ) where

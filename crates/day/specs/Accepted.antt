@@ -1,16 +1,10 @@
--- What an accepted day gives: document 01, "a day is accepted when none of 1 to 5 applies to it". Each range of "Day file" under its name.
--- Assumes nothing.
+-- What an accepted day gives: each range of document 01, "Day file", under its name. Assumes nothing.
 use Prim.Native.Nat.{ℕ, _<_, _≤_}
 use mathlib.Core.Path.{_≡_}
-use mathlib.Core.List.{List, [], _∷_}
+use mathlib.Core.List.{List}
 use lib.ListN.{length}
-use Rattle.laws.specs.Answers.{given}
-use Rattle.day.specs.Day.{wordsOf, judgeDay}
-use Rattle.day.specs.Fields.{tips, stops, places, stopPlace, loadLimit, dayLimit, stopLimit, opening, closing, restOpening, restClosing, restMinutes, service, quantity, legIndex, legMinutes, legDistance}
-
--- the day is accepted
-abbrev pub IsAccepted : List ℕ → Type 0
-IsAccepted day = judgeDay day ≡ given (stops day ∷ tips day ∷ [])
+use Rattle.rules.specs.DayFile.{wordsOf}
+use Rattle.rules.specs.Fields.{tips, stops, places, stopPlace, loadLimit, dayLimit, stopLimit, opening, closing, restOpening, restClosing, restMinutes, service, quantity, legIndex, legMinutes, legDistance}
 
 -- every range, and every index below the length
 pub record Accepted (day : List ℕ) : Type 0 where

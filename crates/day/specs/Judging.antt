@@ -5,9 +5,9 @@ use mathlib.Core.Path.{_≡_}
 use mathlib.Core.List.{List}
 use lib.ListN.{length, getD, drop}
 use lib.Dec.{eqb}
-use Rattle.laws.specs.Answers.{refused}
-use Rattle.laws.specs.Tests.{if_then_else_}
-use Rattle.day.specs.Day.{placesOf, legsAt, wordsOf, judgeFrom}
+use Rattle.rules.specs.Tests.{if_then_else_}
+use Rattle.rules.specs.Answers.{refused}
+use Rattle.rules.specs.DayFile.{placesOf, legsAt, wordsOf, judgeFrom}
 use Rattle.day.specs.declared.faults.Fault.{Fault}
 
 -- the answer on the words from an index on

@@ -3,8 +3,8 @@ use Prim.Native.Nat.{ℕ, _+_, _*_}
 use mathlib.Core.Path.{_≡_}
 use mathlib.Core.List.{List}
 use lib.ListN.{length}
-use Rattle.day.specs.Day.{legsAt}
-use Rattle.day.specs.Fields.{tips, stops, places, opening, closing, legMinutes, legDistance}
+use Rattle.rules.specs.DayFile.{legsAt}
+use Rattle.rules.specs.Fields.{tips, stops, places, opening, closing, legMinutes, legDistance}
 use Rattle.day.specs.declared.fields.Layout.{Layout}
 use Rattle.day.specs.declared.fields.Leg.{Leg}
 use Rattle.day.specs.declared.fields.Window.{Window}

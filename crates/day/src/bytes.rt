@@ -2,8 +2,8 @@
 ghost use mathlib.Core.Path.{_≡_};
 ghost use Prim.Native.Nat.{_+_, _*_, _<_, _≤_};
 ghost use lib.ListN.{length};
-ghost use Rattle.laws.specs.Buffer.{over};
-ghost use Rattle.day.specs.Bytes.{byteWord, byteWords};
+ghost use Rattle.rules.specs.Buffer.{over};
+ghost use Rattle.rules.specs.Bytes.{byteWord, byteWords};
 
 fn wide(x: u8) -> u32
     ensures { λ r. ⌜ (r ≡ x) × (r < 256) ⌝ }

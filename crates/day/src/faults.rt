@@ -1,7 +1,7 @@
 // The first word at fault among those before the legs: head, tips, stops.
 ghost use mathlib.Core.Path.{_≡_};
 ghost use Prim.Native.Nat.{_+_, _*_, _<_};
-ghost use Rattle.day.specs.Day.{tipsEnd, legsAt};
+ghost use Rattle.rules.specs.DayFile.{tipsEnd, legsAt};
 ghost use Rattle.day.specs.Judging.{judgedFrom, judgedAfter, Whole};
 use crate::words::head_word_fault;
 use crate::words::number_fault;

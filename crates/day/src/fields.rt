@@ -2,8 +2,8 @@
 ghost use mathlib.Core.Path.{_≡_};
 ghost use Prim.Native.Nat.{_+_, _*_, _<_, _≤_};
 ghost use lib.ListN.{length};
-ghost use Rattle.day.specs.Day.{loneNumber, windowOpening, windowClosing, wordsOf};
-ghost use Rattle.day.specs.Fields.{wordAt, tips, stops, stopPlace, loadLimit, dayLimit, stopLimit, restOpening, restClosing, restMinutes, service, quantity};
+ghost use Rattle.rules.specs.DayFile.{loneNumber, windowOpening, windowClosing, wordsOf};
+ghost use Rattle.rules.specs.Fields.{wordAt, tips, stops, stopPlace, loadLimit, dayLimit, stopLimit, restOpening, restClosing, restMinutes, service, quantity};
 ghost use Rattle.day.specs.Layout.{LayoutOf, WindowOf, LegOf};
 
 // How many stops, tips and places a day has, and where its legs begin.

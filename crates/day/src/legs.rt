@@ -3,7 +3,7 @@ ghost use mathlib.Core.Path.{_≡_};
 ghost use mathlib.Core.Bool.{true};
 ghost use Prim.Native.Nat.{_+_, _*_, _<_, _≤_};
 ghost use lib.ListN.{length};
-ghost use Rattle.day.specs.Day.{legsAt};
+ghost use Rattle.rules.specs.DayFile.{legsAt};
 ghost use Rattle.day.specs.Judging.{judgedFrom, judgedAfter, Whole, InRange, RowRight, Row};
 use crate::faults::Fault;
 use crate::faults::none_until;

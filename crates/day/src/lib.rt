@@ -8,9 +8,9 @@ pub mod words;
 ghost use mathlib.Core.Path.{_≡_};
 ghost use Prim.Native.Nat.{_<_};
 ghost use lib.ListN.{length};
-ghost use Rattle.day.specs.Answers.{dayValues, wordsValues, WordsNumbered};
-ghost use Rattle.day.specs.Bytes.{readAnswer, readBuffer};
-ghost use Rattle.day.specs.Day.{tipsEnd, judgeSized, judgeDay};
+ghost use Rattle.rules.specs.DayFile.{tipsEnd, judgeSized, judgeDay};
+ghost use Rattle.rules.specs.Bytes.{readAnswer, readBuffer};
+ghost use Rattle.rules.specs.AnswerValues.{dayValues, wordsValues, WordsNumbered};
 ghost use Rattle.day.specs.Judging.{judgedFrom, judgedAfter, Whole};
 use crate::bytes::write_words;
 use crate::faults::Fault;
@@ -18,18 +18,8 @@ use crate::faults::head_fault;
 use crate::faults::stops_fault;
 use crate::faults::tips_fault;
 use crate::legs::legs_fault;
-
-// The answer on a day: how many stops and tips it has, or the refusal's number and place.
-pub enum DayAnswer {
-    Accepted { stops: u32, tips: u32 },
-    Refused { number: u32, place: usize },
-}
-
-// The answer to byte reading: how many words were written, or the refusal's number and place.
-pub enum WordsAnswer {
-    Read { words: usize },
-    Refused { number: u32, place: usize },
-}
+use rules::answers::DayAnswer;
+use rules::answers::WordsAnswer;
 
 // The first fault from the stops on.
 fn fault_from_stops(day: &[u32], d: u32, n: u32) -> Fault

@@ -1,8 +1,8 @@
 // The fault of one word of a day: 2 for its kind or zero bits, 5 for its value, 0 for none.
 ghost use mathlib.Core.Path.{_≡_};
 ghost use Prim.Native.Nat.{_<_};
-ghost use Rattle.laws.specs.Tests.{if_then_else_};
-ghost use Rattle.day.specs.Day.{lone, window, leg, stay, headForm, faultOf};
+ghost use Rattle.rules.specs.Tests.{if_then_else_};
+ghost use Rattle.rules.specs.DayFile.{lone, window, leg, stay, headForm, faultOf};
 
 // The fault of a lone number.
 pub fn number_fault(w: u32, kind: u32, least: u32, most: u32) -> u32

@@ -3,7 +3,7 @@
 use Prim.Native.Nat.{ℕ}
 use mathlib.Core.Path.{_≡_}
 use mathlib.Core.List.{List, [], _∷_}
-use Rattle.laws.specs.Answers.{inSix}
+use Rattle.rules.specs.Answers.{inSix}
 
 -- answers of two, three and four values
 pub two-values : (answer out : List ℕ) {a b : ℕ} → a ∷ b ∷ [] ≡ answer → out ≡ a ∷ b ∷ 0 ∷ 0 ∷ 0 ∷ 0 ∷ [] → out ≡ inSix answer

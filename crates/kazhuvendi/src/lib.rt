@@ -3,15 +3,22 @@
 ghost use mathlib.Core.Path.{_≡_};
 ghost use mathlib.Core.List.{[], _∷_};
 ghost use lib.ListN.{length};
-ghost use Rattle.laws.specs.Answers.{inSix};
-ghost use Rattle.laws.specs.Tests.{if_then_else_};
-ghost use Rattle.day.specs.Bytes.{readAnswer, readBuffer};
-ghost use Rattle.day.specs.Day.{judgeDay};
-ghost use Rattle.checker.specs.Check.{checkPlan};
-ghost use Rattle.checker.specs.SameRounds.{sameRounds};
-ghost use Rattle.checker.specs.VehiclePlace.{vehiclePlace};
-ghost use Rattle.builder.specs.Built.{planValues, buildAnswer, buildBuffer};
-ghost use Rattle.planner.specs.Planned.{planAnswer, planBuffer, SpareKept};
+ghost use Rattle.rules.specs.Tests.{if_then_else_};
+ghost use Rattle.rules.specs.Answers.{inSix};
+ghost use Rattle.rules.specs.DayFile.{judgeDay};
+ghost use Rattle.rules.specs.Check.{checkPlan};
+ghost use Rattle.rules.specs.Bytes.{readAnswer, readBuffer};
+ghost use Rattle.rules.specs.VehiclePlace.{vehiclePlace};
+ghost use Rattle.rules.specs.SameRounds.{sameRounds};
+ghost use Rattle.rules.specs.AnswerValues.{planValues};
+ghost use Rattle.rules.specs.Built.{buildAnswer, buildBuffer};
+ghost use Rattle.rules.specs.Planned.{planAnswer, planBuffer, SpareKept};
+use rules::answers::Answer;
+use rules::answers::DayAnswer;
+use rules::answers::PlaceAnswer;
+use rules::answers::PlanAnswer;
+use rules::answers::RoundsAnswer;
+use rules::answers::WordsAnswer;
 
 // All six places of an answer.
 fn write_six(out: &mut [u64; 6], a: u64, b: u64, c: u64, d: u64, e: u64, f: u64)
@@ -37,8 +44,8 @@ pub extern "C" fn kz_read_words(bytes: &[u8], words: &mut [u32], out: &mut [u64;
 {
     let answer = day::read_words(bytes, words);
     match answer {
-        day::WordsAnswer::Read { words } => write_six(out, 0, words as u64, 0, 0, 0, 0),
-        day::WordsAnswer::Refused { number, place } => {
+        WordsAnswer::Read { words } => write_six(out, 0, words as u64, 0, 0, 0, 0),
+        WordsAnswer::Refused { number, place } => {
             write_six(out, number as u64, place as u64, 0, 0, 0, 0)
         }
     }
@@ -50,10 +57,10 @@ pub extern "C" fn kz_judge(day: &[u32], out: &mut [u64; 6])
 {
     let answer = day::judge(day);
     match answer {
-        day::DayAnswer::Accepted { stops, tips } => {
+        DayAnswer::Accepted { stops, tips } => {
             write_six(out, 0, stops as u64, tips as u64, 0, 0, 0)
         }
-        day::DayAnswer::Refused { number, place } => {
+        DayAnswer::Refused { number, place } => {
             write_six(out, number as u64, place as u64, 0, 0, 0, 0)
         }
     }
@@ -65,7 +72,7 @@ pub extern "C" fn kz_check(day: &[u32], plan: &[u32], out: &mut [u64; 6])
 {
     let answer = checker::check(day, plan);
     match answer {
-        checker::Answer::Lawful {
+        Answer::Lawful {
             distance,
             vehicles,
             served,
@@ -78,7 +85,7 @@ pub extern "C" fn kz_check(day: &[u32], plan: &[u32], out: &mut [u64; 6])
             0,
             0,
         ),
-        checker::Answer::Refused { number, place } => {
+        Answer::Refused { number, place } => {
             write_six(out, number as u64, place as u64, 0, 0, 0, 0)
         }
     }
@@ -90,10 +97,10 @@ pub extern "C" fn kz_vehicle(day: &[u32], plan: &[u32], number: u64, out: &mut [
 {
     let answer = checker::vehicle_place(day, plan, number);
     match answer {
-        checker::vehicles::PlaceAnswer::Found { start, length } => {
+        PlaceAnswer::Found { start, length } => {
             write_six(out, 0, start as u64, length as u64, 0, 0, 0)
         }
-        checker::vehicles::PlaceAnswer::Refused { number, place } => {
+        PlaceAnswer::Refused { number, place } => {
             write_six(out, number as u64, place as u64, 0, 0, 0, 0)
         }
     }
@@ -105,20 +112,20 @@ pub extern "C" fn kz_same_rounds(day: &[u32], first: &[u32], second: &[u32], out
 {
     let answer = checker::same_rounds(day, first, second);
     match answer {
-        checker::RoundsAnswer::Same => write_six(out, 0, 1, 0, 0, 0, 0),
-        checker::RoundsAnswer::Different => write_six(out, 0, 0, 0, 0, 0, 0),
-        checker::RoundsAnswer::Refused { number, place } => {
+        RoundsAnswer::Same => write_six(out, 0, 1, 0, 0, 0, 0),
+        RoundsAnswer::Different => write_six(out, 0, 0, 0, 0, 0, 0),
+        RoundsAnswer::Refused { number, place } => {
             write_six(out, number as u64, place as u64, 0, 0, 0, 0)
         }
     }
 }
 
 // The answer on a plan that was made.
-fn write_plan_answer(answer: builder::PlanAnswer, out: &mut [u64; 6])
+fn write_plan_answer(answer: PlanAnswer, out: &mut [u64; 6])
     ensures { λ r. ⌜ now (out .exit) ≡ inSix (planValues answer) ⌝ }
 {
     match answer {
-        builder::PlanAnswer::Planned {
+        PlanAnswer::Planned {
             distance,
             trials,
             settled,
@@ -133,7 +140,7 @@ fn write_plan_answer(answer: builder::PlanAnswer, out: &mut [u64; 6])
             left_out as u64,
             words as u64,
         ),
-        builder::PlanAnswer::Refused { number, place } => {
+        PlanAnswer::Refused { number, place } => {
             write_six(out, number as u64, place as u64, 0, 0, 0, 0)
         }
     }

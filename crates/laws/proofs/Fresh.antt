@@ -11,8 +11,9 @@ use native.Mathlib.Omega.{arith}
 use lib.ListN.{length}
 use lib.Dec.{eqb}
 use borrow.Author.Tests.{eq-eqb, ne-eqb, eqb-true}
-use Rattle.laws.specs.Lists.{Every, mem, times, unmet, collect, Fresh}
-use Rattle.laws.specs.Tests.{if_then_else_}
+use Rattle.rules.specs.Tests.{if_then_else_}
+use Rattle.rules.specs.Lists.{Every, mem, times, unmet}
+use Rattle.laws.specs.Lists.{collect, Fresh}
 use Rattle.laws.proofs.Lists.{unmet-less}
 
 -- one where a number stands in the list, else none

@@ -8,7 +8,7 @@ use mathlib.Core.List.{List, [], _∷_}
 use native.Mathlib.Decide.{ℕ-discrete}
 use native.Mathlib.Omega.{arith}
 use borrow.Author.Tests.{eq-eqb, ne-eqb}
-use Rattle.laws.specs.Lists.{mem, unmet}
+use Rattle.rules.specs.Lists.{mem, unmet}
 
 -- a number put in front stands in the list, and each other stands there as before
 pub mem-same : (k j : ℕ) (xs : List ℕ) → j ≡ k → mem j (k ∷ xs) ≡ true

@@ -5,7 +5,7 @@ use mathlib.Core.Path.{_≡_, refl}
 use mathlib.Core.Bool.{Bool, true, false, _&&_, false≢true}
 use lib.Dec.{ltb, leb, eqb}
 use borrow.Author.Tests.{le-leb, lt-leb, eq-eqb, ne-eqb, lt-ltb, le-ltb}
-use Rattle.laws.specs.Tests.{if_then_else_, neb}
+use Rattle.rules.specs.Tests.{if_then_else_, neb}
 
 -- `search branches` walks a chain of decisions by the facts of the code's branches
 module _ {A : Type 0} where

@@ -1,13 +1,9 @@
--- A buffer that is written from its front on: what stands in it after some words, and after a fill with zeros.
--- Assumes nothing.
+-- A buffer while it is written from its front on, and filled with zeros. Assumes nothing.
 use Prim.Native.Nat.{ℕ, _-_}
 use mathlib.Core.Path.{_≡_}
 use mathlib.Core.List.{List, _++_}
-use lib.ListN.{length, take, drop, replicate}
-
--- p with ws written over its front
-unfoldable pub over : {A : Type 0} → List A → List A → List A
-over ws p = ws ++ drop (length ws) p
+use lib.ListN.{length, take, replicate}
+use Rattle.rules.specs.Buffer.{over}
 
 -- the buffer, which was p, is now part: the n words ws stand at its front
 pub record Wrote {A : Type 0} (ws p part : List A) (n : ℕ) : Type 0 where

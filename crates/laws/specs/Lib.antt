@@ -1,8 +1,5 @@
-pub mod Answers
 pub mod Bits
 pub mod Buffer
-pub mod Least
 pub mod Lists
 pub mod Marks
-pub mod Tests
 pub mod Walk

@@ -4,9 +4,9 @@ use Prim.Native.Nat.{ℕ, zero, suc, _+_, _-_, _≤_, _<_, min}
 use mathlib.Core.Path.{_≡_}
 use mathlib.Core.Bool.{Bool}
 use lib.Dec.{eqb}
+use Rattle.rules.specs.Tests.{if_then_else_}
+use Rattle.rules.specs.Least.{better, least}
 use Rattle.laws.specs.Bits.{bit}
-use Rattle.laws.specs.Least.{better, least}
-use Rattle.laws.specs.Tests.{if_then_else_}
 
 -- the least of the numbers of 1..n that are below `at`
 unfoldable pub leastBelow : (ok : ℕ → Bool) (key : ℕ → ℕ) (n at : ℕ) → ℕ

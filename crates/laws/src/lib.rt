@@ -1,2 +1,2 @@
-// Laws that more than one crate cites: definitions in specs/, each with its laws in the file of the same name in proofs/.
+// Laws that more than one crate cites: of definitions in specs/ and in crates/rules, in the file of the same name in proofs/.
 // There is no code here.

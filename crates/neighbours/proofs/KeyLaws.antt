@@ -13,13 +13,13 @@ use lib.Dec.{ltb}
 use lib.ListN.{length, getD, set, length-set}
 use lib.Seq.{getD-set-same, getD-set-other}
 use borrow.Author.Tests.{eq-eqb, ne-eqb, le-leb, lt-leb, le-ltb, ltb-true, ltb-false}
-use Rattle.laws.specs.Tests.{if_then_else_}
-use Rattle.day.specs.Fields.{stopPlace, service}
+use Rattle.rules.specs.Tests.{if_then_else_}
+use Rattle.rules.specs.Fields.{stopPlace, service}
+use Rattle.rules.specs.Neighbours.{compatible, neighbourKey}
 use Rattle.day.specs.Layout.{LayoutOf, WindowOf, LegOf}
 use Rattle.day.specs.declared.fields.Layout.{Layout}
 use Rattle.day.specs.declared.fields.Leg.{Leg}
 use Rattle.day.specs.declared.fields.Window.{Window}
-use Rattle.neighbours.specs.Neighbours.{compatible, neighbourKey}
 use Rattle.neighbours.specs.Tables.{noKey, keyOrNone, KeysTo, keyAbove, lesser, leastAbove}
 
 -- a key by the tests that decide it

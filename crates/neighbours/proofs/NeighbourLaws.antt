@@ -10,12 +10,12 @@ use native.Mathlib.Omega.{arith}
 use lib.Dec.{ltb}
 use lib.ListN.{length}
 use borrow.Author.Tests.{eq-eqb, ne-eqb, ltb-true, lt-ltb}
-use Rattle.laws.specs.Least.{IsLeast}
-use Rattle.laws.specs.Lists.{Every, Rising}
+use Rattle.rules.specs.Lists.{Every, Rising}
+use Rattle.rules.specs.Least.{IsLeast}
+use Rattle.rules.specs.Fields.{stops}
+use Rattle.rules.specs.Neighbours.{compatible, neighbourKey, behind, nextNeighbour, neighboursAfter, neighbours, AreNeighbours}
 use Rattle.laws.proofs.Least.{least-is}
 use Rattle.laws.proofs.Tests.{both-true}
-use Rattle.day.specs.Fields.{stops}
-use Rattle.neighbours.specs.Neighbours.{compatible, neighbourKey, behind, nextNeighbour, neighboursAfter, neighbours, AreNeighbours}
 
 module _ (day : List ℕ) (i : ℕ) where
   -- the next one behind a key, and how the list goes on

@@ -13,14 +13,14 @@ use lib.Dec.{eqb, ltb}
 use lib.ListN.{length, getD, set, length-set}
 use lib.Seq.{getD-set-same, getD-set-other}
 use borrow.Author.Tests.{eq-eqb, ne-eqb, eqb-true, eqb-false, lt-ltb, ltb-true}
-use Rattle.laws.specs.Least.{IsLeast}
-use Rattle.laws.specs.Tests.{if_then_else_}
+use Rattle.rules.specs.Tests.{if_then_else_}
+use Rattle.rules.specs.Least.{IsLeast}
+use Rattle.rules.specs.Fields.{stops}
+use Rattle.rules.specs.Neighbours.{compatible, neighbourKey, behind, nextNeighbour, neighboursAfter, neighbours}
 use Rattle.laws.proofs.Least.{least-is, least-only}
 use Rattle.laws.proofs.Tests.{both-true}
-use Rattle.day.specs.Fields.{stops}
 use Rattle.day.specs.Layout.{LayoutOf}
 use Rattle.day.specs.declared.fields.Layout.{Layout}
-use Rattle.neighbours.specs.Neighbours.{compatible, neighbourKey, behind, nextNeighbour, neighboursAfter, neighbours}
 use Rattle.neighbours.specs.Tables.{TableOf, RowsTo, RowOf, noKey, keyOrNone, KeysTo, leastAbove, keyAfter, stopOfKey, RowBy}
 use Rattle.neighbours.proofs.KeyLaws.{IsAbove, above-is}
 

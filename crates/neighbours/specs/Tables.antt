@@ -5,9 +5,9 @@ use mathlib.Core.Path.{_≡_}
 use mathlib.Core.List.{List}
 use lib.Dec.{ltb, eqb}
 use lib.ListN.{length, getD}
-use Rattle.laws.specs.Tests.{if_then_else_}
-use Rattle.day.specs.Fields.{stops}
-use Rattle.neighbours.specs.Neighbours.{compatible, neighbourKey, neighbours}
+use Rattle.rules.specs.Tests.{if_then_else_}
+use Rattle.rules.specs.Fields.{stops}
+use Rattle.rules.specs.Neighbours.{compatible, neighbourKey, neighbours}
 
 -- the row of stop i stands at 50 * i, with 0 behind its last neighbour
 pub record TableOf (day : List ℕ) (K : ℕ) (table : List ℕ) : Type 0 where

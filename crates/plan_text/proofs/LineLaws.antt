@@ -9,11 +9,11 @@ use lib.Dec.{eqb, ltb}
 use lib.ListN.{length, take, drop, getD, length-append}
 use lib.Seq.{length-take-le}
 use borrow.Author.Tests.{ne-eqb, lt-ltb, le-ltb, ltb-false}
-use Rattle.laws.specs.Answers.{given, refused, isGiven}
-use Rattle.laws.specs.Buffer.{over}
-use Rattle.laws.specs.Tests.{if_then_else_, neb}
+use Rattle.rules.specs.Tests.{if_then_else_, neb}
+use Rattle.rules.specs.Answers.{given, refused, isGiven}
+use Rattle.rules.specs.Buffer.{over}
+use Rattle.rules.specs.Bytes.{byteWord, byteWords, readAnswer, readBuffer}
 use Rattle.laws.proofs.Buffer.{over-front}
-use Rattle.day.specs.Bytes.{byteWord, byteWords, readAnswer, readBuffer}
 use Rattle.plan_text.specs.Lines.{tooLong, refusedLine, plannedLine, wordLines, answerText}
 use Rattle.plan_text.specs.Printed.{dayText, bytesText, printed}
 use Rattle.plan_text.specs.Put.{Put}

@@ -7,16 +7,16 @@ use mathlib.Core.List.{List, [], _∷_}
 use native.Mathlib.Omega.{arith}
 use lib.ListN.{length, length-replicate, getD}
 use borrow.Author.Tests.{ne-eqb}
-use Rattle.laws.specs.Answers.{given, refused, isGiven}
-use Rattle.laws.specs.Tests.{if_then_else_}
-use Rattle.day.specs.Accepted.{IsAccepted}
-use Rattle.day.specs.Day.{judgeDay}
-use Rattle.day.specs.Fields.{stops}
+use Rattle.rules.specs.Tests.{if_then_else_}
+use Rattle.rules.specs.Answers.{given, refused, isGiven}
+use Rattle.rules.specs.DayFile.{judgeDay}
+use Rattle.rules.specs.Fields.{stops}
+use Rattle.rules.specs.Accepted.{IsAccepted}
+use Rattle.rules.specs.Planning.{searched}
+use Rattle.rules.specs.Planned.{fewNeighbours, longEnough, resultValues, plannedAnswer, planAnswer, planBuffer}
 use Rattle.day.proofs.Answered.{Judged, accepted, refusal, day-judged, given-accepted}
 use Rattle.day.proofs.Ranges.{accepted-ranges}
-use Rattle.trials.specs.Planning.{searched}
 use Rattle.trials.proofs.Promises.{promised}
-use Rattle.planner.specs.Planned.{fewNeighbours, longEnough, resultValues, plannedAnswer, planAnswer, planBuffer}
 use Rattle.plan_text.specs.Lines.{Within}
 use Rattle.plan_text.specs.Planned.{emptyPlan, printedAnswer, printedBuffer}
 

@@ -7,7 +7,7 @@ use native.Mathlib.Omega.{arith}
 use native.Mathlib.Numerals.{add-one}
 use lib.ListN.{length, take, drop, set, length-append, length-set, take-append-drop}
 use lib.Seq.{length-take-le, set-split, take-at, drop-at, drop-drop}
-use Rattle.laws.specs.Buffer.{over}
+use Rattle.rules.specs.Buffer.{over}
 use Rattle.plan_text.specs.Put.{putAt, Put}
 
 -- the text before the next place

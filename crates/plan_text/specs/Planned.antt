@@ -3,7 +3,7 @@
 use Prim.Native.Nat.{ℕ}
 use mathlib.Core.List.{List}
 use lib.ListN.{replicate}
-use Rattle.planner.specs.Planned.{planAnswer, planBuffer}
+use Rattle.rules.specs.Planned.{planAnswer, planBuffer}
 
 -- the plan's buffer at first
 unfoldable pub emptyPlan : List ℕ

@@ -3,9 +3,9 @@ use Prim.Native.Nat.{ℕ, _/_}
 use mathlib.Core.List.{List}
 use lib.Dec.{ltb}
 use lib.ListN.{length, getD}
-use Rattle.laws.specs.Answers.{isGiven}
-use Rattle.laws.specs.Tests.{if_then_else_}
-use Rattle.day.specs.Bytes.{byteWords, readAnswer}
+use Rattle.rules.specs.Tests.{if_then_else_}
+use Rattle.rules.specs.Answers.{isGiven}
+use Rattle.rules.specs.Bytes.{byteWords, readAnswer}
 use Rattle.plan_text.specs.Lines.{tooLong, refusedLine, answerText}
 use Rattle.plan_text.specs.Planned.{printedAnswer, printedBuffer}
 

@@ -7,7 +7,7 @@ mod put;
 ghost use mathlib.Core.Path.{_≡_};
 ghost use Prim.Native.Nat.{_≤_};
 ghost use lib.ListN.{length, take};
-ghost use Rattle.laws.specs.Buffer.{over};
+ghost use Rattle.rules.specs.Buffer.{over};
 ghost use Rattle.plan_text.specs.Printed.{dayText, bytesText, printed};
 ghost use Rattle.plan_text.specs.Put.{Put};
 use crate::lines::put_answer;
@@ -15,6 +15,7 @@ use crate::lines::put_refused;
 use crate::planned::empty_plan;
 use crate::planned::plan_of;
 use crate::put::put_bytes;
+use rules::answers::WordsAnswer;
 
 // Words enough for 65,536 bytes.
 fn day_words() -> [u32; 16384]
@@ -41,8 +42,8 @@ fn put_file(text: &mut [u8], bytes: &[u8]) -> usize
     let mut words = day_words();
     let answer = day::read_words(bytes, &mut words);
     match answer {
-        day::WordsAnswer::Read { words: count } => put_day(text, &words[..count]),
-        day::WordsAnswer::Refused { number, place } => put_refused(text, number, place),
+        WordsAnswer::Read { words: count } => put_day(text, &words[..count]),
+        WordsAnswer::Refused { number, place } => put_refused(text, number, place),
     }
 }
 

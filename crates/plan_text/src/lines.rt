@@ -2,14 +2,14 @@
 ghost use mathlib.Core.Path.{_≡_};
 ghost use Prim.Native.Nat.{_+_, _*_, _≤_};
 ghost use lib.ListN.{length};
-ghost use Rattle.laws.specs.Tests.{if_then_else_};
-ghost use Rattle.builder.specs.Built.{planValues};
+ghost use Rattle.rules.specs.Tests.{if_then_else_};
+ghost use Rattle.rules.specs.AnswerValues.{planValues};
 ghost use Rattle.plan_text.specs.Lines.{yes, no, refusedLine, plannedLine, answerText, Within};
 ghost use Rattle.plan_text.specs.Put.{Put};
 use crate::numbers::put_number;
 use crate::numbers::put_words;
 use crate::put::put_bytes;
-use builder::PlanAnswer;
+use rules::answers::PlanAnswer;
 
 // "refused", number, place.
 pub fn put_refused(text: &mut [u8], number: u32, place: usize) -> usize

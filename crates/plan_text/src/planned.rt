@@ -1,8 +1,8 @@
 // The call that plans a day to be printed.
 ghost use mathlib.Core.Path.{_≡_};
-ghost use Rattle.builder.specs.Built.{planValues};
+ghost use Rattle.rules.specs.AnswerValues.{planValues};
 ghost use Rattle.plan_text.specs.Planned.{emptyPlan, printedAnswer, printedBuffer};
-use builder::PlanAnswer;
+use rules::answers::PlanAnswer;
 
 // Five words for each of 240 stops.
 pub fn empty_plan() -> [u32; 1200]

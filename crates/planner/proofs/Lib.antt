@@ -1,3 +1,2 @@
-pub mod LetteredCases
 pub mod PlanCalls
 pub mod PlanDemands

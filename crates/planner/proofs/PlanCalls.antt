@@ -9,34 +9,35 @@ use lib.Dec.{ltb, leb}
 use lib.ListN.{length, length-append, length-replicate, getD, take, drop, replicate}
 use lib.Seq.{take-at, drop-at, length-take-le, take-take}
 use borrow.Author.Tests.{le-leb, lt-leb, le-ltb, leb-true}
-use Rattle.laws.specs.Answers.{given, refused}
-use Rattle.laws.specs.Buffer.{over}
-use Rattle.laws.specs.Tests.{if_then_else_}
+use Rattle.rules.specs.Tests.{if_then_else_}
+use Rattle.rules.specs.Answers.{given, refused}
+use Rattle.rules.specs.Buffer.{over}
+use Rattle.rules.specs.DayFile.{judgeDay}
+use Rattle.rules.specs.Fields.{stops}
+use Rattle.rules.specs.Plan.{Round, planWords}
+use Rattle.rules.specs.Build.{greedyRounds, greedyLefts, greedyPlan}
+use Rattle.rules.specs.TrialList.{trialList}
+use Rattle.rules.specs.Attempts.{distanceOf, attempt}
+use Rattle.rules.specs.Search.{Result, improve}
+use Rattle.rules.specs.Planning.{searched}
+use Rattle.rules.specs.AnswerValues.{dayValues, planValues}
+use Rattle.rules.specs.Built.{builtAnswer, planned, builtBuffer}
+use Rattle.rules.specs.Planned.{fewNeighbours, longEnough, resultValues, plannedAnswer, plannedBuffer, planAnswer, planBuffer, SpareKept}
+use Rattle.rules.specs.declared.answers.DayAnswer.{DayAnswer}
+use Rattle.rules.specs.declared.answers.DayAnswer.the-variants as Days
+use Rattle.rules.specs.declared.answers.PlanAnswer.{PlanAnswer}
+use Rattle.rules.specs.declared.answers.PlanAnswer.the-variants as Plans
 use Rattle.laws.proofs.Buffer.{over-drop}
 use Rattle.laws.proofs.Tests.{both-true}
-use Rattle.day.specs.Answers.{dayValues}
-use Rattle.day.specs.declared.DayAnswer.{DayAnswer}
-use Rattle.day.specs.declared.DayAnswer.the-variants as Days
 use Rattle.day.proofs.Answered.{refused-not-given}
-use Rattle.day.specs.Day.{judgeDay}
-use Rattle.day.specs.Fields.{stops}
 use Rattle.day.specs.Layout.{LayoutOf}
 use Rattle.day.specs.declared.fields.Layout.{Layout}
-use Rattle.checker.specs.Plan.{Round, planWords}
-use Rattle.builder.specs.Build.{greedyRounds, greedyLefts, greedyPlan}
-use Rattle.builder.specs.Built.{planValues, builtAnswer, planned, builtBuffer}
-use Rattle.builder.specs.declared.PlanAnswer.{PlanAnswer}
-use Rattle.builder.specs.declared.PlanAnswer.the-variants as Plans
 use Rattle.builder.proofs.GreedyRoom.{greedy-room}
-use Rattle.trial_list.specs.TrialList.{trialList}
 use Rattle.trial_list.proofs.Shapes.{greedy-shaped}
-use Rattle.attempts.specs.Attempts.{distanceOf, attempt}
-use Rattle.trials.specs.Planning.{searched}
-use Rattle.trials.specs.Search.{Result, improve}
 use Rattle.trials.specs.Searches.{PlanAt, fromGreedy, Improved}
 use Rattle.trials.specs.declared.search.Search.{Search}
 use Rattle.trials.proofs.Searching.{lists-one}
-use Rattle.planner.specs.Planned.{fewNeighbours, longEnough, resultValues, plannedAnswer, plannedBuffer, planAnswer, planBuffer, SpareKept, WorkedOver}
+use Rattle.planner.specs.WorkedOver.{WorkedOver}
 
 -- one neighbourhood
 searched-one : (day : List ℕ) (K budget : ℕ) → searched day (K ∷ []) budget ≡ fromGreedy day K budget

@@ -6,11 +6,11 @@ use mathlib.Core.Bool.{true}
 use mathlib.Core.List.{List}
 use lib.ListN.{length}
 use borrow.Author.Tests.{le-leb}
-use Rattle.day.specs.Accepted.{IsAccepted}
-use Rattle.day.specs.Fields.{stops}
+use Rattle.rules.specs.Fields.{stops}
+use Rattle.rules.specs.Accepted.{IsAccepted}
+use Rattle.rules.specs.Planned.{fewNeighbours, longEnough, plannedAnswer, plannedBuffer, planAnswer, planBuffer}
+use Rattle.rules.specs.Demanded.{Answered, Demanded}
 use Rattle.trials.proofs.Promises.{demand-three}
-use Rattle.planner.specs.Planned.{fewNeighbours, longEnough, plannedAnswer, plannedBuffer, planAnswer, planBuffer}
-use Rattle.planner.specs.Promised.{Answered, Demanded}
 
 few-true : (K : ℕ) → 1 ≤ K → K ≤ 50 → fewNeighbours K ≡ true
 unfolding fewNeighbours

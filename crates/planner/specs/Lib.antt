@@ -1,2 +1,1 @@
-pub mod Planned
-pub mod Promised
+pub mod WorkedOver

@@ -2,13 +2,14 @@
 ghost use mathlib.Core.Path.{_≡_};
 ghost use Prim.Native.Nat.{_≤_, _<_, _*_};
 ghost use lib.ListN.{length};
-ghost use Rattle.day.specs.Accepted.{IsAccepted};
+ghost use Rattle.rules.specs.Accepted.{IsAccepted};
+ghost use Rattle.rules.specs.AnswerValues.{planValues};
+ghost use Rattle.rules.specs.Planned.{fewNeighbours, longEnough, plannedAnswer, plannedBuffer, SpareKept};
 ghost use Rattle.day.specs.Layout.{LayoutOf};
-ghost use Rattle.builder.specs.Built.{planValues};
-ghost use Rattle.planner.specs.Planned.{fewNeighbours, longEnough, WorkedOver, plannedAnswer, plannedBuffer, SpareKept};
-use builder::PlanAnswer;
+ghost use Rattle.planner.specs.WorkedOver.{WorkedOver};
 use builder::greedy::build_accepted;
 use day::fields::Layout;
+use rules::answers::PlanAnswer;
 use trials::improve::improve;
 
 // The greedy plan, worked over in buffers that are long enough.

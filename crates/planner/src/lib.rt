@@ -3,11 +3,13 @@ pub mod accepted;
 
 ghost use mathlib.Core.Path.{_≡_};
 ghost use lib.ListN.{length};
-ghost use Rattle.builder.specs.Built.{planValues, buildAnswer, buildBuffer};
-ghost use Rattle.planner.specs.Planned.{planAnswer, planBuffer, SpareKept};
+ghost use Rattle.rules.specs.AnswerValues.{planValues};
+ghost use Rattle.rules.specs.Built.{buildAnswer, buildBuffer};
+ghost use Rattle.rules.specs.Planned.{planAnswer, planBuffer, SpareKept};
 use crate::accepted::plan_accepted;
-use builder::PlanAnswer;
 use builder::greedy::build_accepted;
+use rules::answers::DayAnswer;
+use rules::answers::PlanAnswer;
 
 // The greedy plan of any day, in a buffer of any length.
 pub fn build(day: &[u32], plan: &mut [u32]) -> PlanAnswer
@@ -15,10 +17,10 @@ pub fn build(day: &[u32], plan: &mut [u32]) -> PlanAnswer
     ensures buffer { λ r. ⌜ now (plan .exit) ≡ buildBuffer (now (day .entry)) (now (plan .entry)) ⌝ }
 {
     match day::judge(day) {
-        day::DayAnswer::Accepted { stops: _, tips: _ } => {
+        DayAnswer::Accepted { stops: _, tips: _ } => {
             build_accepted(day, day::fields::layout_of(day), plan)
         }
-        day::DayAnswer::Refused { number, place } => PlanAnswer::Refused { number, place },
+        DayAnswer::Refused { number, place } => PlanAnswer::Refused { number, place },
     }
 }
 
@@ -29,10 +31,10 @@ pub fn plan(day: &[u32], k: u64, budget: u64, plan: &mut [u32], work: &mut [u32]
     ensures spare { λ r. ⌜ SpareKept (planAnswer (now (day .entry)) k budget (length (now (plan .entry))) (length (now (work .entry)))) (now (work .entry)) (now (work .exit)) ⌝ }
 {
     match day::judge(day) {
-        day::DayAnswer::Accepted { stops: _, tips: _ } => {
+        DayAnswer::Accepted { stops: _, tips: _ } => {
             plan_accepted(day, day::fields::layout_of(day), k, budget, plan, work)
         }
-        day::DayAnswer::Refused {
+        DayAnswer::Refused {
             number,
             place: word,
         } => {

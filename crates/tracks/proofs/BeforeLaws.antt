@@ -9,16 +9,16 @@ use native.Mathlib.Numerals.{add-one}
 use native.Mathlib.Decide.{ℕ-discrete}
 use lib.ListN.{length, length-append, length-map, getD, take, drop}
 use lib.Seq.{take-suc, drop-cons}
+use Rattle.rules.specs.PlanWords.{vehicleWord, restWord}
+use Rattle.rules.specs.Plan.{Task, serve, empty, lunch, Round, taskWord, stopsOn, Known}
+use Rattle.rules.specs.Trip.{leaving}
+use Rattle.rules.specs.Build.{Truck, fresh}
+use Rattle.rules.specs.WalkedAgain.{walkOn}
+use Rattle.rules.specs.declared.walk.Trip.{Trip}
 use Rattle.laws.specs.Buffer.{Wrote}
-use Rattle.checker.specs.Plan.{Task, serve, empty, lunch, Round, taskWord, stopsOn, Known}
-use Rattle.checker.specs.PlanWords.{vehicleWord, restWord}
-use Rattle.checker.specs.Trip.{leaving}
-use Rattle.checker.specs.declared.walk.Trip.{Trip}
-use Rattle.builder.specs.Build.{Truck, fresh}
 use Rattle.builder.proofs.VehicleStops.{stops-append}
 use Rattle.walks.specs.Cabs.{Start, atDepot, Stands, failed, onRoad}
 use Rattle.walks.specs.Rewalks.{Means, aStop, aTip, SomeWord, WalksWord}
-use Rattle.walks.specs.Walk.{walkOn}
 use Rattle.walks.specs.declared.cabs.Cab.{Cab}
 use Rattle.walks.proofs.CabLaws.{standing-trip}
 use Rattle.walks.proofs.MidwayLaws.{every-at, get-map, fresh-stands}

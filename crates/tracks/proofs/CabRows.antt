@@ -7,7 +7,7 @@ use native.Mathlib.Omega.{arith}
 use lib.Dec.{eqb}
 use lib.ListN.{length, length-set, getD, set}
 use lib.Seq.{getD-set-same, getD-set-other}
-use Rattle.laws.specs.Tests.{if_then_else_}
+use Rattle.rules.specs.Tests.{if_then_else_}
 use Rattle.walks.specs.declared.cabs.Cab.{Cab}
 use Rattle.tracks.specs.Before.{cabAt, RowHolds, RowsKept}
 

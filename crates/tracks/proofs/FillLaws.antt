@@ -8,10 +8,10 @@ use native.Mathlib.Decide.{ℕ-discrete}
 use native.Mathlib.Omega.{arith}
 use lib.ListN.{length, getD, drop, length-drop, length-append, length-map}
 use lib.Seq.{drop-cons, drop-length, getD-drop}
-use Rattle.laws.specs.Lists.{Every}
-use Rattle.day.specs.Fields.{places}
-use Rattle.checker.specs.Plan.{lunch, Round, taskWord, Known}
-use Rattle.checker.specs.PlanWords.{backWord}
+use Rattle.rules.specs.Lists.{Every}
+use Rattle.rules.specs.Fields.{places}
+use Rattle.rules.specs.PlanWords.{backWord}
+use Rattle.rules.specs.Plan.{lunch, Round, taskWord, Known}
 use Rattle.tracks.specs.Behind.{homeward, taskFirst, onwardOf, rowAt, RowPut, SomeTask, PutsFirst, RoundTo, SomeRoundTo, FillsBehind}
 use Rattle.tracks.specs.declared.behind.Onward.{Onward}
 use Rattle.tracks.proofs.OnwardLaws.{onward-bounds}

@@ -7,10 +7,10 @@ use mathlib.Core.List.{List}
 use native.Mathlib.Omega.{arith}
 use lib.Dec.{leb}
 use borrow.Author.Tests.{le-leb, lt-leb, eq-eqb, ne-eqb}
-use Rattle.day.specs.Fields.{tips, stops, stopPlace, loadLimit, quantity}
+use Rattle.rules.specs.Fields.{tips, stops, stopPlace, loadLimit, quantity}
+use Rattle.rules.specs.Plan.{Task, serve, empty, lunch, taskWord, Known}
 use Rattle.day.specs.Layout.{LayoutOf}
 use Rattle.day.specs.declared.fields.Layout.{Layout}
-use Rattle.checker.specs.Plan.{Task, serve, empty, lunch, taskWord, Known}
 use Rattle.tracks.specs.Behind.{distanceOnward, stopFirst, tipFirst, SomeTask, PutsFirst}
 use Rattle.tracks.specs.declared.behind.Onward.{Onward}
 

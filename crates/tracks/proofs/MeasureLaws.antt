@@ -9,20 +9,20 @@ use lib.Dec.{leb, ltb, eqb}
 use lib.ListN.{length, length-append, length-map, take, drop, take-append-drop}
 use lib.Seq.{length-take-le}
 use borrow.Author.Tests.{ltb-true, leb-true, eqb-true, le-ltb, lt-ltb, ne-eqb, eq-eqb}
+use Rattle.rules.specs.Fields.{places}
+use Rattle.rules.specs.PlanWords.{vehicleWord}
+use Rattle.rules.specs.Plan.{serve, empty, lunch, Round, taskWord, stopsOn}
+use Rattle.rules.specs.Lawful.{distanceFrom}
+use Rattle.rules.specs.Build.{Truck, fresh}
+use Rattle.rules.specs.Edits.{Edit, change, changed}
+use Rattle.rules.specs.WalkedAgain.{walkOn, walkHome}
+use Rattle.rules.specs.declared.walk.Trip.{Trip}
 use Rattle.laws.specs.Buffer.{Wrote}
 use Rattle.laws.proofs.Buffer.{wrote-same}
 use Rattle.laws.proofs.Tests.{both-true}
-use Rattle.day.specs.Fields.{places}
-use Rattle.checker.specs.Lawful.{distanceFrom}
-use Rattle.checker.specs.Plan.{serve, empty, lunch, Round, taskWord, stopsOn}
-use Rattle.checker.specs.PlanWords.{vehicleWord}
-use Rattle.checker.specs.declared.walk.Trip.{Trip}
-use Rattle.builder.specs.Build.{Truck, fresh}
 use Rattle.builder.proofs.VehicleStops.{stops-append}
 use Rattle.walks.specs.Cabs.{Riding, Start, onRoad}
-use Rattle.walks.specs.Edits.{Edit, change, changed}
 use Rattle.walks.specs.Rewalks.{fromTask, Midway, Again, AgainAs}
-use Rattle.walks.specs.Walk.{walkOn, walkHome}
 use Rattle.walks.specs.declared.cabs.Cab.{Cab}
 use Rattle.walks.specs.declared.vehicle.Walked.{Walked}
 use Rattle.walks.proofs.CabLaws.{riding-trip}

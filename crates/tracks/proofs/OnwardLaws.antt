@@ -10,15 +10,15 @@ use native.Mathlib.Omega.{arith}
 use lib.Dec.{eqb, leb, ltb}
 use lib.ListN.{length, drop}
 use borrow.Author.Tests.{lt-ltb, le-ltb, leb-true, eqb-true}
-use Rattle.laws.specs.Lists.{Every}
-use Rattle.laws.specs.Tests.{if_then_else_}
-use Rattle.day.specs.Fields.{stopPlace, loadLimit, quantity, legDistance}
-use Rattle.checker.specs.Cargo.{cargoAfter}
-use Rattle.checker.specs.Lawful.{distanceFrom}
-use Rattle.checker.specs.Plan.{Task, serve, empty, lunch, Round, Known}
-use Rattle.builder.specs.Build.{Truck, doing, resting}
+use Rattle.rules.specs.Tests.{if_then_else_}
+use Rattle.rules.specs.Lists.{Every}
+use Rattle.rules.specs.Fields.{stopPlace, loadLimit, quantity, legDistance}
+use Rattle.rules.specs.Plan.{Task, serve, empty, lunch, Round, Known}
+use Rattle.rules.specs.Lawful.{distanceFrom}
+use Rattle.rules.specs.Cargo.{cargoAfter}
+use Rattle.rules.specs.Build.{Truck, doing, resting}
+use Rattle.rules.specs.WalkedAgain.{emptiedFirst, exceeds, servingThen, walkTask, walkNext, walkOn, walkHome}
 use Rattle.builder.proofs.Driving.{resting-keeps}
-use Rattle.walks.specs.Walk.{emptiedFirst, exceeds, servingThen, walkTask, walkNext, walkOn, walkHome}
 use Rattle.tracks.specs.Behind.{distanceOnward, stopFirst, tipFirst, taskFirst, onwardOf, OnwardWithin, BehindOf, rowAt}
 use Rattle.tracks.specs.Kept.{kept}
 use Rattle.tracks.specs.declared.behind.Onward.{Onward}

@@ -6,8 +6,8 @@ use native.Mathlib.Numerals.{add-one}
 use native.Mathlib.Omega.{arith}
 use lib.ListN.{length, length-append, length-drop, length-map, getD, take, drop}
 use lib.Seq.{take-at, drop-at, drop-drop}
-use Rattle.checker.specs.Plan.{Round, taskWord, roundWords, roundsWords, planWords}
-use Rattle.checker.specs.PlanWords.{backWord, leftWord}
+use Rattle.rules.specs.PlanWords.{backWord, leftWord}
+use Rattle.rules.specs.Plan.{Round, taskWord, roundWords, roundsWords, planWords}
 use Rattle.trial_list.proofs.TaskPlaces.{starts-next}
 use Rattle.tracks.specs.Tables.{firstTask}
 

@@ -7,13 +7,13 @@ use native.Mathlib.Omega.{arith}
 use lib.ListN.{length, length-map, length-drop, getD, take, drop, drop-of-length-le}
 use lib.Seq.{split-at, length-take-le, take-take, drop-drop}
 use borrow.Author.Tests.{eq-eqb, ne-eqb}
-use Rattle.laws.specs.Lists.{times}
-use Rattle.laws.specs.Tests.{if_then_else_}
-use Rattle.checker.specs.Plan.{serve, empty, lunch, Round, taskWord, stopsOn}
-use Rattle.checker.specs.PlanWords.{stopWord}
+use Rattle.rules.specs.Tests.{if_then_else_}
+use Rattle.rules.specs.Lists.{times}
+use Rattle.rules.specs.PlanWords.{stopWord}
+use Rattle.rules.specs.Plan.{serve, empty, lunch, Round, taskWord, stopsOn}
+use Rattle.rules.specs.Edits.{Edit, before, after, swap, remove, replace, changeStop, changeTip, change, changed}
 use Rattle.builder.proofs.GreedyForm.{times-append}
 use Rattle.builder.proofs.VehicleStops.{stops-append}
-use Rattle.walks.specs.Edits.{Edit, before, after, swap, remove, replace, changeStop, changeTip, change, changed}
 use Rattle.tracks.specs.Kept.{kept}
 use Rattle.tracks.specs.Span.{Outside, Single, PlaceOf, Holds, whole, stands, Covers}
 

@@ -9,8 +9,8 @@ use native.Mathlib.Omega.{arith}
 use lib.ListN.{length, length-map, getD, take, drop}
 use lib.Seq.{take-take}
 use borrow.Rule.Slice.PartMut.{putMid, mid-len, same-len-mid}
-use Rattle.laws.specs.Lists.{Every}
-use Rattle.checker.specs.Plan.{Round, taskWord, roundsWords, Known}
+use Rattle.rules.specs.Lists.{Every}
+use Rattle.rules.specs.Plan.{Round, taskWord, roundsWords, Known}
 use Rattle.walks.proofs.MidwayLaws.{every-at}
 use Rattle.trial_list.proofs.TaskPlaces.{starts-next, starts-within}
 use Rattle.tracks.specs.Before.{Walks, BeforeOf, FilledBefore}

@@ -5,11 +5,11 @@ use mathlib.Core.Path.{_≡_, ap}
 use mathlib.Core.List.{List, [], _∷_}
 use native.Mathlib.Omega.{arith}
 use lib.ListN.{length, length-append, getD}
-use Rattle.day.specs.Accepted.{IsAccepted}
-use Rattle.day.specs.Fields.{stops}
+use Rattle.rules.specs.Fields.{stops}
+use Rattle.rules.specs.Accepted.{IsAccepted}
+use Rattle.rules.specs.Plan.{Round, planWords, stopsOn, stopsOnAll}
+use Rattle.rules.specs.Build.{greedyLefts}
 use Rattle.day.proofs.Ranges.{accepted-ranges}
-use Rattle.checker.specs.Plan.{Round, planWords, stopsOn, stopsOnAll}
-use Rattle.builder.specs.Build.{greedyLefts}
 use Rattle.walks.proofs.MidwayLaws.{every-at}
 use Rattle.trial_list.specs.Shapes.{Shaped}
 use Rattle.trial_list.specs.Survey.{Surveyed}

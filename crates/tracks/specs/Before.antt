@@ -7,11 +7,11 @@ use mathlib.Core.List.{List, [], _∷_, map}
 use mathlib.Core.Option.{Option, none, some}
 use lib.Dec.{eqb}
 use lib.ListN.{length, getD, take, drop}
-use Rattle.laws.specs.Lists.{Every}
-use Rattle.checker.specs.Plan.{Task, Round, taskWord, stopsOn, Known}
-use Rattle.builder.specs.Build.{Truck, fresh}
+use Rattle.rules.specs.Lists.{Every}
+use Rattle.rules.specs.Plan.{Task, Round, taskWord, stopsOn, Known}
+use Rattle.rules.specs.Build.{Truck, fresh}
+use Rattle.rules.specs.WalkedAgain.{walkOn}
 use Rattle.walks.specs.Cabs.{Riding, Start, Stands}
-use Rattle.walks.specs.Walk.{walkOn}
 use Rattle.walks.specs.declared.cabs.Cab.{Cab}
 use Rattle.tracks.specs.Kept.{kept}
 

@@ -6,9 +6,9 @@ use mathlib.Core.List.{List, [], _∷_}
 use mathlib.Core.Logic.{_⊎_}
 use lib.Dec.{eqb, leb}
 use lib.ListN.{length, getD, drop}
-use Rattle.laws.specs.Tests.{if_then_else_}
-use Rattle.day.specs.Fields.{places, stopPlace, loadLimit, quantity, legDistance}
-use Rattle.checker.specs.Plan.{Task, serve, empty, lunch, Round, taskWord, Known}
+use Rattle.rules.specs.Tests.{if_then_else_}
+use Rattle.rules.specs.Fields.{places, stopPlace, loadLimit, quantity, legDistance}
+use Rattle.rules.specs.Plan.{Task, serve, empty, lunch, Round, taskWord, Known}
 use Rattle.trial_list.specs.Survey.{RoundAt}
 use Rattle.tracks.specs.declared.behind.Onward.{Onward}
 

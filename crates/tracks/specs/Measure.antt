@@ -6,9 +6,9 @@ use mathlib.Core.Bool.{Bool, _&&_}
 use mathlib.Core.List.{List}
 use lib.Dec.{leb, ltb, eqb}
 use lib.ListN.{length}
-use Rattle.checker.specs.Plan.{Round, stopsOn}
+use Rattle.rules.specs.Plan.{Round, stopsOn}
+use Rattle.rules.specs.Edits.{Edit, changed}
 use Rattle.walks.specs.Cabs.{Start}
-use Rattle.walks.specs.Edits.{Edit, changed}
 use Rattle.walks.specs.Rewalks.{Walkable, Midway, AgainAs}
 use Rattle.walks.specs.declared.cabs.Cab.{Cab}
 use Rattle.walks.specs.declared.vehicle.Walked.{Walked}

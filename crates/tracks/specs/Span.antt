@@ -5,10 +5,10 @@ use mathlib.Core.Path.{_≡_}
 use mathlib.Core.Bool.{Bool, true, false}
 use mathlib.Core.List.{List}
 use lib.ListN.{length, getD, take, drop}
-use Rattle.laws.specs.Lists.{times}
-use Rattle.checker.specs.Plan.{Round, stopsOn}
-use Rattle.checker.specs.PlanWords.{stopWord}
-use Rattle.walks.specs.Edits.{Edit, before, after, swap, remove, replace, changed}
+use Rattle.rules.specs.Lists.{times}
+use Rattle.rules.specs.PlanWords.{stopWord}
+use Rattle.rules.specs.Plan.{Round, stopsOn}
+use Rattle.rules.specs.Edits.{Edit, before, after, swap, remove, replace, changed}
 use Rattle.tracks.specs.Kept.{kept}
 
 -- outside of these tasks the edit changes nothing but takes rests off

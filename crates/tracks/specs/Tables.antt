@@ -3,8 +3,8 @@ use Prim.Native.Nat.{ℕ, _+_, _-_, _*_, _≤_, _<_}
 use mathlib.Core.Path.{_≡_}
 use mathlib.Core.List.{List, []}
 use lib.ListN.{length, getD, take, drop}
-use Rattle.laws.specs.Lists.{Every}
-use Rattle.checker.specs.Plan.{Round, roundsWords, planWords, stopsOn, Known}
+use Rattle.rules.specs.Lists.{Every}
+use Rattle.rules.specs.Plan.{Round, roundsWords, planWords, stopsOn, Known}
 use Rattle.tracks.specs.Before.{BeforeOf, RowsKept}
 use Rattle.tracks.specs.Behind.{BehindOf, rowAt}
 

@@ -11,17 +11,17 @@ use native.Mathlib.Omega.{arith}
 use lib.Dec.{eqb}
 use lib.ListN.{length, length-append}
 use borrow.Author.Tests.{eq-eqb}
-use Rattle.laws.specs.Lists.{Every, total}
-use Rattle.laws.specs.Tests.{if_then_else_}
-use Rattle.day.specs.Fields.{stops, tips}
-use Rattle.neighbours.specs.Neighbours.{neighbours}
+use Rattle.rules.specs.Tests.{if_then_else_}
+use Rattle.rules.specs.Lists.{Every, total}
+use Rattle.rules.specs.Fields.{stops, tips}
+use Rattle.rules.specs.Plan.{serve, empty, lunch, Round, Known}
+use Rattle.rules.specs.Neighbours.{neighbours}
+use Rattle.rules.specs.Edits.{onOne, onTwo, before, after, swap}
+use Rattle.rules.specs.TrialList.{each, rising, vehicleOf, pairTrials, stopTrials, otherTip, taskTrials, roundTrials, tipTrials, trialList}
 use Rattle.neighbours.proofs.NeighbourLaws.{neighbours-are}
-use Rattle.checker.specs.Plan.{serve, empty, lunch, Round, Known}
 use Rattle.builder.proofs.Decided.{known}
 use Rattle.builder.specs.Rooms.{emptiesIn}
 use Rattle.builder.proofs.GreedyRoom.{rounds-tips}
-use Rattle.walks.specs.Edits.{onOne, onTwo, before, after, swap}
-use Rattle.trial_list.specs.TrialList.{each, rising, vehicleOf, pairTrials, stopTrials, otherTip, taskTrials, roundTrials, tipTrials, trialList}
 use Rattle.trial_list.specs.Shapes.{Shaped}
 use Rattle.trial_list.proofs.Shapes.{shaped-stops}
 

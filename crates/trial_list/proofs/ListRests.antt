@@ -7,23 +7,23 @@ use mathlib.Core.Bool.{true, false, true≢false}
 use mathlib.Core.List.{List, [], _∷_, _++_}
 use native.Mathlib.Omega.{arith}
 use lib.ListN.{length-append}
-use Rattle.laws.specs.Lists.{Every}
-use Rattle.day.specs.Accepted.{IsAccepted}
-use Rattle.day.specs.Fields.{stops, tips}
+use Rattle.rules.specs.Lists.{Every}
+use Rattle.rules.specs.Fields.{stops, tips}
+use Rattle.rules.specs.Accepted.{IsAccepted}
+use Rattle.rules.specs.Plan.{Round, roundWords, roundsWords, planWords, Known}
+use Rattle.rules.specs.Edits.{Trial}
+use Rattle.rules.specs.TrialList.{stopTrials, trialList}
 use Rattle.day.specs.Layout.{LayoutOf}
 use Rattle.day.specs.declared.fields.Layout.{Layout}
 use Rattle.day.proofs.Ranges.{accepted-ranges}
 use Rattle.neighbours.specs.Tables.{TableOf}
-use Rattle.checker.specs.Plan.{Round, roundWords, roundsWords, planWords, Known}
 use Rattle.builder.proofs.GreedyRoom.{round-length}
-use Rattle.walks.specs.Edits.{Trial}
 use Rattle.walks.specs.Rewalks.{editOf, EditKnown, EditSmall}
 use Rattle.walks.specs.declared.edits.Edit as Code
 use Rattle.walks.specs.declared.edits.Edit.the-variants as Edits
 use Rattle.walks.proofs.EditLaws.{Named}
 use Rattle.trial_list.specs.Listing.{PairsOf, PairAnswer, TipsOf, TipAnswer, PlanTables, CursorFits, ListAnswer}
 use Rattle.trial_list.specs.Survey.{Surveyed}
-use Rattle.trial_list.specs.TrialList.{stopTrials, trialList}
 use Rattle.trial_list.specs.TrialRest.{listedTrial, pairRest, tipRest, restOf, listStart}
 use Rattle.trial_list.specs.declared.listing.Cursor.{Cursor}
 use Rattle.trial_list.specs.declared.listing.Listed.{Listed}

@@ -10,15 +10,15 @@ use native.Mathlib.Omega.{arith}
 use lib.Dec.{eqb}
 use lib.ListN.{length}
 use borrow.Author.Tests.{eqb-true, eqb-false, not-true}
-use Rattle.laws.specs.Lists.{Every}
+use Rattle.rules.specs.Lists.{Every}
+use Rattle.rules.specs.Fields.{stops, tips}
+use Rattle.rules.specs.Plan.{Task, serve, empty, lunch, Round, Known}
+use Rattle.rules.specs.Neighbours.{compatible, neighbours}
+use Rattle.rules.specs.TrialList.{each, rising, vehicleOf, pairTrials, stopTrials, otherTip, taskTrials, roundTrials, tipTrials, trialList}
 use Rattle.laws.proofs.Fresh.{every-append}
 use Rattle.laws.proofs.Tests.{both-true}
-use Rattle.day.specs.Fields.{stops, tips}
-use Rattle.neighbours.specs.Neighbours.{compatible, neighbours}
 use Rattle.neighbours.proofs.NeighbourLaws.{neighbours-are}
-use Rattle.checker.specs.Plan.{Task, serve, empty, lunch, Round, Known}
 use Rattle.builder.proofs.Decided.{known}
-use Rattle.trial_list.specs.TrialList.{each, rising, vehicleOf, pairTrials, stopTrials, otherTip, taskTrials, roundTrials, tipTrials, trialList}
 use Rattle.trial_list.specs.Shapes.{Shaped, On, Valid, moved-before, moved-after, swapped, removed, replaced}
 use Rattle.trial_list.proofs.Shapes.{shaped-once, vehicle-found}
 

@@ -12,16 +12,16 @@ use lib.Dec.{ltb}
 use lib.ListN.{length, getD, drop, drop-of-length-le, List·getD-eq-default}
 use lib.Seq.{drop-cons}
 use borrow.Author.Tests.{eq-eqb, ne-eqb, ltb-true, ltb-false}
-use Rattle.laws.specs.Lists.{Every}
-use Rattle.day.specs.Fields.{stops}
+use Rattle.rules.specs.Lists.{Every}
+use Rattle.rules.specs.Fields.{stops}
+use Rattle.rules.specs.Plan.{Round}
+use Rattle.rules.specs.Neighbours.{neighbours}
+use Rattle.rules.specs.Edits.{before, after, swap, Trial, onOne, onTwo}
+use Rattle.rules.specs.TrialList.{each, rising, pairTrials}
 use Rattle.day.specs.declared.fields.Layout.{Layout}
-use Rattle.neighbours.specs.Neighbours.{neighbours}
 use Rattle.neighbours.proofs.NeighbourLaws.{neighbours-are}
-use Rattle.checker.specs.Plan.{Round}
 use Rattle.builder.proofs.Decided.{known}
-use Rattle.walks.specs.Edits.{before, after, swap, Trial, onOne, onTwo}
 use Rattle.trial_list.specs.Listing.{Goes, nextRank, halfway, nextStop, PairTells, no-trial, last-trial, first-trial, PairsOf, pairsLeft, PairStep, PairAnswer}
-use Rattle.trial_list.specs.TrialList.{each, rising, pairTrials}
 use Rattle.trial_list.specs.TrialRest.{listedTrial, pairOn, fromHalf, neighboursFrom, stopsFrom, pairRest}
 use Rattle.trial_list.specs.declared.listing.PairListed.{PairListed}
 use Rattle.trial_list.specs.declared.listing.PairPlace.{PairPlace}

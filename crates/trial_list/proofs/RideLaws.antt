@@ -11,16 +11,16 @@ use lib.Dec.{eqb, ltb}
 use lib.ListN.{length, getD, drop, set, length-drop, length-set}
 use lib.Seq.{drop-cons, getD-set-same, getD-set-other}
 use borrow.Author.Tests.{eq-eqb, ne-eqb, lt-ltb, le-ltb}
-use Rattle.laws.specs.Lists.{Every, mem}
-use Rattle.laws.specs.Tests.{if_then_else_}
+use Rattle.rules.specs.Tests.{if_then_else_}
+use Rattle.rules.specs.Lists.{Every, mem}
+use Rattle.rules.specs.Fields.{tips, places, stopPlace, legDistance}
+use Rattle.rules.specs.PlanWords.{stopWord, tipWord, restWord, backWord}
+use Rattle.rules.specs.Plan.{Task, serve, empty, lunch, Round, taskWord, stopsOn, Known}
+use Rattle.rules.specs.Lawful.{distanceFrom}
 use Rattle.laws.proofs.Lists.{mem-same, mem-other}
-use Rattle.day.specs.Fields.{tips, places, stopPlace, legDistance}
 use Rattle.day.specs.Layout.{LayoutOf, LegOf}
 use Rattle.day.specs.declared.fields.Layout.{Layout}
 use Rattle.day.specs.declared.fields.Leg.{Leg}
-use Rattle.checker.specs.Lawful.{distanceFrom}
-use Rattle.checker.specs.Plan.{Task, serve, empty, lunch, Round, taskWord, stopsOn, Known}
-use Rattle.checker.specs.PlanWords.{stopWord, tipWord, restWord, backWord}
 use Rattle.trial_list.specs.Survey.{RoundAt, SomeRound, EndsAll, firstOf, vehicleThen, Ended, placeOf, placeThen, distanceThen, vehiclesThen, TaskWord}
 use Rattle.trial_list.specs.declared.survey.Driven.{Driven}
 

@@ -10,18 +10,18 @@ use native.Mathlib.Omega.{arith}
 use lib.Dec.{eqb}
 use lib.ListN.{length, getD}
 use borrow.Author.Tests.{eq-eqb, ne-eqb}
-use Rattle.laws.specs.Lists.{mem, times}
-use Rattle.day.specs.Accepted.{IsAccepted}
-use Rattle.day.specs.Fields.{stops}
+use Rattle.rules.specs.Lists.{mem, times}
+use Rattle.rules.specs.Fields.{stops}
+use Rattle.rules.specs.Accepted.{IsAccepted}
+use Rattle.rules.specs.Plan.{serve, Round, stopsOn, stopsOnAll, planWords, Formed}
+use Rattle.rules.specs.Build.{greedyRounds, greedyLefts}
+use Rattle.rules.specs.TrialList.{vehicleFrom}
 use Rattle.day.proofs.Ranges.{accepted-ranges}
-use Rattle.checker.specs.Plan.{serve, Round, stopsOn, stopsOnAll, planWords, Formed}
 use Rattle.checker.proofs.PlanChecks.{busy-rounds}
-use Rattle.builder.specs.Build.{greedyRounds, greedyLefts}
 use Rattle.builder.proofs.Decided.{known}
 use Rattle.builder.proofs.GreedyForm.{times-append, greedy-known, greedy-busy, greedy-rising, greedy-once, greedy-others, greedy-named}
 use Rattle.builder.proofs.GreedyRoom.{rounds-words, plan-length, greedy-rooms}
 use Rattle.trial_list.specs.Shapes.{Shaped, EachFrom, StandsOn}
-use Rattle.trial_list.specs.TrialList.{vehicleFrom}
 
 pub greedy-shaped : (day : List ℕ) → Shaped day (greedyRounds day)
 greedy-shaped day =

@@ -10,14 +10,14 @@ use native.Mathlib.Omega.{arith}
 use lib.ListN.{length, getD, take, drop, set, length-set, length-drop, length-append, length-map, List·getD-eq-default}
 use lib.Seq.{take-suc, drop-cons, drop-drop, drop-at, getD-set-same, getD-set-other}
 use borrow.Author.Tests.{lt-ltb, ltb-true}
-use Rattle.laws.specs.Lists.{Every, mem}
-use Rattle.laws.specs.Tests.{if_then_else_}
+use Rattle.rules.specs.Tests.{if_then_else_}
+use Rattle.rules.specs.Lists.{Every, mem}
+use Rattle.rules.specs.PlanWords.{vehicleWord, stopWord, backWord, leftWord}
+use Rattle.rules.specs.Plan.{Round, taskWord, roundWords, roundsWords, planWords, stopsOn, Known}
+use Rattle.rules.specs.Lawful.{distanceFrom}
+use Rattle.rules.specs.TrialList.{vehicleFrom, vehicleOf}
 use Rattle.laws.proofs.Tests.{both-true}
-use Rattle.checker.specs.Lawful.{distanceFrom}
-use Rattle.checker.specs.Plan.{Round, taskWord, roundWords, roundsWords, planWords, stopsOn, Known}
-use Rattle.checker.specs.PlanWords.{vehicleWord, stopWord, backWord, leftWord}
 use Rattle.trial_list.specs.Survey.{PlanOf, SomePlan, Surveyed, SurveysAll, RoundAt, SomeRound, firstOf, vehicleThen, EndsAll, isVehicle}
-use Rattle.trial_list.specs.TrialList.{vehicleFrom, vehicleOf}
 use Rattle.trial_list.specs.declared.survey.Driven.{Driven}
 use Rattle.trial_list.proofs.RideLaws.{WordAt, word-at, first-some, first-none, first-zero}
 

@@ -6,8 +6,8 @@ use mathlib.Core.List.{List, [], _∷_, _++_, map, append-assoc}
 use native.Mathlib.Omega.{arith}
 use lib.ListN.{length, getD, take, length-append}
 use lib.Seq.{getD-append-add}
-use Rattle.checker.specs.Plan.{lunch, Round, taskWord, roundWords, roundsWords}
-use Rattle.checker.specs.PlanWords.{backWord}
+use Rattle.rules.specs.PlanWords.{backWord}
+use Rattle.rules.specs.Plan.{lunch, Round, taskWord, roundWords, roundsWords}
 
 -- where a task's word stands
 word-in : (tasks : Round) (t : ℕ) (ws : List ℕ) → t < length tasks → getD (map taskWord tasks ++ ws) t 0 ≡ taskWord (getD tasks t lunch)

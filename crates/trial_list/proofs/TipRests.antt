@@ -12,16 +12,16 @@ use lib.Dec.{eqb, ltb}
 use lib.ListN.{length, getD, drop, take, drop-of-length-le, length-append, List·getD-eq-default}
 use lib.Seq.{drop-cons}
 use borrow.Author.Tests.{eq-eqb, ne-eqb, eqb-true, eqb-false, ltb-true, ltb-false}
-use Rattle.laws.specs.Lists.{Every}
-use Rattle.laws.specs.Tests.{if_then_else_}
-use Rattle.day.specs.Fields.{stops, tips}
+use Rattle.rules.specs.Tests.{if_then_else_}
+use Rattle.rules.specs.Lists.{Every}
+use Rattle.rules.specs.Fields.{stops, tips}
+use Rattle.rules.specs.PlanWords.{leftWord}
+use Rattle.rules.specs.Plan.{Task, serve, empty, lunch, Round, taskWord, roundsWords, planWords, Known}
+use Rattle.rules.specs.Edits.{remove, replace, Trial, onOne}
+use Rattle.rules.specs.TrialList.{rising, otherTip, taskTrials, roundTrials, tipTrials}
 use Rattle.day.specs.declared.fields.Layout.{Layout}
-use Rattle.checker.specs.Plan.{Task, serve, empty, lunch, Round, taskWord, roundsWords, planWords, Known}
-use Rattle.checker.specs.PlanWords.{leftWord}
 use Rattle.builder.proofs.Decided.{known}
-use Rattle.walks.specs.Edits.{remove, replace, Trial, onOne}
 use Rattle.trial_list.specs.Listing.{Goes, atTip, nextTask, nextVehicle, TipTells, no-tip, a-tip, TipFits, TipsOf, tipsLeft, TipStep, TipSteps, TipAnswer}
-use Rattle.trial_list.specs.TrialList.{rising, otherTip, taskTrials, roundTrials, tipTrials}
 use Rattle.trial_list.specs.TrialRest.{listedTrial, tipFrom, taskFrom, tasksFrom, tipRest}
 use Rattle.trial_list.specs.declared.listing.TipListed.{TipListed}
 use Rattle.trial_list.specs.declared.listing.TipPlace.{TipPlace}

@@ -1,5 +1,4 @@
 pub mod Listing
 pub mod Shapes
 pub mod Survey
-pub mod TrialList
 pub mod TrialRest

@@ -5,15 +5,15 @@ use mathlib.Core.Path.{_≡_}
 use mathlib.Core.Bool.{Bool, true, false}
 use mathlib.Core.List.{List, [], _∷_}
 use lib.ListN.{length, getD, take}
-use Rattle.laws.specs.Lists.{Every}
-use Rattle.day.specs.Fields.{stops}
+use Rattle.rules.specs.Lists.{Every}
+use Rattle.rules.specs.Fields.{stops}
+use Rattle.rules.specs.Plan.{Round, roundsWords, planWords, Known}
+use Rattle.rules.specs.Edits.{Trial}
+use Rattle.rules.specs.TrialList.{vehicleOf}
 use Rattle.day.specs.Layout.{LayoutOf}
 use Rattle.day.specs.declared.fields.Layout.{Layout}
 use Rattle.neighbours.specs.Tables.{TableOf}
-use Rattle.checker.specs.Plan.{Round, roundsWords, planWords, Known}
-use Rattle.walks.specs.Edits.{Trial}
 use Rattle.trial_list.specs.Survey.{Surveyed}
-use Rattle.trial_list.specs.TrialList.{vehicleOf}
 use Rattle.trial_list.specs.TrialRest.{listedTrial, fromHalf, pairRest, tipFrom, tipRest, restOf}
 use Rattle.trial_list.specs.declared.listing.Cursor.{Cursor}
 use Rattle.trial_list.specs.declared.listing.Listed.{Listed}

@@ -5,12 +5,12 @@ use mathlib.Core.Path.{_≡_}
 use mathlib.Core.List.{List, [], _∷_}
 use lib.Dec.{eqb}
 use lib.ListN.{length}
-use Rattle.laws.specs.Lists.{Every, times}
-use Rattle.laws.specs.Tests.{if_then_else_}
-use Rattle.checker.specs.Plan.{serve, empty, Round, stopsOn, stopsOnAll, Known}
-use Rattle.builder.specs.Build.{greedyRounds}
+use Rattle.rules.specs.Tests.{if_then_else_}
+use Rattle.rules.specs.Lists.{Every, times}
+use Rattle.rules.specs.Plan.{serve, empty, Round, stopsOn, stopsOnAll, Known}
+use Rattle.rules.specs.Build.{greedyRounds}
+use Rattle.rules.specs.Edits.{before, after, swap, remove, replace, Trial, onOne, onTwo}
 use Rattle.builder.specs.Rooms.{Room}
-use Rattle.walks.specs.Edits.{before, after, swap, remove, replace, Trial, onOne, onTwo}
 
 -- a plan as trials find and leave it, lawful or not
 pub record Shaped (day : List ℕ) (rounds : List Round) : Type 0 where

@@ -6,13 +6,13 @@ use mathlib.Core.Bool.{Bool, _&&_}
 use mathlib.Core.List.{List, [], _∷_, _++_, map}
 use lib.Dec.{eqb, ltb}
 use lib.ListN.{length, getD, take, drop, set}
-use Rattle.laws.specs.Lists.{Every, mem}
-use Rattle.laws.specs.Tests.{if_then_else_}
-use Rattle.day.specs.Fields.{tips, stops, places, legDistance}
-use Rattle.checker.specs.Lawful.{distanceFrom}
-use Rattle.checker.specs.Plan.{Round, taskWord, roundsWords, planWords, stopsOn, Known}
-use Rattle.checker.specs.PlanWords.{stopWord, tipWord, restWord, backWord}
-use Rattle.trial_list.specs.TrialList.{vehicleOf}
+use Rattle.rules.specs.Tests.{if_then_else_}
+use Rattle.rules.specs.Lists.{Every, mem}
+use Rattle.rules.specs.Fields.{tips, stops, places, legDistance}
+use Rattle.rules.specs.PlanWords.{stopWord, tipWord, restWord, backWord}
+use Rattle.rules.specs.Plan.{Round, taskWord, roundsWords, planWords, stopsOn, Known}
+use Rattle.rules.specs.Lawful.{distanceFrom}
+use Rattle.rules.specs.TrialList.{vehicleOf}
 use Rattle.trial_list.specs.declared.survey.Driven.{Driven}
 
 -- the plan has these vehicles and leaves these stops out

@@ -4,13 +4,13 @@ use mathlib.Core.Bool.{Bool, false, _||_}
 use mathlib.Core.List.{List, [], _∷_, _++_}
 use lib.Dec.{eqb}
 use lib.ListN.{getD, drop}
-use Rattle.laws.specs.Tests.{if_then_else_}
-use Rattle.day.specs.Fields.{stops, tips}
-use Rattle.neighbours.specs.Neighbours.{neighbours}
-use Rattle.checker.specs.Plan.{Task, serve, empty, lunch, Round}
-use Rattle.walks.specs.Edits.{before, after, swap, remove, Trial, onOne, onTwo}
+use Rattle.rules.specs.Tests.{if_then_else_}
+use Rattle.rules.specs.Fields.{stops, tips}
+use Rattle.rules.specs.Plan.{Task, serve, empty, lunch, Round}
+use Rattle.rules.specs.Neighbours.{neighbours}
+use Rattle.rules.specs.Edits.{before, after, swap, remove, Trial, onOne, onTwo}
+use Rattle.rules.specs.TrialList.{each, rising, pairTrials, otherTip, roundTrials, tipTrials}
 use Rattle.walks.specs.Rewalks.{trialOf}
-use Rattle.trial_list.specs.TrialList.{each, rising, pairTrials, otherTip, roundTrials, tipTrials}
 use Rattle.trial_list.specs.declared.listing.Cursor.{Cursor}
 use Rattle.trial_list.specs.declared.listing.PairPlace.{PairPlace}
 use Rattle.trial_list.specs.declared.listing.TipPlace.{TipPlace}

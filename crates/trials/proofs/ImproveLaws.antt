@@ -6,12 +6,12 @@ use mathlib.Core.List.{List, _++_, append-nil}
 use native.Mathlib.Omega.{arith}
 use lib.ListN.{length, take, drop, replicate}
 use lib.Seq.{drop-length}
-use Rattle.checker.specs.Plan.{planWords}
-use Rattle.builder.specs.Build.{greedyRounds, greedyLefts}
-use Rattle.trial_list.specs.TrialList.{trialList}
+use Rattle.rules.specs.Plan.{planWords}
+use Rattle.rules.specs.Build.{greedyRounds, greedyLefts}
+use Rattle.rules.specs.TrialList.{trialList}
+use Rattle.rules.specs.Attempts.{distanceOf, attempt}
 use Rattle.trial_list.specs.TrialRest.{listStart}
 use Rattle.trial_list.proofs.ListRests.{whole-list, start-fits, start-valid}
-use Rattle.attempts.specs.Attempts.{distanceOf, attempt}
 use Rattle.trials.specs.Searches.{PlanAt, MakesTables, TakenOver, Searching, Improved}
 use Rattle.trials.specs.declared.search.Search.{Search}
 use Rattle.trials.proofs.Searching.{loop-start}

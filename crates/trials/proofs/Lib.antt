@@ -3,4 +3,3 @@ pub mod Promises
 pub mod SearchSteps
 pub mod Searching
 pub mod TakeOverLaws
-pub mod TrialCases

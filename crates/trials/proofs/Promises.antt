@@ -10,29 +10,29 @@ use native.Mathlib.Omega.{arith}
 use lib.Dec.{ltb}
 use lib.ListN.{length}
 use borrow.Author.Tests.{ltb-true}
-use Rattle.laws.specs.Answers.{given, isGiven}
-use Rattle.laws.specs.Lists.{Every}
+use Rattle.rules.specs.Answers.{given, isGiven}
+use Rattle.rules.specs.Lists.{Every}
+use Rattle.rules.specs.Fields.{stops, tips}
+use Rattle.rules.specs.Accepted.{IsAccepted}
+use Rattle.rules.specs.Plan.{Round}
+use Rattle.rules.specs.Check.{checkPlan}
+use Rattle.rules.specs.Build.{greedyRounds, greedyLefts, greedyPlan}
+use Rattle.rules.specs.Edits.{Trial}
+use Rattle.rules.specs.TrialList.{trialList}
+use Rattle.rules.specs.Attempts.{tried, distanceOf, isLawful, keptIf, attempt}
+use Rattle.rules.specs.Search.{lists, sum}
+use Rattle.rules.specs.Planning.{searched}
+use Rattle.rules.specs.Demands.{plannedRounds, Promised, DemandThree}
 use Rattle.laws.proofs.Fresh.{every-append}
 use Rattle.laws.proofs.Tests.{both-true, only-first}
-use Rattle.day.specs.Accepted.{IsAccepted}
-use Rattle.day.specs.Fields.{stops, tips}
-use Rattle.checker.specs.Check.{checkPlan}
-use Rattle.checker.specs.Plan.{Round}
-use Rattle.builder.specs.Build.{greedyRounds, greedyLefts, greedyPlan}
 use Rattle.builder.proofs.GreedyLawful.{greedy-answer}
 use Rattle.builder.proofs.LeftOut.{left-out-justified}
-use Rattle.walks.specs.Edits.{Trial}
-use Rattle.trial_list.specs.TrialList.{trialList}
 use Rattle.trial_list.proofs.ListLength.{trials-bound}
 use Rattle.trial_list.proofs.Listed.{every-mem, listed-all}
 use Rattle.trial_list.specs.Shapes.{Shaped, Valid}
 use Rattle.trial_list.proofs.Shapes.{greedy-shaped, shaped-length, shaped-formed}
-use Rattle.attempts.specs.Attempts.{tried, distanceOf, isLawful, keptIf, attempt}
 use Rattle.attempts.proofs.PlanTold.{told-lawful, told-totals}
 use Rattle.attempts.proofs.ShapeKept.{valid-shaped}
-use Rattle.trials.specs.Planning.{searched}
-use Rattle.trials.specs.Demands.{plannedRounds, Promised, DemandThree}
-use Rattle.trials.specs.Search.{lists, sum}
 use Rattle.trials.proofs.Searching.{outcome, settled-iff, result-keeps, improve-dist, more-budget, settles, lists-bound}
 
 -- a trial that is kept: the plan that it gives, lawful and shorter

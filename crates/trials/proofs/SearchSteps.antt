@@ -8,24 +8,24 @@ use mathlib.Core.Option.{none, some}
 use native.Mathlib.Omega.{arith}
 use lib.ListN.{take, drop}
 use borrow.Author.Tests.{not-true, not-false}
-use Rattle.laws.specs.Lists.{Every}
-use Rattle.laws.specs.Tests.{if_then_else_}
-use Rattle.day.specs.Accepted.{IsAccepted}
+use Rattle.rules.specs.Tests.{if_then_else_}
+use Rattle.rules.specs.Lists.{Every}
+use Rattle.rules.specs.Accepted.{IsAccepted}
+use Rattle.rules.specs.Plan.{Round}
+use Rattle.rules.specs.Build.{greedyLefts}
+use Rattle.rules.specs.TrialList.{trialList}
+use Rattle.rules.specs.Attempts.{attempt}
 use Rattle.day.specs.Layout.{LayoutOf}
 use Rattle.day.specs.declared.fields.Layout.{Layout}
 use Rattle.day.proofs.Ranges.{accepted-ranges}
 use Rattle.neighbours.specs.Tables.{TableOf}
-use Rattle.checker.specs.Plan.{Round}
 use Rattle.builder.proofs.Decided.{known}
-use Rattle.builder.specs.Build.{greedyLefts}
 use Rattle.trial_list.specs.Listing.{PlanTables, ListAnswer}
 use Rattle.trial_list.specs.Shapes.{Valid}
-use Rattle.trial_list.specs.TrialList.{trialList}
 use Rattle.trial_list.specs.TrialRest.{restOf, listStart, listedTrial}
 use Rattle.trial_list.specs.declared.listing.Cursor.{Cursor}
 use Rattle.trial_list.specs.declared.listing.Listed.{Listed}
 use Rattle.trial_list.proofs.ListRests.{whole-list, start-fits, plan-tables, start-valid, next-valid, valid-names, Names}
-use Rattle.attempts.specs.Attempts.{attempt}
 use Rattle.attempts.specs.Tries.{Made, SomeMade, TriedAs}
 use Rattle.attempts.specs.declared.tries.Tried.{Tried}
 use Rattle.attempts.proofs.ShapeKept.{valid-shaped}

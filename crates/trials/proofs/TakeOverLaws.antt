@@ -5,13 +5,14 @@ use mathlib.Core.List.{List}
 use native.Mathlib.Omega.{arith}
 use lib.ListN.{length, take, drop}
 use lib.Seq.{length-take-le}
-use Rattle.laws.specs.Buffer.{Wrote, over}
+use Rattle.rules.specs.Buffer.{over}
+use Rattle.rules.specs.Fields.{stops}
+use Rattle.rules.specs.Accepted.{IsAccepted}
+use Rattle.rules.specs.Plan.{Round, planWords}
+use Rattle.rules.specs.Build.{greedyLefts}
+use Rattle.laws.specs.Buffer.{Wrote}
 use Rattle.laws.proofs.Buffer.{over-front}
-use Rattle.day.specs.Accepted.{IsAccepted}
-use Rattle.day.specs.Fields.{stops}
 use Rattle.day.proofs.Ranges.{accepted-ranges}
-use Rattle.checker.specs.Plan.{Round, planWords}
-use Rattle.builder.specs.Build.{greedyLefts}
 use Rattle.trial_list.specs.Shapes.{Shaped}
 use Rattle.trial_list.specs.Survey.{PlanOf, SomePlan, Surveyed, SurveysAll}
 use Rattle.trial_list.proofs.Shapes.{shaped-few, shaped-length}

@@ -1,4 +1,1 @@
-pub mod Demands
-pub mod Planning
-pub mod Search
 pub mod Searches

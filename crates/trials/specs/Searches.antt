@@ -4,22 +4,22 @@ use mathlib.Core.Path.{_≡_}
 use mathlib.Core.Bool.{true, false}
 use mathlib.Core.List.{List, _∷_, _++_}
 use lib.ListN.{length, take, replicate}
-use Rattle.laws.specs.Lists.{Every}
-use Rattle.checker.specs.Plan.{Round, planWords}
-use Rattle.builder.specs.Build.{greedyRounds, greedyLefts}
-use Rattle.walks.specs.Edits.{Trial}
+use Rattle.rules.specs.Lists.{Every}
+use Rattle.rules.specs.Plan.{Round, planWords}
+use Rattle.rules.specs.Build.{greedyRounds, greedyLefts}
+use Rattle.rules.specs.Edits.{Trial}
+use Rattle.rules.specs.TrialList.{trialList}
+use Rattle.rules.specs.Attempts.{distanceOf, attempt}
+use Rattle.rules.specs.Search.{Result, run, improve}
 use Rattle.trial_list.specs.Listing.{CursorFits}
 use Rattle.trial_list.specs.Shapes.{Shaped, Valid}
 use Rattle.trial_list.specs.Survey.{Surveyed}
-use Rattle.trial_list.specs.TrialList.{trialList}
 use Rattle.trial_list.specs.TrialRest.{restOf, listedTrial}
 use Rattle.trial_list.specs.declared.listing.Cursor.{Cursor}
 use Rattle.trial_list.specs.declared.listing.Listed.{Listed}
-use Rattle.attempts.specs.Attempts.{distanceOf, attempt}
 use Rattle.attempts.specs.Tries.{TriedAs}
 use Rattle.attempts.specs.declared.tries.Tried.{Tried}
 use Rattle.tracks.specs.Tables.{TrackedIn}
-use Rattle.trials.specs.Search.{Result, run, improve}
 use Rattle.trials.specs.declared.search.Search.{Search}
 
 -- a plan of these words is one that trials work on

@@ -2,7 +2,7 @@
 ghost use mathlib.Core.Path.{_≡_};
 ghost use Prim.Native.Nat.{_≤_, _*_};
 ghost use lib.ListN.{length};
-ghost use Rattle.day.specs.Accepted.{IsAccepted};
+ghost use Rattle.rules.specs.Accepted.{IsAccepted};
 ghost use Rattle.day.specs.Layout.{LayoutOf};
 ghost use Rattle.trials.specs.Searches.{SomeHeld, MakesTables};
 use day::fields::Layout;

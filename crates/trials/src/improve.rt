@@ -2,10 +2,10 @@
 ghost use mathlib.Core.Path.{_≡_};
 ghost use Prim.Native.Nat.{_≤_, _*_};
 ghost use lib.ListN.{length};
-ghost use Rattle.day.specs.Accepted.{IsAccepted};
+ghost use Rattle.rules.specs.Accepted.{IsAccepted};
+ghost use Rattle.rules.specs.Build.{greedyRounds};
+ghost use Rattle.rules.specs.Attempts.{distanceOf};
 ghost use Rattle.day.specs.Layout.{LayoutOf};
-ghost use Rattle.builder.specs.Build.{greedyRounds};
-ghost use Rattle.attempts.specs.Attempts.{distanceOf};
 ghost use Rattle.trials.specs.Searches.{PlanAt, Improved};
 use crate::held::Held;
 use crate::search::Search;

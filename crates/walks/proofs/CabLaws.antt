@@ -7,24 +7,24 @@ use mathlib.Core.Option.{none, some}
 use native.Mathlib.Omega.{arith}
 use lib.ListN.{length, length-append, length-map, set}
 use borrow.Author.Tests.{ne-eqb}
+use Rattle.rules.specs.Fields.{stops, tips, stopPlace, quantity}
+use Rattle.rules.specs.Accepted.{IsAccepted}
+use Rattle.rules.specs.PlanWords.{vehicleWord, stopWord, tipWord, restWord}
+use Rattle.rules.specs.Plan.{Task, serve, empty, lunch, Round, taskWord, stopsOn}
+use Rattle.rules.specs.Cargo.{cargoAfter}
+use Rattle.rules.specs.Trip.{visited}
+use Rattle.rules.specs.Tips.{nearestTip}
+use Rattle.rules.specs.Home.{due, restIfDue}
+use Rattle.rules.specs.Build.{Truck, doing, resting}
+use Rattle.rules.specs.WalkedAgain.{inserting}
+use Rattle.rules.specs.declared.walk.Trip.{Trip}
 use Rattle.laws.specs.Buffer.{Wrote}
 use Rattle.laws.proofs.Buffer.{wrote-put, wrote-same}
-use Rattle.day.specs.Accepted.{IsAccepted}
 use Rattle.day.proofs.Ranges.{accepted-ranges}
-use Rattle.day.specs.Fields.{stops, tips, stopPlace, quantity}
-use Rattle.checker.specs.Cargo.{cargoAfter}
-use Rattle.checker.specs.Plan.{Task, serve, empty, lunch, Round, taskWord, stopsOn}
-use Rattle.checker.specs.PlanWords.{vehicleWord, stopWord, tipWord, restWord}
-use Rattle.checker.specs.Trip.{visited}
-use Rattle.checker.specs.declared.walk.Trip.{Trip}
-use Rattle.builder.specs.Build.{Truck, doing, resting}
-use Rattle.builder.specs.Home.{due, restIfDue}
-use Rattle.builder.specs.Tips.{nearestTip}
 use Rattle.builder.specs.States.{SmallTrip}
 use Rattle.builder.proofs.Decided.{bit-most}
 use Rattle.builder.proofs.GreedyRoom.{paid-rest, paid-serve, paid-empty, tasks-counted}
 use Rattle.builder.proofs.VehicleStops.{stops-append}
-use Rattle.walks.specs.Walk.{inserting}
 use Rattle.walks.specs.Cabs.{Modest, Riding, Start, Standing, Stands, failed, onRoad, SomeStanding, Drives}
 use Rattle.walks.specs.declared.cabs.Cab.{Cab}
 

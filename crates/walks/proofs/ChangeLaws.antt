@@ -7,12 +7,12 @@ use mathlib.Core.Logic.{inl, inr}
 use native.Mathlib.Omega.{arith}
 use lib.Dec.{eqb, leb}
 use borrow.Author.Tests.{eq-eqb, ne-eqb, le-leb, lt-leb, eqb-true, eqb-false}
-use Rattle.laws.specs.Tests.{if_then_else_}
-use Rattle.day.specs.Fields.{stops}
-use Rattle.checker.specs.Plan.{Task, serve, empty, lunch, taskWord, Known}
-use Rattle.checker.specs.PlanWords.{stopWord, tipWord, restWord}
+use Rattle.rules.specs.Tests.{if_then_else_}
+use Rattle.rules.specs.Fields.{stops}
+use Rattle.rules.specs.PlanWords.{stopWord, tipWord, restWord}
+use Rattle.rules.specs.Plan.{Task, serve, empty, lunch, taskWord, Known}
+use Rattle.rules.specs.Edits.{Edit, before, after, swap, remove, replace, changeStop, changeTip, change}
 use Rattle.builder.proofs.Decided.{known}
-use Rattle.walks.specs.Edits.{Edit, before, after, swap, remove, replace, changeStop, changeTip, change}
 use Rattle.walks.specs.Rewalks.{Means, nothing, aStop, aTip, Becomes}
 
 -- which tip gives way

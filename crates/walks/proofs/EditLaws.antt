@@ -8,14 +8,14 @@ use native.Mathlib.Omega.{arith}
 use lib.Dec.{eqb}
 use lib.ListN.{length, length-append}
 use borrow.Author.Tests.{eqb-true, eqb-false, eq-eqb, ne-eqb}
-use Rattle.laws.specs.Lists.{Every, times}
-use Rattle.laws.specs.Tests.{if_then_else_}
+use Rattle.rules.specs.Tests.{if_then_else_}
+use Rattle.rules.specs.Lists.{Every, times}
+use Rattle.rules.specs.Plan.{Task, serve, empty, lunch, Round, stopsOn, Known}
+use Rattle.rules.specs.Edits.{Edit, before, after, swap, remove, replace, changeStop, changeTip, change, changed}
 use Rattle.laws.proofs.Fresh.{every-append}
-use Rattle.checker.specs.Plan.{Task, serve, empty, lunch, Round, stopsOn, Known}
 use Rattle.builder.proofs.Decided.{known}
 use Rattle.builder.proofs.GreedyForm.{times-append}
 use Rattle.builder.proofs.VehicleStops.{stops-append}
-use Rattle.walks.specs.Edits.{Edit, before, after, swap, remove, replace, changeStop, changeTip, change, changed}
 
 -- which stop stands where a stop stood: an interchange renames two, any other edit none
 unfoldable pub renamed : Edit → ℕ → ℕ

@@ -10,11 +10,11 @@ use native.Mathlib.Omega.{arith}
 use lib.Dec.{eqb}
 use lib.ListN.{length}
 use borrow.Author.Tests.{eqb-true, eqb-false, eq-eqb, ne-eqb}
-use Rattle.laws.specs.Lists.{Every, times}
-use Rattle.laws.specs.Tests.{if_then_else_}
-use Rattle.checker.specs.Plan.{serve, empty, Round, stopsOn, Known}
+use Rattle.rules.specs.Tests.{if_then_else_}
+use Rattle.rules.specs.Lists.{Every, times}
+use Rattle.rules.specs.Plan.{serve, empty, Round, stopsOn, Known}
+use Rattle.rules.specs.Edits.{Edit, before, after, swap, remove, replace, changeStop}
 use Rattle.builder.proofs.Decided.{known}
-use Rattle.walks.specs.Edits.{Edit, before, after, swap, remove, replace, changeStop}
 use Rattle.walks.proofs.EditLaws.{renamed, Named, Suits, times-all, length-all, changed-known, move-same, move-count}
 
 module _ (day : List ℕ) (tasks : Round) (h : Every (Known day) tasks) where

@@ -6,19 +6,19 @@ use mathlib.Core.List.{List, [], _∷_, _++_, map}
 use mathlib.Core.Option.{Option, none, some, Option·none-ne-some}
 use native.Mathlib.Omega.{arith}
 use lib.ListN.{length, set}
+use Rattle.rules.specs.Lists.{Every}
+use Rattle.rules.specs.Fields.{legDistance}
+use Rattle.rules.specs.PlanWords.{vehicleWord, backWord}
+use Rattle.rules.specs.Plan.{Round, taskWord, roundWords, stopsOn, Known}
+use Rattle.rules.specs.Lawful.{distanceFrom}
+use Rattle.rules.specs.Build.{Truck, fresh}
+use Rattle.rules.specs.Edits.{Edit, changed}
+use Rattle.rules.specs.WalkedAgain.{walkOn, walkHome, doneBy, walkedAgain}
+use Rattle.rules.specs.declared.walk.Trip.{Trip}
 use Rattle.laws.specs.Buffer.{Wrote}
-use Rattle.laws.specs.Lists.{Every}
 use Rattle.laws.proofs.Buffer.{wrote-put, wrote-same}
-use Rattle.day.specs.Fields.{legDistance}
-use Rattle.checker.specs.Lawful.{distanceFrom}
-use Rattle.checker.specs.Plan.{Round, taskWord, roundWords, stopsOn, Known}
-use Rattle.checker.specs.PlanWords.{vehicleWord, backWord}
-use Rattle.checker.specs.declared.walk.Trip.{Trip}
-use Rattle.builder.specs.Build.{Truck, fresh}
 use Rattle.walks.specs.Cabs.{Start, atDepot, SomeStanding, Drives}
-use Rattle.walks.specs.Edits.{Edit, changed}
 use Rattle.walks.specs.Rewalks.{Walkable, Through, SomeDone, BackAs, ComesBack, Again, AgainAs, WalkedAs}
-use Rattle.walks.specs.Walk.{walkOn, walkHome, doneBy, walkedAgain}
 use Rattle.walks.specs.declared.cabs.Cab.{Cab}
 use Rattle.walks.specs.declared.vehicle.Walked.{Walked}
 use Rattle.walks.proofs.CabLaws.{standing-fewer, standing-space}

@@ -7,20 +7,20 @@ use mathlib.Core.Option.{Option, some}
 use native.Mathlib.Omega.{arith}
 use lib.Dec.{eqb}
 use lib.ListN.{length, length-append, length-map, getD, drop, drop-of-length-le}
+use Rattle.rules.specs.Tests.{if_then_else_}
+use Rattle.rules.specs.Lists.{Every}
+use Rattle.rules.specs.PlanWords.{vehicleWord}
+use Rattle.rules.specs.Plan.{lunch, Round, stopsOn, taskWord}
+use Rattle.rules.specs.Trip.{leaving}
+use Rattle.rules.specs.Build.{Truck, fresh}
+use Rattle.rules.specs.Edits.{Edit, changed}
+use Rattle.rules.specs.WalkedAgain.{walkOn}
 use Rattle.laws.specs.Buffer.{Wrote}
-use Rattle.laws.specs.Lists.{Every}
-use Rattle.laws.specs.Tests.{if_then_else_}
 use Rattle.laws.proofs.Buffer.{wrote-same}
-use Rattle.checker.specs.Plan.{lunch, Round, stopsOn, taskWord}
-use Rattle.checker.specs.PlanWords.{vehicleWord}
-use Rattle.checker.specs.Trip.{leaving}
-use Rattle.builder.specs.Build.{Truck, fresh}
 use Rattle.builder.proofs.GreedyRoom.{paid-fresh}
 use Rattle.builder.proofs.VehicleStops.{stops-append}
 use Rattle.walks.specs.Cabs.{Start, atDepot, Stands, failed, onRoad}
-use Rattle.walks.specs.Edits.{Edit, changed}
 use Rattle.walks.specs.Rewalks.{editOf, EditKnown, SomeWord, WalksWord, Left, fromTask, fromWaiting, Turned, TakesTurn, steps, Walkable, Midway}
-use Rattle.walks.specs.Walk.{walkOn}
 use Rattle.walks.specs.declared.cabs.Cab.{Cab}
 use Rattle.walks.specs.declared.edits.Edit as Code
 use Rattle.walks.specs.declared.vehicle.Turn.{Turn}

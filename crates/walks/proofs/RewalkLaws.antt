@@ -9,14 +9,14 @@ use native.Mathlib.Numerals.{add-one}
 use lib.ListN.{length, getD, drop}
 use lib.Seq.{drop-cons}
 use borrow.Author.Tests.{eq-eqb, ne-eqb}
-use Rattle.day.specs.Fields.{stops, tips}
-use Rattle.checker.specs.Plan.{Task, serve, empty, lunch, Round, stopsOn, Known}
-use Rattle.checker.specs.PlanWords.{stopWord, tipWord}
-use Rattle.builder.specs.Build.{Truck, resting}
+use Rattle.rules.specs.Fields.{stops, tips}
+use Rattle.rules.specs.PlanWords.{stopWord, tipWord}
+use Rattle.rules.specs.Plan.{Task, serve, empty, lunch, Round, stopsOn, Known}
+use Rattle.rules.specs.Build.{Truck, resting}
+use Rattle.rules.specs.Edits.{Edit, change, changed}
+use Rattle.rules.specs.WalkedAgain.{walkTask, walkNext, walkOn}
 use Rattle.walks.specs.Cabs.{Start, Stands, failed, onRoad, SomeStanding, Drives}
-use Rattle.walks.specs.Edits.{Edit, change, changed}
 use Rattle.walks.specs.Rewalks.{Means, nothing, aStop, aTip, Becomes, SomeWord, WalksWord, Left, fromTask, fromWaiting, Turned, steps}
-use Rattle.walks.specs.Walk.{walkTask, walkNext, walkOn}
 use Rattle.walks.specs.declared.cabs.Cab.{Cab}
 use Rattle.walks.specs.declared.vehicle.Turn.{Turn}
 use Rattle.walks.proofs.CabLaws.{standing-fewer, on-road}

@@ -8,13 +8,13 @@ use native.Mathlib.Omega.{arith}
 use lib.Dec.{ltb}
 use lib.ListN.{length}
 use borrow.Author.Tests.{lt-ltb, le-ltb, ltb-true}
+use Rattle.rules.specs.Fields.{stopPlace, loadLimit, quantity}
+use Rattle.rules.specs.Plan.{serve, empty}
+use Rattle.rules.specs.Tips.{nearestTip}
+use Rattle.rules.specs.Build.{Truck, doing, resting}
+use Rattle.rules.specs.WalkedAgain.{inserting, emptiedFirst, exceeds, servingThen, walkTask, walkHome}
 use Rattle.laws.proofs.Tests.{both-true}
-use Rattle.day.specs.Fields.{stopPlace, loadLimit, quantity}
-use Rattle.checker.specs.Plan.{serve, empty}
-use Rattle.builder.specs.Build.{Truck, doing, resting}
-use Rattle.builder.specs.Tips.{nearestTip}
 use Rattle.walks.specs.Cabs.{Start, Standing, Stands, failed, onRoad, SomeStanding, Drives}
-use Rattle.walks.specs.Walk.{inserting, emptiedFirst, exceeds, servingThen, walkTask, walkHome}
 use Rattle.walks.specs.declared.cabs.Cab.{Cab}
 use Rattle.walks.proofs.CabLaws.{standing-fewer, on-road}
 

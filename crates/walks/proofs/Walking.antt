@@ -11,21 +11,21 @@ use native.Mathlib.Omega.{arith}
 use lib.Dec.{ltb, eqb}
 use lib.ListN.{length, length-append}
 use borrow.Author.Tests.{eqb-false, ltb-true}
-use Rattle.laws.specs.Lists.{Every}
+use Rattle.rules.specs.Lists.{Every}
+use Rattle.rules.specs.Fields.{stopPlace, legDistance, quantity, loadLimit}
+use Rattle.rules.specs.Plan.{Task, serve, empty, lunch, Round, stopsOn, Known}
+use Rattle.rules.specs.Lawful.{distanceFrom}
+use Rattle.rules.specs.Tips.{nearestTip}
+use Rattle.rules.specs.Build.{Truck, fresh, doing, resting}
+use Rattle.rules.specs.WalkedAgain.{inserting, emptiedFirst, exceeds, servingThen, walkTask, walkNext, walkOn, walkHome, doneBy, walkedAgain}
 use Rattle.laws.proofs.Fresh.{every-append}
 use Rattle.laws.proofs.Tests.{both-true, only-second}
-use Rattle.day.specs.Fields.{stopPlace, legDistance, quantity, loadLimit}
-use Rattle.checker.specs.Lawful.{distanceFrom}
-use Rattle.checker.specs.Plan.{Task, serve, empty, lunch, Round, stopsOn, Known}
-use Rattle.builder.specs.Build.{Truck, fresh, doing, resting}
-use Rattle.builder.specs.Tips.{nearestTip}
 use Rattle.builder.proofs.Decided.{known, known-option}
 use Rattle.builder.proofs.Driving.{resting-keeps}
 use Rattle.builder.specs.Rooms.{Paid, Room}
 use Rattle.builder.proofs.GreedyRoom.{paid-fresh, paid-rest, paid-serve, paid-empty, paid-room}
 use Rattle.builder.proofs.NextTasks.{nearest-open}
 use Rattle.builder.proofs.VehicleStops.{stops-append, visits-task}
-use Rattle.walks.specs.Walk.{inserting, emptiedFirst, exceeds, servingThen, walkTask, walkNext, walkOn, walkHome, doneBy, walkedAgain}
 
 -- a vehicle on its way that has walked these tasks
 pub record Walked (day : List ℕ) (ts : Round) (v : Truck) : Type 0 where

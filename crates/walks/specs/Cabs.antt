@@ -6,12 +6,12 @@ use mathlib.Core.Bool.{true, false}
 use mathlib.Core.List.{List, [], _∷_, _++_, map}
 use mathlib.Core.Option.{Option, none, some}
 use lib.ListN.{length}
+use Rattle.rules.specs.Fields.{places}
+use Rattle.rules.specs.PlanWords.{vehicleWord}
+use Rattle.rules.specs.Plan.{Round, taskWord, stopsOn}
+use Rattle.rules.specs.Build.{Truck}
 use Rattle.laws.specs.Buffer.{Wrote}
-use Rattle.day.specs.Fields.{places}
-use Rattle.checker.specs.Plan.{Round, taskWord, stopsOn}
-use Rattle.checker.specs.PlanWords.{vehicleWord}
 use Rattle.builder.specs.Rooms.{Paid}
-use Rattle.builder.specs.Build.{Truck}
 use Rattle.walks.specs.declared.cabs.Cab.{Cab}
 
 -- the numbers of a vehicle are small, by the tasks that it has done

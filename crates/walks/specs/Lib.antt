@@ -1,4 +1,2 @@
 pub mod Cabs
-pub mod Edits
 pub mod Rewalks
-pub mod Walk

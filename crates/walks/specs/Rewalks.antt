@@ -7,17 +7,17 @@ use mathlib.Core.List.{List, [], _∷_, _++_, map}
 use mathlib.Core.Option.{Option, none, some}
 use lib.Dec.{eqb}
 use lib.ListN.{length, getD, drop}
+use Rattle.rules.specs.Tests.{if_then_else_}
+use Rattle.rules.specs.Lists.{Every}
+use Rattle.rules.specs.Fields.{tips, stops, legDistance}
+use Rattle.rules.specs.PlanWords.{stopWord, tipWord}
+use Rattle.rules.specs.Plan.{Task, serve, empty, lunch, Round, taskWord, roundWords, stopsOn, Known}
+use Rattle.rules.specs.Lawful.{distanceFrom}
+use Rattle.rules.specs.Build.{Truck, fresh}
+use Rattle.rules.specs.Edits.{Edit, before, after, swap, remove, replace, change, changed, Trial, onTwo}
+use Rattle.rules.specs.WalkedAgain.{walkOn, walkHome, walkedAgain}
 use Rattle.laws.specs.Buffer.{Wrote}
-use Rattle.laws.specs.Lists.{Every}
-use Rattle.laws.specs.Tests.{if_then_else_}
-use Rattle.day.specs.Fields.{tips, stops, legDistance}
-use Rattle.checker.specs.Lawful.{distanceFrom}
-use Rattle.checker.specs.Plan.{Task, serve, empty, lunch, Round, taskWord, roundWords, stopsOn, Known}
-use Rattle.checker.specs.PlanWords.{stopWord, tipWord}
-use Rattle.builder.specs.Build.{Truck, fresh}
 use Rattle.walks.specs.Cabs.{Start, atDepot, Standing, Stands}
-use Rattle.walks.specs.Edits.{Edit, before, after, swap, remove, replace, change, changed, Trial, onTwo}
-use Rattle.walks.specs.Walk.{walkOn, walkHome, walkedAgain}
 use Rattle.walks.specs.declared.cabs.Cab.{Cab}
 use Rattle.walks.specs.declared.edits.Edit as Code
 use Rattle.walks.specs.declared.edits.Edit.the-variants as Edits

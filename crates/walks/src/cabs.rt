@@ -4,21 +4,21 @@ ghost use mathlib.Core.Bool.{_&&_};
 ghost use mathlib.Core.Option.{some};
 ghost use Prim.Native.Nat.{_+_, _<_, _≤_};
 ghost use lib.Dec.{ltb};
-ghost use Rattle.day.specs.Accepted.{IsAccepted};
-ghost use Rattle.day.specs.Fields.{stopPlace, loadLimit, quantity};
+ghost use Rattle.rules.specs.Fields.{stopPlace, loadLimit, quantity};
+ghost use Rattle.rules.specs.Accepted.{IsAccepted};
+ghost use Rattle.rules.specs.Plan.{serve, empty};
+ghost use Rattle.rules.specs.Tips.{nearestTip};
+ghost use Rattle.rules.specs.Build.{doing, resting};
+ghost use Rattle.rules.specs.WalkedAgain.{inserting, exceeds, walkTask, walkHome};
 ghost use Rattle.day.specs.Layout.{LayoutOf};
-ghost use Rattle.checker.specs.Plan.{serve, empty};
-ghost use Rattle.builder.specs.Build.{doing, resting};
-ghost use Rattle.builder.specs.Tips.{nearestTip};
 ghost use Rattle.walks.specs.Cabs.{SomeStanding, Drives};
-ghost use Rattle.walks.specs.Walk.{inserting, exceeds, walkTask, walkHome};
 use builder::home::is_due;
 use builder::home::rest_if_due;
 use builder::home::visit;
 use builder::home::visit_stop;
 use builder::tips::nearest_tip;
-use checker::walk::Trip;
 use day::fields::Layout;
+use rules::walk::Trip;
 
 // Where and when the vehicle is, its load, how many words it has, and whether the trial has failed.
 pub struct Cab {

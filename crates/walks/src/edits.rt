@@ -4,8 +4,8 @@ ghost use mathlib.Core.Bool.{_&&_};
 ghost use lib.Dec.{eqb, leb};
 ghost use Prim.Native.Nat.{ℕ};
 ghost use mathlib.Core.List.{List};
-ghost use Rattle.laws.specs.Tests.{if_then_else_};
-ghost use Rattle.checker.specs.Plan.{Task, taskWord, Known};
+ghost use Rattle.rules.specs.Tests.{if_then_else_};
+ghost use Rattle.rules.specs.Plan.{Task, taskWord, Known};
 ghost use Rattle.walks.specs.Rewalks.{editOf, EditKnown, EditSmall, Becomes};
 
 // A stop moved before or behind another, two interchanged, a tip removed or replaced. A tip is named by its number among the vehicle's tasks.

@@ -2,11 +2,11 @@
 ghost use mathlib.Core.Path.{_≡_};
 ghost use mathlib.Core.Bool.{true, false};
 ghost use Prim.Native.Nat.{_+_, _<_, _≤_};
-ghost use Rattle.day.specs.Accepted.{IsAccepted};
+ghost use Rattle.rules.specs.Accepted.{IsAccepted};
+ghost use Rattle.rules.specs.Plan.{Round};
+ghost use Rattle.rules.specs.Trip.{leaving};
+ghost use Rattle.rules.specs.Edits.{changed};
 ghost use Rattle.day.specs.Layout.{LayoutOf};
-ghost use Rattle.checker.specs.Trip.{leaving};
-ghost use Rattle.checker.specs.Plan.{Round};
-ghost use Rattle.walks.specs.Edits.{changed};
 ghost use Rattle.walks.specs.Rewalks.{editOf, EditKnown, EditSmall, SomeWord, WalksWord, TakesTurn, steps, Walkable, SomeWalkable, WalksAll, SomeDone, ComesBack, WalkedAs};
 use crate::cabs::Cab;
 use crate::cabs::rest_cab;
@@ -15,8 +15,8 @@ use crate::cabs::walk_stop;
 use crate::cabs::walk_tip;
 use crate::edits::Edit;
 use crate::edits::change_word;
-use checker::walk::Trip;
 use day::fields::Layout;
+use rules::walk::Trip;
 
 // One word is walked: a stop or a tip, or none.
 pub fn walk_word(day: &[u32], z: Layout, c: Cab, w: u32, part: &mut [u32]) -> Cab

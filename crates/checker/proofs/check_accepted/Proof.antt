@@ -1,6 +1,6 @@
 -- `checker::check_accepted` meets its contract: the test is that of the definition.
 use borrow.Author.Needs.{needs}
-use Rattle.checker.specs.Check.{checkWords}
+use Rattle.rules.specs.Check.{checkWords}
 use Rattle.laws.proofs.Tests.{branches}
 use Rattle.checker.proofs.check_accepted.Statement.{statement}
 use Rattle.checker.proofs.check_accepted.Tie as tie

@@ -1,6 +1,6 @@
 -- `day::judge` meets its contract: the tests are those of the definition, in its order.
 use borrow.Author.Needs.{needs}
-use Rattle.day.specs.Day.{judgeDay}
+use Rattle.rules.specs.DayFile.{judgeDay}
 use Rattle.laws.proofs.Tests.{branches}
 use Rattle.day.proofs.judge.Statement.{statement}
 use Rattle.day.proofs.judge.Tie as tie

@@ -1,11 +1,11 @@
 -- `day::judge_sized` meets its contract: the tests are those of the definition, in its order.
 use borrow.Author.Needs.{needs}
 use native.Mathlib.Omega.{arith}
+use Rattle.rules.specs.DayFile.{judgeSized}
+use Rattle.laws.proofs.Tests.{branches}
 use Rattle.day.proofs.Forms.{legs-few}
 use Rattle.day.proofs.Parts.{whole-day}
-use Rattle.day.specs.Day.{judgeSized}
 use Rattle.day.specs.Judging.{judgedFrom}
-use Rattle.laws.proofs.Tests.{branches}
 use Rattle.day.proofs.judge_sized.Statement.{statement}
 use Rattle.day.proofs.judge_sized.Tie as tie
 

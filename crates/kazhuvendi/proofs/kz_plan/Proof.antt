@@ -1,6 +1,6 @@
 -- `kazhuvendi::kz_plan` meets its contract.
 use mathlib.Core.Path.{_∙_, ap}
-use Rattle.laws.specs.Answers.{inSix}
+use Rattle.rules.specs.Answers.{inSix}
 use borrow.Author.Needs.{needs}
 use Rattle.kazhuvendi.proofs.kz_plan.Statement.{statement}
 use Rattle.kazhuvendi.proofs.kz_plan.Tie as tie

@@ -1,6 +1,6 @@
 -- `kazhuvendi::write_plan_answer` meets its contract.
 use mathlib.Core.Path.{sym, ap}
-use Rattle.builder.specs.Built.{planValues}
+use Rattle.rules.specs.AnswerValues.{planValues}
 use Rattle.kazhuvendi.proofs.Six.{two-values, six-values}
 use borrow.Author.Needs.{needs}
 use Rattle.kazhuvendi.proofs.write_plan_answer.Statement.{statement}

@@ -4,7 +4,7 @@ use mathlib.Core.Path.{_≡_, refl}
 use mathlib.Core.List.{List}
 use native.Mathlib.Omega.{arith}
 use lib.ListN.{length}
-use Rattle.checker.specs.Plan.{Round}
+use Rattle.rules.specs.Plan.{Round}
 use Rattle.builder.proofs.BuiltPlans.{room-is}
 use Rattle.walks.specs.Rewalks.{trialOf}
 use Rattle.attempts.specs.Candidates.{Trying, Written}

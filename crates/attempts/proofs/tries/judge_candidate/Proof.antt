@@ -1,7 +1,7 @@
 -- `attempts::tries::judge_candidate` meets its contract.
 use mathlib.Core.Path.{refl, sym, _∙_, ap}
 use mathlib.Core.Bool.{true≢false}
-use Rattle.checker.specs.Answers.{answerValues}
+use Rattle.rules.specs.AnswerValues.{answerValues}
 use Rattle.attempts.proofs.KeptLaws.{judged-shorter, judged-longer, judged-refused}
 use borrow.Author.Needs.{needs}
 use Rattle.attempts.proofs.tries.judge_candidate.Statement.{statement}

@@ -3,11 +3,11 @@ use Prim.Native.Nat.{_*_, _-_, _≤_}
 use borrow.Author.Needs.{needs}
 use mathlib.Core.Path.{_≡_, ap, _∙_, refl}
 use native.Mathlib.Omega.{arith}
-use Rattle.laws.specs.Least.{least}
+use Rattle.rules.specs.Least.{least}
+use Rattle.rules.specs.Choice.{waitable, openKey}
 use Rattle.laws.specs.Marks.{marked, both}
 use Rattle.laws.specs.Walk.{leastBelow}
 use Rattle.laws.proofs.Walk.{below-none, below-all, word-next}
-use Rattle.builder.specs.Choice.{waitable, openKey}
 use Rattle.builder.proofs.choice.earliest_stop.Statement.{statement}
 use Rattle.builder.proofs.choice.earliest_stop.Tie as tie
 

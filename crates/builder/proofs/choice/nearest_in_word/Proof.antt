@@ -3,10 +3,10 @@ use Prim.Native.Nat.{_≤_}
 use native.Mathlib.Omega.{arith}
 use borrow.Author.Needs.{needs}
 use mathlib.Core.Path.{refl}
+use Rattle.rules.specs.Choice.{takeable, nearKey}
 use Rattle.laws.specs.Marks.{both, upTo}
 use Rattle.laws.specs.Walk.{WordWalk}
 use Rattle.laws.proofs.Walk.{walk-start, walk-next, walk-end}
-use Rattle.builder.specs.Choice.{takeable, nearKey}
 use Rattle.builder.proofs.choice.nearest_in_word.Statement.{statement}
 use Rattle.builder.proofs.choice.nearest_in_word.Tie as tie
 

@@ -4,7 +4,7 @@ use borrow.Author.Needs.{needs}
 use lib.ListN.{length, length-set}
 use mathlib.Core.Path.{_≡_, refl, _∙_}
 use native.Mathlib.Omega.{arith}
-use Rattle.checker.specs.PlanWords.{leftWord}
+use Rattle.rules.specs.PlanWords.{leftWord}
 use Rattle.laws.proofs.Marks.{unmark-words}
 use Rattle.laws.specs.Marks.{marked, onesOf, Lowest}
 use Rattle.builder.proofs.LeftLaws.{leaving-none, leaving-next, leaving-end}

@@ -3,7 +3,7 @@ use Prim.Native.Nat.{ℕ}
 use borrow.Author.Needs.{needs}
 use mathlib.Core.Bool.{false}
 use mathlib.Core.Path.{ap, refl}
-use Rattle.checker.specs.declared.walk.Trip.{Trip}
+use Rattle.rules.specs.declared.walk.Trip.{Trip}
 use Rattle.builder.proofs.state.fresh_state.Statement.{statement}
 use Rattle.builder.proofs.state.fresh_state.Tie as tie
 

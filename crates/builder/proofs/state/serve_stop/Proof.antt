@@ -2,7 +2,7 @@
 use Prim.Native.Nat.{ℕ}
 use borrow.Author.Needs.{needs}
 use mathlib.Core.Path.{ap}
-use Rattle.checker.specs.Cargo.{loaded}
+use Rattle.rules.specs.Cargo.{loaded}
 use Rattle.builder.proofs.state.serve_stop.Statement.{statement}
 use Rattle.builder.proofs.state.serve_stop.Tie as tie
 

@@ -2,10 +2,10 @@
 use Prim.Native.Nat.{_≤_, _-_}
 use borrow.Author.Needs.{needs}
 use mathlib.Core.Path.{_≡_}
-use Rattle.day.specs.Fields.{legMinutes}
-use Rattle.laws.specs.Least.{least}
+use Rattle.rules.specs.Least.{least}
+use Rattle.rules.specs.Fields.{legMinutes}
+use Rattle.rules.specs.Tips.{openTip}
 use Rattle.builder.proofs.TipLaws.{tips-none, tips-next, tips-few, tips-all}
-use Rattle.builder.specs.Tips.{openTip}
 use Rattle.builder.proofs.tips.nearest_tip.Statement.{statement}
 use Rattle.builder.proofs.tips.nearest_tip.Tie as tie
 

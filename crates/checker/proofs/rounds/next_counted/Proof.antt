@@ -3,8 +3,8 @@ use Prim.Native.Nat.{_≤_, _-_}
 use borrow.Author.Needs.{needs}
 use lib.ListN.{length, drop}
 use mathlib.Core.Path.{_≡_, refl}
+use Rattle.rules.specs.SameRounds.{counted}
 use Rattle.checker.proofs.RoundsCompared.{next-here, next-later, next-none}
-use Rattle.checker.specs.SameRounds.{counted}
 use Rattle.checker.proofs.rounds.next_counted.Statement.{statement}
 use Rattle.checker.proofs.rounds.next_counted.Tie as tie
 

@@ -3,8 +3,8 @@ use Prim.Native.Nat.{_≤_, _-_, _+_}
 use borrow.Author.Needs.{needs}
 use lib.ListN.{length, drop}
 use mathlib.Core.Path.{_≡_}
+use Rattle.rules.specs.VehiclePlace.{wordsToBack}
 use Rattle.checker.proofs.VehicleParts.{part-start, part-goes-on, part-ends, part-cut}
-use Rattle.checker.specs.VehiclePlace.{wordsToBack}
 use Rattle.checker.proofs.vehicles.part_length.Statement.{statement}
 use Rattle.checker.proofs.vehicles.part_length.Tie as tie
 

@@ -3,8 +3,8 @@ use Prim.Native.Nat.{_≤_, _-_}
 use borrow.Author.Needs.{needs}
 use lib.ListN.{length, drop}
 use mathlib.Core.Path.{_≡_, refl}
+use Rattle.rules.specs.VehiclePlace.{placeFrom}
 use Rattle.checker.proofs.VehicleParts.{place-found, place-goes-on, place-none}
-use Rattle.checker.specs.VehiclePlace.{placeFrom}
 use Rattle.checker.proofs.vehicles.place_in.Statement.{statement}
 use Rattle.checker.proofs.vehicles.place_in.Tie as tie
 

@@ -2,9 +2,9 @@
 use Prim.Native.Nat.{_≤_, _-_}
 use borrow.Author.Needs.{needs}
 use native.Mathlib.Omega.{arith}
-use Rattle.day.proofs.Readers.{words-start, words-next, words-end}
-use Rattle.day.specs.Bytes.{byteWords}
+use Rattle.rules.specs.Bytes.{byteWords}
 use Rattle.laws.specs.Buffer.{Wrote}
+use Rattle.day.proofs.Readers.{words-start, words-next, words-end}
 use Rattle.day.proofs.bytes.write_words.Statement.{statement}
 use Rattle.day.proofs.bytes.write_words.Tie as tie
 

@@ -2,8 +2,8 @@
 use Prim.Native.Nat.{_≤_, _-_, _+_, _*_}
 use borrow.Author.Needs.{needs}
 use mathlib.Core.Path.{_≡_, refl}
+use Rattle.rules.specs.DayFile.{tipsEnd}
 use Rattle.day.proofs.Parts.{part-stops, part-passes, stops-end}
-use Rattle.day.specs.Day.{tipsEnd}
 use Rattle.day.specs.Judging.{judgedFrom}
 use Rattle.day.proofs.faults.stops_fault.Statement.{statement}
 use Rattle.day.proofs.faults.stops_fault.Tie as tie

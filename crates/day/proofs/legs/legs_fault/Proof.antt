@@ -3,9 +3,9 @@ use Prim.Native.Nat.{_≤_, _-_, _+_, _*_}
 use borrow.Author.Needs.{needs}
 use lib.ListN.{length}
 use mathlib.Core.Path.{_≡_, refl}
+use Rattle.rules.specs.DayFile.{placesOf, legsAt}
 use Rattle.day.proofs.Parts.{part-stops, part-passes}
 use Rattle.day.proofs.Rows.{row-at, row-next, row-within, rows-end}
-use Rattle.day.specs.Day.{placesOf, legsAt}
 use Rattle.day.specs.Judging.{judgedFrom}
 use Rattle.day.proofs.legs.legs_fault.Statement.{statement}
 use Rattle.day.proofs.legs.legs_fault.Tie as tie

@@ -1,8 +1,8 @@
 -- `day::words::head_word_fault` meets its contract.
 use borrow.Author.Needs.{needs}
-use Rattle.day.proofs.WordFaults.{form-fault}
-use Rattle.day.specs.Day.{headForm}
+use Rattle.rules.specs.DayFile.{headForm}
 use Rattle.laws.proofs.Tests.{branches}
+use Rattle.day.proofs.WordFaults.{form-fault}
 use Rattle.day.proofs.words.head_word_fault.Statement.{statement}
 use Rattle.day.proofs.words.head_word_fault.Tie as tie
 

@@ -5,10 +5,10 @@ use mathlib.Core.Path.{_≡_, refl, sym, _∙_}
 use mathlib.Core.List.{List, [], _∷_}
 use native.Mathlib.Omega.{arith}
 use lib.ListN.{length}
+use Rattle.rules.specs.PlanWords.{vehicleWord}
+use Rattle.rules.specs.Plan.{Round}
 use Rattle.laws.specs.Buffer.{Wrote}
 use Rattle.laws.proofs.Buffer.{wrote-none, wrote-put}
-use Rattle.checker.specs.Plan.{Round}
-use Rattle.checker.specs.PlanWords.{vehicleWord}
 use Rattle.walks.proofs.MidwayLaws.{stands-size}
 use Rattle.tracks.specs.Before.{RowsKept, Walks}
 use Rattle.tracks.proofs.BeforeLaws.{Filling, place-small, leaving-place, filling-start, filling-task, filling-stands, filling-step, filling-whole}

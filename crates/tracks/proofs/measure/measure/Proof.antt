@@ -2,7 +2,7 @@
 use native.Mathlib.Omega.{arith}
 use mathlib.Core.Path.{sym, ap, _∙_}
 use lib.ListN.{length, length-map, length-set}
-use Rattle.checker.specs.Plan.{taskWord}
+use Rattle.rules.specs.Plan.{taskWord}
 use Rattle.laws.proofs.Buffer.{wrote-put, wrote-none}
 use Rattle.tracks.proofs.MeasureLaws.{measure-failed, measure-starts}
 use borrow.Author.Needs.{needs}

@@ -5,7 +5,7 @@ use borrow.Author.Needs.{needs}
 use native.Mathlib.Omega.{arith}
 use mathlib.Core.Path.{sym, ap, _∙_}
 use lib.ListN.{length, length-map}
-use Rattle.checker.specs.Plan.{Round, taskWord}
+use Rattle.rules.specs.Plan.{Round, taskWord}
 use Rattle.walks.specs.Cabs.{Start}
 use Rattle.walks.specs.Rewalks.{editOf, steps, Midway}
 use Rattle.walks.proofs.HomeLaws.{again-back}

@@ -4,7 +4,7 @@ use Prim.Native.Nat.{_+_, _-_}
 use mathlib.Core.Path.{_≡_, refl, sym, _∙_}
 use native.Mathlib.Omega.{arith}
 use lib.ListN.{length}
-use Rattle.laws.specs.Tests.{if_then_else_}
+use Rattle.rules.specs.Tests.{if_then_else_}
 use Rattle.trials.specs.Searches.{Searching}
 use Rattle.trials.proofs.SearchSteps.{is-on, is-off, fewer-left}
 use Rattle.trials.proofs.search.run_trials.Statement.{statement}

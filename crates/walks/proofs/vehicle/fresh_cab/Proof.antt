@@ -2,7 +2,7 @@
 use mathlib.Core.Path.{refl, ap}
 use mathlib.Core.Bool.{false}
 use Prim.Native.Nat.{ℕ}
-use Rattle.checker.specs.declared.walk.Trip.{Trip}
+use Rattle.rules.specs.declared.walk.Trip.{Trip}
 use borrow.Author.Needs.{needs}
 use Rattle.walks.proofs.vehicle.fresh_cab.Statement.{statement}
 use Rattle.walks.proofs.vehicle.fresh_cab.Tie as tie

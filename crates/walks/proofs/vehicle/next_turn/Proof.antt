@@ -1,7 +1,7 @@
 -- `walks::vehicle::next_turn` meets its contract.
 use mathlib.Core.Path.{refl}
+use Rattle.rules.specs.Plan.{lunch, Known}
 use Rattle.walks.proofs.RewalkLaws.{turn-waiting, turn-single, turn-double, step-waiting, step-single, step-double}
-use Rattle.checker.specs.Plan.{lunch, Known}
 use Rattle.walks.proofs.MidwayLaws.{every-at}
 use borrow.Author.Needs.{needs}
 use Rattle.walks.proofs.vehicle.next_turn.Statement.{statement}

@@ -3,10 +3,10 @@ use Prim.Native.Nat.{ℕ, _+_, _-_, _*_, _≤_}
 use mathlib.Core.List.{List, [], _∷_}
 use native.Mathlib.Omega.{arith}
 use lib.ListN.{length}
+use Rattle.rules.specs.PlanWords.{vehicleWord}
+use Rattle.rules.specs.Plan.{Round}
 use Rattle.laws.specs.Buffer.{Wrote}
 use Rattle.laws.proofs.Buffer.{wrote-none, wrote-put}
-use Rattle.checker.specs.Plan.{Round}
-use Rattle.checker.specs.PlanWords.{vehicleWord}
 use Rattle.walks.specs.Cabs.{atDepot}
 use Rattle.walks.specs.Rewalks.{editOf, steps, Walkable, Midway}
 use Rattle.walks.proofs.MidwayLaws.{midway-start, midway-word, midway-step, stands-size, midway-done, turns-left}

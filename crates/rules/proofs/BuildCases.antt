@@ -1,0 +1,24 @@
+-- The greedy plan of day M, by computation. Assumes nothing.
+use mathlib.Core.Path.{_≡_, refl}
+use mathlib.Core.List.{[], _∷_}
+use Rattle.rules.specs.Least.{wins, better, least}
+use Rattle.rules.specs.Plan.{taskWord, roundWords, roundsWords, planWords}
+use Rattle.rules.specs.Tips.{openTip, nearestTip}
+use Rattle.rules.specs.Home.{due, restIfDue, homeDirect, homeByTip, homeLoaded, wayHome}
+use Rattle.rules.specs.Choice.{suits, takeable, waitable, nearestStop, earliestStop, nearCapacity, farther, chosenStop}
+use Rattle.rules.specs.Build.{resting, serving, emptying, nextTask, drive, oneVehicle, fleet, routed, remaining, greedyPlan, couldTakeFirst}
+use Rattle.rules.specs.DayM.{dayM}
+use Rattle.rules.proofs.CheckCases.{computed}
+
+-- all that the build computes by
+unfoldable pub built : Unit {0}
+unfolding computed wins better least taskWord roundWords roundsWords planWords resting serving emptying nextTask drive oneVehicle fleet routed remaining greedyPlan couldTakeFirst suits takeable waitable nearestStop earliestStop nearCapacity farther chosenStop due restIfDue homeDirect homeByTip homeLoaded wayHome openTip nearestTip
+built = tt
+
+greedy-a : greedyPlan (dayM 100 30 60 60 50) ≡ 0xA0000001 ∷ 0xB0000001 ∷ 0xC0000001 ∷ 0xD0000000 ∷ 0xB0000002 ∷ 0xC0000001 ∷ 0xE0000000 ∷ []
+unfolding built
+greedy-a = refl
+
+greedy-c : greedyPlan (dayM 100 30 60 60 49) ≡ 0xA0000001 ∷ 0xB0000001 ∷ 0xC0000001 ∷ 0xD0000000 ∷ 0xE0000000 ∷ 0xA0000002 ∷ 0xB0000002 ∷ 0xC0000001 ∷ 0xD0000000 ∷ 0xE0000000 ∷ []
+unfolding built
+greedy-c = refl

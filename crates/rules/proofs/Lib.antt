@@ -1,0 +1,5 @@
+pub mod CheckCases
+pub mod BuildCases
+pub mod TrialCases
+pub mod LetteredCases
+pub mod RefusalCases

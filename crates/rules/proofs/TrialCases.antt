@@ -1,0 +1,17 @@
+-- What planning with trials computes by, for the lettered cases of document 01. Assumes nothing.
+use Rattle.rules.specs.Lists.{total}
+use Rattle.rules.specs.Plan.{stopsOn}
+use Rattle.rules.specs.Lawful.{distanceFrom}
+use Rattle.rules.specs.Neighbours.{compatible, neighbourKey, behind, nextNeighbour, neighboursAfter, neighbours}
+use Rattle.rules.specs.Edits.{changeStop, changeTip, change, changed, touches}
+use Rattle.rules.specs.TrialList.{each, rising, vehicleFrom, pairTrials, stopTrials, otherTip, taskTrials, roundTrials, tipTrials, trialList}
+use Rattle.rules.specs.WalkedAgain.{inserting, emptiedFirst, exceeds, servingThen, walkTask, walkNext, walkOn, walkHome, doneBy, walkedAgain}
+use Rattle.rules.specs.Attempts.{retried, joined, triedFrom, distanceOf, isLawful, keptIf, attempt}
+use Rattle.rules.specs.Search.{run, improve, lists}
+use Rattle.rules.specs.Planning.{searched}
+use Rattle.rules.proofs.BuildCases.{built}
+
+-- all that planning with trials computes by
+unfoldable pub tried : Unit {0}
+unfolding built stopsOn total distanceFrom retried joined triedFrom distanceOf isLawful keptIf attempt searched changeStop changeTip change changed touches compatible neighbourKey behind nextNeighbour neighboursAfter neighbours run improve lists each rising vehicleFrom pairTrials stopTrials otherTip taskTrials roundTrials tipTrials trialList inserting emptiedFirst exceeds servingThen walkTask walkNext walkOn walkHome doneBy walkedAgain
+tried = tt

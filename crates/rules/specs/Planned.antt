@@ -1,0 +1,54 @@
+-- What the call that plans with trials says, and what the plan's buffer then holds: document 01, "Trials" and "What can be refused".
+-- Assumes nothing.
+use Prim.Native.Nat.{ℕ, _*_}
+use mathlib.Core.Path.{_≡_}
+use mathlib.Core.Bool.{Bool, false, _&&_}
+use mathlib.Core.List.{List, [], _∷_}
+use lib.Dec.{leb}
+use lib.ListN.{length}
+use Rattle.rules.specs.Tests.{if_then_else_}
+use Rattle.rules.specs.Answers.{given, refused, isGiven}
+use Rattle.rules.specs.DayFile.{judgeDay}
+use Rattle.rules.specs.Fields.{stops}
+use Rattle.rules.specs.Plan.{Round, planWords}
+use Rattle.rules.specs.Build.{greedyLefts}
+use Rattle.rules.specs.Attempts.{distanceOf}
+use Rattle.rules.specs.Search.{Result}
+use Rattle.rules.specs.Planning.{searched}
+use Rattle.rules.specs.Built.{planned}
+
+-- "13 K outside 1..50"
+unfoldable pub fewNeighbours : ℕ → Bool
+fewNeighbours K = leb 1 K && leb K 50
+
+-- "14 lent buffer too short": "5n in the plan buffer, judged first, and 5n in the working buffer"
+unfoldable pub longEnough : List ℕ → ℕ → ℕ → Bool
+longEnough day room spare = leb (5 * stops day) room && leb (5 * stops day) spare
+
+-- distance, trials, 1 where the plan is settled and else 0, stops left out, words
+unfoldable pub resultValues : List ℕ → Result (List Round) → List ℕ
+resultValues day r =
+    distanceOf day (r .plan) ∷ r .trials ∷ (if r .settled then 1 else 0) ∷ length (greedyLefts day) ∷ length (planWords (r .plan) (greedyLefts day)) ∷ []
+
+-- the answer on an accepted day: 13, then 14 ("place: words needed"), else what the search hands over
+unfoldable pub plannedAnswer : List ℕ → (K budget room spare : ℕ) → List ℕ
+plannedAnswer day K budget room spare =
+    if fewNeighbours K
+    then (if longEnough day room spare then given (resultValues day (searched day (K ∷ []) budget)) else refused 14 (5 * stops day))
+    else refused 13 K
+
+-- "after success the plan buffer is zero from the plan's end to 5n, as before beyond"; "each refusal changes no buffer"
+unfoldable pub plannedBuffer : List ℕ → (K budget spare : ℕ) → List ℕ → List ℕ
+plannedBuffer day K budget spare plan =
+    if fewNeighbours K && longEnough day (length plan) spare then planned day (planWords (searched day (K ∷ []) budget .plan) (greedyLefts day)) plan else plan
+
+-- the answer on any day: refusals 1 to 5 first
+unfoldable pub planAnswer : List ℕ → (K budget room spare : ℕ) → List ℕ
+planAnswer day K budget room spare = if isGiven (judgeDay day) then plannedAnswer day K budget room spare else judgeDay day
+
+unfoldable pub planBuffer : List ℕ → (K budget spare : ℕ) → List ℕ → List ℕ
+planBuffer day K budget spare plan = if isGiven (judgeDay day) then plannedBuffer day K budget spare plan else plan
+
+-- "each refusal changes no buffer"; after an answer "the working buffer's words are free"
+abbrev pub SpareKept : (answer before after : List ℕ) → Type 0
+SpareKept answer before after = isGiven answer ≡ false → after ≡ before
