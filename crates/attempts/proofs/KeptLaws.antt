@@ -21,7 +21,7 @@ use Rattle.rules.specs.Edits.{Trial}
 use Rattle.rules.specs.Attempts.{tried, distanceOf, isLawful, keptIf, attempt}
 use Rattle.laws.specs.Buffer.{Wrote}
 use Rattle.laws.proofs.Buffer.{over-front}
-use Rattle.builder.proofs.Decided.{known}
+use Rattle.greedy_laws.proofs.Decided.{known}
 use Rattle.walks.specs.declared.vehicle.Walked.{Walked}
 use Rattle.trial_list.specs.Shapes.{Shaped}
 use Rattle.trial_list.proofs.Shapes.{shaped-formed}

@@ -17,8 +17,8 @@ use Rattle.rules.specs.Edits.{Trial, touches, changed}
 use Rattle.rules.specs.WalkedAgain.{walkedAgain}
 use Rattle.rules.specs.Attempts.{retried}
 use Rattle.day.proofs.Ranges.{accepted-ranges}
-use Rattle.builder.specs.Rooms.{Room}
-use Rattle.builder.proofs.GreedyRoom.{plan-length}
+use Rattle.greedy_laws.specs.Rooms.{Room}
+use Rattle.greedy_laws.proofs.GreedyRoom.{plan-length}
 use Rattle.walks.specs.declared.vehicle.Walked.{Walked}
 use Rattle.walks.proofs.MidwayLaws.{every-at}
 use Rattle.trial_list.proofs.Shapes.{each-vehicle, shaped-few, shaped-length, shaped-stops}

@@ -15,9 +15,9 @@ use Rattle.rules.specs.PlanWords.{Word, vehicle, stop, tip, rest, back, left, s
 use Rattle.rules.specs.Plan.{Task, serve, empty, lunch, Round, taskWord, roundWords, roundsWords, planWords, Known, Formed, wordFor}
 use Rattle.rules.specs.Lawful.{Loads, Timed, Lawful, totals}
 use Rattle.rules.specs.Check.{checkPlan, checkWords}
-use Rattle.checker.proofs.LawfulIff.{lawful-iff, lawful-totals}
-use Rattle.checker.proofs.PlanChecks.{few-rounds}
-use Rattle.checker.proofs.RoundChecks.{task-form}
+use Rattle.plan_laws.proofs.LawfulIff.{lawful-iff, lawful-totals}
+use Rattle.plan_laws.proofs.PlanChecks.{few-rounds}
+use Rattle.plan_laws.proofs.RoundChecks.{task-form}
 
 -- the task that a word was written for
 unfoldable taskFor : Word → Task

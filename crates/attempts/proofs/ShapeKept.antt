@@ -15,9 +15,9 @@ use Rattle.rules.specs.Lists.{Every, times}
 use Rattle.rules.specs.Plan.{Round, stopsOn, stopsOnAll, Known}
 use Rattle.rules.specs.Edits.{changed, Trial, touches}
 use Rattle.rules.specs.Attempts.{retried, joined, triedFrom, tried}
-use Rattle.builder.proofs.Decided.{known}
-use Rattle.builder.proofs.GreedyForm.{times-append}
-use Rattle.builder.specs.Rooms.{Room}
+use Rattle.greedy_laws.proofs.Decided.{known}
+use Rattle.greedy_laws.proofs.GreedyForm.{times-append}
+use Rattle.greedy_laws.specs.Rooms.{Room}
 use Rattle.walks.proofs.EditLaws.{renamed, Suits}
 use Rattle.walks.proofs.EditSuits.{suits-before, suits-after, suits-swap, suits-remove, suits-replace, swap-elsewhere}
 use Rattle.walks.proofs.Walking.{walked-again}

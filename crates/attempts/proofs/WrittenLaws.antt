@@ -17,9 +17,9 @@ use Rattle.rules.specs.Attempts.{retried, triedFrom}
 use Rattle.laws.specs.Buffer.{Wrote}
 use Rattle.laws.proofs.Buffer.{wrote-none, wrote-lend, wrote-same, rest-whole}
 use Rattle.laws.proofs.Fresh.{every-split}
-use Rattle.builder.proofs.GreedyForm.{greedy-named}
-use Rattle.builder.specs.Rooms.{Room}
-use Rattle.builder.proofs.GreedyRoom.{rounds-words, plan-length}
+use Rattle.greedy_laws.proofs.GreedyForm.{greedy-named}
+use Rattle.greedy_laws.specs.Rooms.{Room}
+use Rattle.greedy_laws.proofs.GreedyRoom.{rounds-words, plan-length}
 use Rattle.walks.specs.declared.vehicle.Walked.{Walked}
 use Rattle.walks.proofs.EditLaws.{renamed}
 use Rattle.trial_list.specs.Shapes.{EachFrom}

@@ -31,11 +31,11 @@ use Rattle.day.specs.declared.fields.Layout.{Layout}
 use Rattle.day.proofs.Answered.{refused-not-given, given-accepted}
 use Rattle.day.proofs.Ranges.{accepted-ranges}
 use Rattle.marks.specs.declared.Marks.{Marks}
-use Rattle.builder.specs.Going.{LeftOf}
+use Rattle.vehicle_writer.specs.Going.{LeftOf}
 use Rattle.builder.specs.Lefts.{LeavesAll}
-use Rattle.builder.proofs.GreedyLawful.{greedy-answer}
-use Rattle.builder.proofs.GreedyRoom.{greedy-room}
-use Rattle.builder.proofs.LeftOut.{remaining-count}
+use Rattle.greedy_laws.proofs.GreedyLawful.{greedy-answer}
+use Rattle.greedy_laws.proofs.GreedyRoom.{greedy-room}
+use Rattle.greedy_laws.proofs.LeftOut.{remaining-count}
 
 -- the words of the vehicles and behind them those of the stops left out are the plan
 module _ {day p part now : List ℕ} {m : Marks} {words end : ℕ} (w : Wrote (roundsWords 0 (greedyRounds day)) p part words)
@@ -89,9 +89,6 @@ plan-fits day p e x l = omega (arith, greedy-room day, ap length x, planned-leng
 -- the words that are needed, by the layout
 pub need-is : {day : List ℕ} {z : Layout} → LayoutOf day z → 5 * z .stops ≡ 5 * stops day
 need-is l = ap (λ (n : ℕ). 5 * n) (l .stopsAre)
-
-pub room-is : {day : List ℕ} {z : Layout} {room : ℕ} → LayoutOf day z → 5 * z .stops ≤ room → 5 * stops day ≤ room
-room-is l h = omega (arith, l .stopsAre, h)
 
 -- the answer and the buffer where it is too short, and where it is long enough
 module _ (day : List ℕ) {room need : ℕ} (e : need ≡ 5 * stops day) (l : room < need) where

@@ -19,11 +19,11 @@ use Rattle.laws.specs.Marks.{marked, onesOf, upTo}
 use Rattle.laws.proofs.Buffer.{wrote-none, wrote-lend, wrote-same, over-none, rest-whole}
 use Rattle.laws.proofs.Lists.{unmet-nil}
 use Rattle.marks.specs.declared.Marks.{Marks}
-use Rattle.builder.specs.Going.{LeftOf, SomeLeft, VehicleWritten}
-use Rattle.builder.specs.States.{unrouted}
-use Rattle.builder.proofs.Fleets.{fleetFrom, routedFrom, from-start, from-none, from-some, vehicle-unmet}
-use Rattle.builder.proofs.GreedyRoom.{vehicle-room, round-words}
-use Rattle.builder.proofs.VehicleStops.{vehicle-routes}
+use Rattle.vehicle_writer.specs.Going.{LeftOf, SomeLeft, VehicleWritten}
+use Rattle.greedy_laws.specs.States.{unrouted}
+use Rattle.greedy_laws.proofs.Fleets.{fleetFrom, routedFrom, from-start, from-none, from-some, vehicle-unmet}
+use Rattle.greedy_laws.proofs.GreedyRoom.{vehicle-room, round-words}
+use Rattle.greedy_laws.proofs.VehicleStops.{vehicle-routes}
 
 -- so many vehicles are written, and these stops are routed; the last one wrote so many words, and where it wrote none they are all
 pub record Underway (day p part : List ℕ) (m : Marks) (at number words : ℕ) : Type 0 where

@@ -17,10 +17,10 @@ use Rattle.laws.specs.Marks.{without, Lowest, marked, Unmarked}
 use Rattle.laws.proofs.Buffer.{wrote-put, wrote-same}
 use Rattle.laws.proofs.Marks.{without-same, without-other, upTo-low, upTo-out}
 use Rattle.marks.specs.declared.Marks.{Marks}
+use Rattle.greedy_laws.specs.States.{unrouted}
+use Rattle.greedy_laws.proofs.Decided.{known}
+use Rattle.next_task.proofs.TaskLaws.{unrouted-in}
 use Rattle.builder.specs.Lefts.{listed, Leaving}
-use Rattle.builder.specs.States.{unrouted}
-use Rattle.builder.proofs.Decided.{known}
-use Rattle.builder.proofs.TaskLaws.{unrouted-in}
 
 -- of numbers that are not marked none is listed
 listed-none : (m : ℕ → Bool) (k r : ℕ) → ((j : ℕ) → j < k + r → m j ≡ false) → listed m k r ≡ []

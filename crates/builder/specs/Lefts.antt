@@ -9,7 +9,7 @@ use Rattle.rules.specs.Build.{remaining}
 use Rattle.laws.specs.Buffer.{Wrote}
 use Rattle.laws.specs.Marks.{marked}
 use Rattle.marks.specs.declared.Marks.{Marks}
-use Rattle.builder.specs.States.{unrouted}
+use Rattle.greedy_laws.specs.States.{unrouted}
 
 -- the marked ones of the r numbers from k on, rising
 unfoldable pub listed : (ℕ → Bool) → ℕ → ℕ → List ℕ

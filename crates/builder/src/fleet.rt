@@ -8,10 +8,10 @@ ghost use Rattle.rules.specs.Plan.{roundsWords};
 ghost use Rattle.rules.specs.Build.{greedyRounds, routed};
 ghost use Rattle.laws.specs.Buffer.{Wrote};
 ghost use Rattle.day.specs.Layout.{LayoutOf};
-ghost use Rattle.builder.specs.Going.{LeftOf};
-use crate::writer::Written;
-use crate::writer::write_vehicle;
+ghost use Rattle.vehicle_writer.specs.Going.{LeftOf};
 use day::fields::Layout;
+use vehicle_writer::writer::Written;
+use vehicle_writer::writer::write_vehicle;
 
 // The words of all vehicles: the stops still to be routed then, and how many words there are.
 pub fn write_vehicles(day: &[u32], z: Layout, plan: &mut [u32]) -> Written

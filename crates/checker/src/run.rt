@@ -1,41 +1,20 @@
 // The walk over all words of a plan.
 ghost use mathlib.Core.Path.{_≡_};
-ghost use mathlib.Core.List.{[]};
 ghost use Prim.Native.Nat.{_≤_};
 ghost use lib.ListN.{length};
 ghost use Rattle.rules.specs.Check.{start, checkFrom};
 ghost use Rattle.rules.specs.AnswerValues.{answerValues};
 ghost use Rattle.day.specs.Layout.{LayoutOf};
-ghost use Rattle.checker.specs.Steps.{LimitsOf, noneMet, TallyWithin, walkOf, endOf};
-use crate::cargo::Limits;
-use crate::cargo::limits_of;
-use crate::cargo::nothing;
-use crate::parts::all_parts;
-use crate::steps::State;
-use crate::tally::none_told;
-use crate::trip::leave;
-use crate::words::word_step;
+ghost use Rattle.trips.specs.Trips.{LimitsOf, TallyWithin};
+ghost use Rattle.plan_parts.specs.Walked.{endOf};
+use plan_parts::parts::all_parts;
+use plan_parts::start::first_state;
+use plan_parts::start::no_stops;
 use rules::answers::Answer;
 use rules::walk::Tally;
-
-// Before the first word.
-pub fn first_state(day: &[u32], z: day::fields::Layout) -> State
-    requires { ⌜ LayoutOf (now day) z ⌝ }
-    ensures { λ r. ⌜ walkOf r [] ≡ start (now (day .entry)) ⌝ }
-{
-    State {
-        tally: none_told(),
-        cargo: nothing(),
-        trip: leave(day, z),
-    }
-}
-
-// No stop is met.
-pub fn no_stops() -> [u8; 256]
-    ensures { λ r. ⌜ r ≡ noneMet ⌝ }
-{
-    [0u8; 256]
-}
+use trips::cargo::Limits;
+use trips::cargo::limits_of;
+use word_steps::words::word_step;
 
 // The answer at the plan's end: every stop is met where as many are served or left out as there are.
 fn finish(y: Tally, stops: usize, end: usize) -> Answer

@@ -1,4 +1,2 @@
-pub mod DigitLaws
-pub mod LineLaws
 pub mod PlannedLaws
-pub mod PutLaws
+pub mod PrintedLaws

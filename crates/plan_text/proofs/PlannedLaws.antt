@@ -17,7 +17,7 @@ use Rattle.rules.specs.Planned.{fewNeighbours, longEnough, resultValues, planne
 use Rattle.day.proofs.Answered.{Judged, accepted, refusal, day-judged, given-accepted}
 use Rattle.day.proofs.Ranges.{accepted-ranges}
 use Rattle.trials.proofs.Promises.{promised}
-use Rattle.plan_text.specs.Lines.{Within}
+use Rattle.text.specs.Lines.{Within}
 use Rattle.plan_text.specs.Planned.{emptyPlan, printedAnswer, printedBuffer}
 
 pub empty-length : length emptyPlan ≡ 1200

@@ -6,7 +6,7 @@ use lib.ListN.{length, getD}
 use Rattle.rules.specs.Tests.{if_then_else_}
 use Rattle.rules.specs.Answers.{isGiven}
 use Rattle.rules.specs.Bytes.{byteWords, readAnswer}
-use Rattle.plan_text.specs.Lines.{tooLong, refusedLine, answerText}
+use Rattle.text.specs.Lines.{tooLong, refusedLine, answerText}
 use Rattle.plan_text.specs.Planned.{printedAnswer, printedBuffer}
 
 -- of a day's words

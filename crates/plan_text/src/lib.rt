@@ -1,21 +1,18 @@
 // What the program on a day file prints: a plan as lines of text, or why there is none.
-mod lines;
-mod numbers;
 mod planned;
-mod put;
 
 ghost use mathlib.Core.Path.{_≡_};
 ghost use Prim.Native.Nat.{_≤_};
 ghost use lib.ListN.{length, take};
 ghost use Rattle.rules.specs.Buffer.{over};
 ghost use Rattle.plan_text.specs.Printed.{dayText, bytesText, printed};
-ghost use Rattle.plan_text.specs.Put.{Put};
-use crate::lines::put_answer;
-use crate::lines::put_refused;
+ghost use Rattle.text.specs.Put.{Put};
 use crate::planned::empty_plan;
 use crate::planned::plan_of;
-use crate::put::put_bytes;
 use rules::answers::WordsAnswer;
+use text::lines::put_answer;
+use text::lines::put_refused;
+use text::put::put_bytes;
 
 // Words enough for 65,536 bytes.
 fn day_words() -> [u32; 16384]
@@ -40,7 +37,7 @@ fn put_file(text: &mut [u8], bytes: &[u8]) -> usize
     ensures { λ r. ⌜ Put (bytesText (now (bytes .entry))) (now (text .entry)) 0 (now (text .exit)) r ⌝ }
 {
     let mut words = day_words();
-    let answer = day::read_words(bytes, &mut words);
+    let answer = day_bytes::read_words(bytes, &mut words);
     match answer {
         WordsAnswer::Read { words: count } => put_day(text, &words[..count]),
         WordsAnswer::Refused { number, place } => put_refused(text, number, place),

@@ -32,7 +32,7 @@ use Rattle.laws.proofs.Tests.{both-true}
 use Rattle.day.proofs.Answered.{refused-not-given}
 use Rattle.day.specs.Layout.{LayoutOf}
 use Rattle.day.specs.declared.fields.Layout.{Layout}
-use Rattle.builder.proofs.GreedyRoom.{greedy-room}
+use Rattle.greedy_laws.proofs.GreedyRoom.{greedy-room}
 use Rattle.trial_list.proofs.Shapes.{greedy-shaped}
 use Rattle.trials.specs.Searches.{PlanAt, fromGreedy, Improved}
 use Rattle.trials.specs.declared.search.Search.{Search}

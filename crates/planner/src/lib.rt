@@ -16,7 +16,7 @@ pub fn build(day: &[u32], plan: &mut [u32]) -> PlanAnswer
     ensures answer { λ r. ⌜ planValues r ≡ buildAnswer (now (day .entry)) (length (now (plan .entry))) ⌝ }
     ensures buffer { λ r. ⌜ now (plan .exit) ≡ buildBuffer (now (day .entry)) (now (plan .entry)) ⌝ }
 {
-    match day::judge(day) {
+    match judge::judge(day) {
         DayAnswer::Accepted { stops: _, tips: _ } => {
             build_accepted(day, day::fields::layout_of(day), plan)
         }
@@ -30,7 +30,7 @@ pub fn plan(day: &[u32], k: u64, budget: u64, plan: &mut [u32], work: &mut [u32]
     ensures buffer { λ r. ⌜ now (plan .exit) ≡ planBuffer (now (day .entry)) k budget (length (now (work .entry))) (now (plan .entry)) ⌝ }
     ensures spare { λ r. ⌜ SpareKept (planAnswer (now (day .entry)) k budget (length (now (plan .entry))) (length (now (work .entry)))) (now (work .entry)) (now (work .exit)) ⌝ }
 {
-    match day::judge(day) {
+    match judge::judge(day) {
         DayAnswer::Accepted { stops: _, tips: _ } => {
             plan_accepted(day, day::fields::layout_of(day), k, budget, plan, work)
         }

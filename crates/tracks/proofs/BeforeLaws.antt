@@ -16,7 +16,7 @@ use Rattle.rules.specs.Build.{Truck, fresh}
 use Rattle.rules.specs.WalkedAgain.{walkOn}
 use Rattle.rules.specs.declared.walk.Trip.{Trip}
 use Rattle.laws.specs.Buffer.{Wrote}
-use Rattle.builder.proofs.VehicleStops.{stops-append}
+use Rattle.greedy_laws.proofs.VehicleStops.{stops-append}
 use Rattle.walks.specs.Cabs.{Start, atDepot, Stands, failed, onRoad}
 use Rattle.walks.specs.Rewalks.{Means, aStop, aTip, SomeWord, WalksWord}
 use Rattle.walks.specs.declared.cabs.Cab.{Cab}

@@ -20,7 +20,7 @@ use Rattle.rules.specs.declared.walk.Trip.{Trip}
 use Rattle.laws.specs.Buffer.{Wrote}
 use Rattle.laws.proofs.Buffer.{wrote-same}
 use Rattle.laws.proofs.Tests.{both-true}
-use Rattle.builder.proofs.VehicleStops.{stops-append}
+use Rattle.greedy_laws.proofs.VehicleStops.{stops-append}
 use Rattle.walks.specs.Cabs.{Riding, Start, onRoad}
 use Rattle.walks.specs.Rewalks.{fromTask, Midway, Again, AgainAs}
 use Rattle.walks.specs.declared.cabs.Cab.{Cab}

@@ -18,7 +18,7 @@ use Rattle.rules.specs.Lawful.{distanceFrom}
 use Rattle.rules.specs.Cargo.{cargoAfter}
 use Rattle.rules.specs.Build.{Truck, doing, resting}
 use Rattle.rules.specs.WalkedAgain.{emptiedFirst, exceeds, servingThen, walkTask, walkNext, walkOn, walkHome}
-use Rattle.builder.proofs.Driving.{resting-keeps}
+use Rattle.greedy_laws.proofs.Driving.{resting-keeps}
 use Rattle.tracks.specs.Behind.{distanceOnward, stopFirst, tipFirst, taskFirst, onwardOf, OnwardWithin, BehindOf, rowAt}
 use Rattle.tracks.specs.Kept.{kept}
 use Rattle.tracks.specs.declared.behind.Onward.{Onward}

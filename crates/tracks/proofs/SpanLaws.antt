@@ -12,8 +12,8 @@ use Rattle.rules.specs.Lists.{times}
 use Rattle.rules.specs.PlanWords.{stopWord}
 use Rattle.rules.specs.Plan.{serve, empty, lunch, Round, taskWord, stopsOn}
 use Rattle.rules.specs.Edits.{Edit, before, after, swap, remove, replace, changeStop, changeTip, change, changed}
-use Rattle.builder.proofs.GreedyForm.{times-append}
-use Rattle.builder.proofs.VehicleStops.{stops-append}
+use Rattle.greedy_laws.proofs.GreedyForm.{times-append}
+use Rattle.greedy_laws.proofs.VehicleStops.{stops-append}
 use Rattle.tracks.specs.Kept.{kept}
 use Rattle.tracks.specs.Span.{Outside, Single, PlaceOf, Holds, whole, stands, Covers}
 

@@ -17,7 +17,7 @@ use Rattle.day.specs.Layout.{LayoutOf}
 use Rattle.day.specs.declared.fields.Layout.{Layout}
 use Rattle.day.proofs.Ranges.{accepted-ranges}
 use Rattle.neighbours.specs.Tables.{TableOf}
-use Rattle.builder.proofs.GreedyRoom.{round-length}
+use Rattle.greedy_laws.proofs.GreedyRoom.{round-length}
 use Rattle.walks.specs.Rewalks.{editOf, EditKnown, EditSmall}
 use Rattle.walks.specs.declared.edits.Edit as Code
 use Rattle.walks.specs.declared.edits.Edit.the-variants as Edits

@@ -20,7 +20,7 @@ use Rattle.rules.specs.Edits.{before, after, swap, Trial, onOne, onTwo}
 use Rattle.rules.specs.TrialList.{each, rising, pairTrials}
 use Rattle.day.specs.declared.fields.Layout.{Layout}
 use Rattle.neighbours.proofs.NeighbourLaws.{neighbours-are}
-use Rattle.builder.proofs.Decided.{known}
+use Rattle.greedy_laws.proofs.Decided.{known}
 use Rattle.trial_list.specs.Listing.{Goes, nextRank, halfway, nextStop, PairTells, no-trial, last-trial, first-trial, PairsOf, pairsLeft, PairStep, PairAnswer}
 use Rattle.trial_list.specs.TrialRest.{listedTrial, pairOn, fromHalf, neighboursFrom, stopsFrom, pairRest}
 use Rattle.trial_list.specs.declared.listing.PairListed.{PairListed}

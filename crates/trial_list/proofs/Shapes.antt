@@ -17,10 +17,10 @@ use Rattle.rules.specs.Plan.{serve, Round, stopsOn, stopsOnAll, planWords, Form
 use Rattle.rules.specs.Build.{greedyRounds, greedyLefts}
 use Rattle.rules.specs.TrialList.{vehicleFrom}
 use Rattle.day.proofs.Ranges.{accepted-ranges}
-use Rattle.checker.proofs.PlanChecks.{busy-rounds}
-use Rattle.builder.proofs.Decided.{known}
-use Rattle.builder.proofs.GreedyForm.{times-append, greedy-known, greedy-busy, greedy-rising, greedy-once, greedy-others, greedy-named}
-use Rattle.builder.proofs.GreedyRoom.{rounds-words, plan-length, greedy-rooms}
+use Rattle.plan_laws.proofs.PlanChecks.{busy-rounds}
+use Rattle.greedy_laws.proofs.Decided.{known}
+use Rattle.greedy_laws.proofs.GreedyForm.{times-append, greedy-known, greedy-busy, greedy-rising, greedy-once, greedy-others, greedy-named}
+use Rattle.greedy_laws.proofs.GreedyRoom.{rounds-words, plan-length, greedy-rooms}
 use Rattle.trial_list.specs.Shapes.{Shaped, EachFrom, StandsOn}
 
 pub greedy-shaped : (day : List ℕ) → Shaped day (greedyRounds day)

@@ -20,7 +20,7 @@ use Rattle.rules.specs.Plan.{Task, serve, empty, lunch, Round, taskWord, rounds
 use Rattle.rules.specs.Edits.{remove, replace, Trial, onOne}
 use Rattle.rules.specs.TrialList.{rising, otherTip, taskTrials, roundTrials, tipTrials}
 use Rattle.day.specs.declared.fields.Layout.{Layout}
-use Rattle.builder.proofs.Decided.{known}
+use Rattle.greedy_laws.proofs.Decided.{known}
 use Rattle.trial_list.specs.Listing.{Goes, atTip, nextTask, nextVehicle, TipTells, no-tip, a-tip, TipFits, TipsOf, tipsLeft, TipStep, TipSteps, TipAnswer}
 use Rattle.trial_list.specs.TrialRest.{listedTrial, tipFrom, taskFrom, tasksFrom, tipRest}
 use Rattle.trial_list.specs.declared.listing.TipListed.{TipListed}

@@ -10,7 +10,7 @@ use Rattle.rules.specs.Lists.{Every, times}
 use Rattle.rules.specs.Plan.{serve, empty, Round, stopsOn, stopsOnAll, Known}
 use Rattle.rules.specs.Build.{greedyRounds}
 use Rattle.rules.specs.Edits.{before, after, swap, remove, replace, Trial, onOne, onTwo}
-use Rattle.builder.specs.Rooms.{Room}
+use Rattle.greedy_laws.specs.Rooms.{Room}
 
 -- a plan as trials find and leave it, lawful or not
 pub record Shaped (day : List ℕ) (rounds : List Round) : Type 0 where

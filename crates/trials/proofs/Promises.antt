@@ -25,8 +25,8 @@ use Rattle.rules.specs.Planning.{searched}
 use Rattle.rules.specs.Demands.{plannedRounds, Promised, DemandThree}
 use Rattle.laws.proofs.Fresh.{every-append}
 use Rattle.laws.proofs.Tests.{both-true, only-first}
-use Rattle.builder.proofs.GreedyLawful.{greedy-answer}
-use Rattle.builder.proofs.LeftOut.{left-out-justified}
+use Rattle.greedy_laws.proofs.GreedyLawful.{greedy-answer}
+use Rattle.greedy_laws.proofs.LeftOut.{left-out-justified}
 use Rattle.trial_list.proofs.ListLength.{trials-bound}
 use Rattle.trial_list.proofs.Listed.{every-mem, listed-all}
 use Rattle.trial_list.specs.Shapes.{Shaped, Valid}

@@ -19,7 +19,7 @@ use Rattle.day.specs.Layout.{LayoutOf}
 use Rattle.day.specs.declared.fields.Layout.{Layout}
 use Rattle.day.proofs.Ranges.{accepted-ranges}
 use Rattle.neighbours.specs.Tables.{TableOf}
-use Rattle.builder.proofs.Decided.{known}
+use Rattle.greedy_laws.proofs.Decided.{known}
 use Rattle.trial_list.specs.Listing.{PlanTables, ListAnswer}
 use Rattle.trial_list.specs.Shapes.{Valid}
 use Rattle.trial_list.specs.TrialRest.{restOf, listStart, listedTrial}

@@ -21,10 +21,10 @@ use Rattle.rules.specs.declared.walk.Trip.{Trip}
 use Rattle.laws.specs.Buffer.{Wrote}
 use Rattle.laws.proofs.Buffer.{wrote-put, wrote-same}
 use Rattle.day.proofs.Ranges.{accepted-ranges}
-use Rattle.builder.specs.States.{SmallTrip}
-use Rattle.builder.proofs.Decided.{bit-most}
-use Rattle.builder.proofs.GreedyRoom.{paid-rest, paid-serve, paid-empty, tasks-counted}
-use Rattle.builder.proofs.VehicleStops.{stops-append}
+use Rattle.greedy_laws.specs.States.{SmallTrip}
+use Rattle.greedy_laws.proofs.Decided.{bit-most}
+use Rattle.greedy_laws.proofs.GreedyRoom.{paid-rest, paid-serve, paid-empty, tasks-counted}
+use Rattle.greedy_laws.proofs.VehicleStops.{stops-append}
 use Rattle.walks.specs.Cabs.{Modest, Riding, Start, Standing, Stands, failed, onRoad, SomeStanding, Drives}
 use Rattle.walks.specs.declared.cabs.Cab.{Cab}
 

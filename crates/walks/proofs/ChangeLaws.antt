@@ -12,7 +12,7 @@ use Rattle.rules.specs.Fields.{stops}
 use Rattle.rules.specs.PlanWords.{stopWord, tipWord, restWord}
 use Rattle.rules.specs.Plan.{Task, serve, empty, lunch, taskWord, Known}
 use Rattle.rules.specs.Edits.{Edit, before, after, swap, remove, replace, changeStop, changeTip, change}
-use Rattle.builder.proofs.Decided.{known}
+use Rattle.greedy_laws.proofs.Decided.{known}
 use Rattle.walks.specs.Rewalks.{Means, nothing, aStop, aTip, Becomes}
 
 -- which tip gives way

@@ -13,9 +13,9 @@ use Rattle.rules.specs.Lists.{Every, times}
 use Rattle.rules.specs.Plan.{Task, serve, empty, lunch, Round, stopsOn, Known}
 use Rattle.rules.specs.Edits.{Edit, before, after, swap, remove, replace, changeStop, changeTip, change, changed}
 use Rattle.laws.proofs.Fresh.{every-append}
-use Rattle.builder.proofs.Decided.{known}
-use Rattle.builder.proofs.GreedyForm.{times-append}
-use Rattle.builder.proofs.VehicleStops.{stops-append}
+use Rattle.greedy_laws.proofs.Decided.{known}
+use Rattle.greedy_laws.proofs.GreedyForm.{times-append}
+use Rattle.greedy_laws.proofs.VehicleStops.{stops-append}
 
 -- which stop stands where a stop stood: an interchange renames two, any other edit none
 unfoldable pub renamed : Edit → ℕ → ℕ

@@ -17,8 +17,8 @@ use Rattle.rules.specs.Edits.{Edit, changed}
 use Rattle.rules.specs.WalkedAgain.{walkOn}
 use Rattle.laws.specs.Buffer.{Wrote}
 use Rattle.laws.proofs.Buffer.{wrote-same}
-use Rattle.builder.proofs.GreedyRoom.{paid-fresh}
-use Rattle.builder.proofs.VehicleStops.{stops-append}
+use Rattle.greedy_laws.proofs.GreedyRoom.{paid-fresh}
+use Rattle.greedy_laws.proofs.VehicleStops.{stops-append}
 use Rattle.walks.specs.Cabs.{Start, atDepot, Stands, failed, onRoad}
 use Rattle.walks.specs.Rewalks.{editOf, EditKnown, SomeWord, WalksWord, Left, fromTask, fromWaiting, Turned, TakesTurn, steps, Walkable, Midway}
 use Rattle.walks.specs.declared.cabs.Cab.{Cab}

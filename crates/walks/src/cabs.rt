@@ -12,13 +12,13 @@ ghost use Rattle.rules.specs.Build.{doing, resting};
 ghost use Rattle.rules.specs.WalkedAgain.{inserting, exceeds, walkTask, walkHome};
 ghost use Rattle.day.specs.Layout.{LayoutOf};
 ghost use Rattle.walks.specs.Cabs.{SomeStanding, Drives};
-use builder::home::is_due;
-use builder::home::rest_if_due;
-use builder::home::visit;
-use builder::home::visit_stop;
-use builder::tips::nearest_tip;
 use day::fields::Layout;
 use rules::walk::Trip;
+use ways_home::home::is_due;
+use ways_home::home::rest_if_due;
+use ways_home::home::visit;
+use ways_home::home::visit_stop;
+use ways_home::tips::nearest_tip;
 
 // Where and when the vehicle is, its load, how many words it has, and whether the trial has failed.
 pub struct Cab {

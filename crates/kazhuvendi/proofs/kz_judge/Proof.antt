@@ -1,50 +1,18 @@
--- `kazhuvendi::kz_judge` meets its contract: each case's values fill the six places.
+-- `kazhuvendi::kz_judge` meets its contract.
+use mathlib.Core.Path.{_∙_, ap}
+use Rattle.rules.specs.Answers.{inSix}
 use borrow.Author.Needs.{needs}
-use Rattle.kazhuvendi.proofs.Six.{two-values, three-values}
 use Rattle.kazhuvendi.proofs.kz_judge.Statement.{statement}
 use Rattle.kazhuvendi.proofs.kz_judge.Tie as tie
 
 judge-requires : tie.Need-judge-requires
 judge-requires c κs = search needs
 
-enum-known-answer : tie.Need-enum-known-answer
-enum-known-answer c = search needs
-
-cast-write-six : tie.Need-cast-write-six
-cast-write-six c = search needs
-
-cast-write-six-2 : tie.Need-cast-write-six-2
-cast-write-six-2 c = search needs
-
-write-six-requires : tie.Need-write-six-requires
-write-six-requires c κs = search needs
-
-enum-known-answer-2 : tie.Need-enum-known-answer-2
-enum-known-answer-2 c = search needs
-
-cast-write-six-3 : tie.Need-cast-write-six-3
-cast-write-six-3 c = search needs
-
-write-six-requires-2 : tie.Need-write-six-requires-2
-write-six-requires-2 c κs = search needs
+write-day-answer-requires : tie.Need-write-day-answer-requires
+write-day-answer-requires c κs = search needs
 
 returns : tie.Need-returns
-returns c = let told = c .before .before .before in three-values _ _ (rw (told .answer .given .1) at (told .before .before .judge .ensures)) (c .write-six .ensures)
-
-returns-2 : tie.Need-returns-2
-returns-2 c = let told = c .before .before .before in two-values _ _ (rw (told .answer2 .given .1) at (told .before .before .judge .ensures)) (c .write-six2 .ensures)
+returns c = c .write-day-answer .ensures ∙ ap inSix (c .before .before .judge .ensures)
 
 pub kz-judge-spec : {M : Type 1} → statement M
-kz-judge-spec =
-    tie.close
-    (tie.spec
-    judge-requires
-    enum-known-answer
-    cast-write-six
-    cast-write-six-2
-    write-six-requires
-    enum-known-answer-2
-    cast-write-six-3
-    write-six-requires-2
-    returns
-    returns-2)
+kz-judge-spec = tie.close (tie.spec judge-requires write-day-answer-requires returns)

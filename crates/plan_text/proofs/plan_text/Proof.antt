@@ -1,6 +1,6 @@
 -- `plan_text::plan_text` meets its contract.
 use borrow.Author.Needs.{needs}
-use Rattle.plan_text.proofs.LineLaws.{printed-long, printed-short, put-printed}
+use Rattle.plan_text.proofs.PrintedLaws.{printed-long, printed-short, put-printed}
 use Rattle.plan_text.proofs.plan_text.Statement.{statement}
 use Rattle.plan_text.proofs.plan_text.Tie as tie
 

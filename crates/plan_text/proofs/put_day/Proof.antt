@@ -1,9 +1,9 @@
 -- `plan_text::put_day` meets its contract.
 use borrow.Author.Needs.{needs}
 use mathlib.Core.Path.{ap₂}
+use Rattle.text.proofs.PutLaws.{put-same}
+use Rattle.text.specs.Lines.{answerText}
 use Rattle.plan_text.proofs.PlannedLaws.{day-room}
-use Rattle.plan_text.proofs.PutLaws.{put-same}
-use Rattle.plan_text.specs.Lines.{answerText}
 use Rattle.plan_text.specs.Printed.{dayText}
 use Rattle.plan_text.proofs.put_day.Statement.{statement}
 use Rattle.plan_text.proofs.put_day.Tie as tie

@@ -3,8 +3,8 @@ use borrow.Author.Needs.{needs}
 use lib.Seq.{length-take-le}
 use mathlib.Core.Path.{sym}
 use native.Mathlib.Omega.{arith}
-use Rattle.plan_text.proofs.LineLaws.{file-fits, file-day, file-refused}
-use Rattle.plan_text.proofs.PutLaws.{put-same}
+use Rattle.text.proofs.PutLaws.{put-same}
+use Rattle.plan_text.proofs.PrintedLaws.{file-fits, file-day, file-refused}
 use Rattle.plan_text.proofs.put_file.Statement.{statement}
 use Rattle.plan_text.proofs.put_file.Tie as tie
 

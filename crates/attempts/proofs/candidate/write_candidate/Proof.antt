@@ -1,7 +1,7 @@
 -- `attempts::candidate::write_candidate` meets its contract.
 use native.Mathlib.Omega.{arith}
 use mathlib.Core.Path.{refl}
-use Rattle.builder.proofs.BuiltPlans.{room-is}
+use Rattle.greedy_laws.proofs.GreedyRoom.{room-is}
 use Rattle.attempts.proofs.NextRounds.{few-vehicles, plan-short}
 use Rattle.attempts.proofs.WrittenLaws.{room-left, ends-inside, lefts-long, lefts-room, candidate-fails, candidate-ends}
 use borrow.Author.Needs.{needs}

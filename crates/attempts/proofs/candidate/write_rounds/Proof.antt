@@ -5,7 +5,7 @@ use mathlib.Core.List.{List}
 use native.Mathlib.Omega.{arith}
 use lib.ListN.{length}
 use Rattle.rules.specs.Plan.{Round}
-use Rattle.builder.proofs.BuiltPlans.{room-is}
+use Rattle.greedy_laws.proofs.GreedyRoom.{room-is}
 use Rattle.walks.specs.Rewalks.{trialOf}
 use Rattle.attempts.specs.Candidates.{Trying, Written}
 use Rattle.attempts.proofs.NextRounds.{few-vehicles}

@@ -1,6 +1,6 @@
 -- `attempts::tries::retry` meets its contract.
 use native.Mathlib.Omega.{arith}
-use Rattle.builder.proofs.BuiltPlans.{room-is}
+use Rattle.greedy_laws.proofs.GreedyRoom.{room-is}
 use Rattle.tracks.proofs.PlacedLaws.{start-next}
 use Rattle.attempts.proofs.NextRounds.{few-vehicles, plan-short, bounds}
 use Rattle.attempts.proofs.SpanOfTrials.{valid-single}

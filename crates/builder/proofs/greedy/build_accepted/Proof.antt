@@ -2,7 +2,8 @@
 use borrow.Author.Needs.{needs}
 use native.Mathlib.Omega.{arith}
 use Rattle.day.proofs.Ranges.{accepted-ranges}
-use Rattle.builder.proofs.BuiltPlans.{need-is, room-is, short-answer, short-buffer, long-buffer, long-answer, not-refused, plan-fits}
+use Rattle.greedy_laws.proofs.GreedyRoom.{room-is}
+use Rattle.builder.proofs.BuiltPlans.{need-is, short-answer, short-buffer, long-buffer, long-answer, not-refused, plan-fits}
 use Rattle.builder.proofs.greedy.build_accepted.Statement.{statement}
 use Rattle.builder.proofs.greedy.build_accepted.Tie as tie
 

@@ -2,8 +2,8 @@
 use Prim.Native.Nat.{_≤_, _-_}
 use borrow.Author.Needs.{needs}
 use lib.ListN.{length}
-use Rattle.checker.proofs.Reaching.{reached-start, reached-small, reached-tally, reached-fault, stop-byte, reached-next, reached-end}
-use Rattle.checker.specs.Steps.{Reached}
+use Rattle.plan_parts.proofs.Reaching.{reached-start, reached-small, reached-tally, reached-fault, stop-byte, reached-next, reached-end}
+use Rattle.plan_parts.specs.Walked.{Reached}
 use Rattle.checker.proofs.run.check_each.Statement.{statement}
 use Rattle.checker.proofs.run.check_each.Tie as tie
 

@@ -1,6 +1,6 @@
 -- `checker::run::check_words` meets its contract: a plan that was gone through has its answer at the end, any other word by word.
 use borrow.Author.Needs.{needs}
-use Rattle.checker.proofs.GoingThrough.{told-small, told-answer}
+use Rattle.plan_parts.proofs.GoingThrough.{told-small, told-answer}
 use Rattle.checker.proofs.run.check_words.Statement.{statement}
 use Rattle.checker.proofs.run.check_words.Tie as tie
 

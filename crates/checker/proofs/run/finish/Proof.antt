@@ -1,7 +1,7 @@
 -- `checker::run::finish` meets its contract: the tests are those of the definition, in its order.
 use borrow.Author.Needs.{needs}
-use Rattle.checker.specs.Steps.{endOf}
 use Rattle.laws.proofs.Tests.{branches}
+use Rattle.plan_parts.specs.Walked.{endOf}
 use Rattle.checker.proofs.run.finish.Statement.{statement}
 use Rattle.checker.proofs.run.finish.Tie as tie
 

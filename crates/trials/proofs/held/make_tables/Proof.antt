@@ -1,5 +1,5 @@
 -- `trials::held::make_tables` meets its contract.
-use Rattle.builder.proofs.BuiltPlans.{room-is}
+use Rattle.greedy_laws.proofs.GreedyRoom.{room-is}
 use Rattle.tracks.proofs.TrackableLaws.{some-trackable}
 use Rattle.trials.proofs.TakeOverLaws.{held-short, held-plan, held-survey, tables-made}
 use borrow.Author.Needs.{needs}

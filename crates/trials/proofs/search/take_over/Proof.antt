@@ -1,6 +1,6 @@
 -- `trials::search::take_over` meets its contract.
 use native.Mathlib.Omega.{arith}
-use Rattle.builder.proofs.BuiltPlans.{room-is}
+use Rattle.greedy_laws.proofs.GreedyRoom.{room-is}
 use Rattle.trials.proofs.TakeOverLaws.{slice-size, words-most, copied, some-held, taken-over}
 use borrow.Author.Needs.{needs}
 use Rattle.trials.proofs.search.take_over.Statement.{statement}

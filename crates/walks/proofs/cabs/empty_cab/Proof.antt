@@ -1,8 +1,8 @@
 -- `walks::cabs::empty_cab` meets its contract.
 use native.Mathlib.Omega.{arith}
 use mathlib.Core.Path.{refl}
+use Rattle.greedy_laws.proofs.SmallTrucks.{weaker-trip}
 use Rattle.walks.proofs.CabLaws.{standing-space, standing-trip, empty-drives}
-use Rattle.builder.proofs.ChoiceLaws.{weaker-trip}
 use borrow.Author.Needs.{needs}
 use Rattle.walks.proofs.cabs.empty_cab.Statement.{statement}
 use Rattle.walks.proofs.cabs.empty_cab.Tie as tie

@@ -1,0 +1,40 @@
+-- `answer_numbers::write_place_answer` meets its contract: each case's values fill the six places.
+use mathlib.Core.Path.{sym, ap}
+use borrow.Author.Needs.{needs}
+use Rattle.rules.specs.AnswerValues.{placeValues}
+use Rattle.answer_numbers.proofs.Six.{two-values, three-values}
+use Rattle.answer_numbers.proofs.write_place_answer.Statement.{statement}
+use Rattle.answer_numbers.proofs.write_place_answer.Tie as tie
+
+enum-known-answer : tie.Need-enum-known-answer
+enum-known-answer c = search needs
+
+write-six-requires : tie.Need-write-six-requires
+write-six-requires c κs = search needs
+
+enum-known-answer-2 : tie.Need-enum-known-answer-2
+enum-known-answer-2 c = search needs
+
+cast-write-six : tie.Need-cast-write-six
+cast-write-six c = search needs
+
+write-six-requires-2 : tie.Need-write-six-requires-2
+write-six-requires-2 c κs = search needs
+
+returns : tie.Need-returns
+returns c = three-values _ _ (sym (ap placeValues (c .before .before .before .answer .given .1))) (c .write-six .ensures)
+
+returns-2 : tie.Need-returns-2
+returns-2 c = two-values _ _ (sym (ap placeValues (c .before .before .before .answer2 .given .1))) (c .write-six2 .ensures)
+
+pub write-place-answer-spec : {M : Type 1} → statement M
+write-place-answer-spec =
+    tie.close
+    (tie.spec
+    enum-known-answer
+    write-six-requires
+    enum-known-answer-2
+    cast-write-six
+    write-six-requires-2
+    returns
+    returns-2)

@@ -1,3 +1,0 @@
-pub mod Rounds
-pub mod Steps
-pub mod Vehicles

@@ -1,0 +1,66 @@
+-- `day_faults::faults::stops_fault` meets its contract: the answer from the stops on is that from stop k + 1 on.
+use Prim.Native.Nat.{_≤_, _-_, _+_, _*_}
+use borrow.Author.Needs.{needs}
+use mathlib.Core.Path.{_≡_, refl}
+use Rattle.rules.specs.DayFile.{tipsEnd}
+use Rattle.day_faults.proofs.Parts.{part-stops, part-passes, stops-end}
+use Rattle.day_faults.specs.Judging.{judgedFrom}
+use Rattle.day_faults.proofs.faults.stops_fault.Statement.{statement}
+use Rattle.day_faults.proofs.faults.stops_fault.Tie as tie
+
+abbrev Inv-loop : tie.InvT-loop
+Inv-loop day d n k₀ i₀ k i = (k ≤ n) × (i ≡ tipsEnd d + 3 * k) × (judgedFrom d n day (tipsEnd d) ≡ judgedFrom d n day i)
+
+abbrev μ-loop : tie.MeasureT-loop
+μ-loop day d n k₀ i₀ k i = n - k
+
+mul-i : tie.Need-mul-i Inv-loop μ-loop
+mul-i c = search needs
+
+add-i : tie.Need-add-i Inv-loop μ-loop
+add-i c = search needs
+
+loop-holds : tie.Need-loop-holds Inv-loop μ-loop
+loop-holds c = (search needs, search needs, refl)
+
+stop-fault-requires : tie.Need-stop-fault-requires Inv-loop μ-loop
+stop-fault-requires c κs = search needs
+
+returns : tie.Need-returns Inv-loop μ-loop
+returns c = search part-stops
+
+add-i-2 : tie.Need-add-i-2 Inv-loop μ-loop
+add-i-2 c = search needs
+
+add-k : tie.Need-add-k Inv-loop μ-loop
+add-k c = search needs
+
+loop-less : tie.Need-loop-less Inv-loop μ-loop
+loop-less c = search needs
+
+loop-again : tie.Need-loop-again Inv-loop μ-loop
+loop-again c = (search needs, search needs, search part-passes)
+
+none-until-requires : tie.Need-none-until-requires Inv-loop μ-loop
+none-until-requires c κs = search needs
+
+returns-2 : tie.Need-returns-2 Inv-loop μ-loop
+returns-2 c = search stops-end
+
+pub stops-fault-spec : {M : Type 1} → statement M
+stops-fault-spec =
+    tie.close
+    (tie.spec
+    Inv-loop
+    μ-loop
+    mul-i
+    add-i
+    loop-holds
+    stop-fault-requires
+    returns
+    add-i-2
+    add-k
+    loop-less
+    loop-again
+    none-until-requires
+    returns-2)

@@ -1,0 +1,57 @@
+-- `day_faults::faults::tips_fault` meets its contract: the answer from the tips on is that from tip k + 1 on.
+use Prim.Native.Nat.{_≤_, _-_, _+_, _*_}
+use borrow.Author.Needs.{needs}
+use mathlib.Core.Path.{_≡_, refl}
+use Rattle.day_faults.proofs.Parts.{part-stops, part-passes, tips-end}
+use Rattle.day_faults.specs.Judging.{judgedFrom}
+use Rattle.day_faults.proofs.faults.tips_fault.Statement.{statement}
+use Rattle.day_faults.proofs.faults.tips_fault.Tie as tie
+
+abbrev Inv-loop : tie.InvT-loop
+Inv-loop day d n k₀ i₀ k i = (k ≤ d) × (i ≡ 7 + 2 * k) × (judgedFrom d n day 7 ≡ judgedFrom d n day i)
+
+abbrev μ-loop : tie.MeasureT-loop
+μ-loop day d n k₀ i₀ k i = d - k
+
+loop-holds : tie.Need-loop-holds Inv-loop μ-loop
+loop-holds c = (search needs, search needs, refl)
+
+tip-fault-requires : tie.Need-tip-fault-requires Inv-loop μ-loop
+tip-fault-requires c κs = search needs
+
+returns : tie.Need-returns Inv-loop μ-loop
+returns c = search part-stops
+
+add-i : tie.Need-add-i Inv-loop μ-loop
+add-i c = search needs
+
+add-k : tie.Need-add-k Inv-loop μ-loop
+add-k c = search needs
+
+loop-less : tie.Need-loop-less Inv-loop μ-loop
+loop-less c = search needs
+
+loop-again : tie.Need-loop-again Inv-loop μ-loop
+loop-again c = (search needs, search needs, search part-passes)
+
+none-until-requires : tie.Need-none-until-requires Inv-loop μ-loop
+none-until-requires c κs = search needs
+
+returns-2 : tie.Need-returns-2 Inv-loop μ-loop
+returns-2 c = search tips-end
+
+pub tips-fault-spec : {M : Type 1} → statement M
+tips-fault-spec =
+    tie.close
+    (tie.spec
+    Inv-loop
+    μ-loop
+    loop-holds
+    tip-fault-requires
+    returns
+    add-i
+    add-k
+    loop-less
+    loop-again
+    none-until-requires
+    returns-2)

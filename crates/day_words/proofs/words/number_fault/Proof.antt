@@ -1,0 +1,23 @@
+-- `day_words::words::number_fault` meets its contract.
+use borrow.Author.Needs.{needs}
+use Rattle.day.proofs.WordFaults.{lone-kind, lone-low, lone-high, lone-right}
+use Rattle.day_words.proofs.words.number_fault.Statement.{statement}
+use Rattle.day_words.proofs.words.number_fault.Tie as tie
+
+mul-if1 : tie.Need-mul-if1
+mul-if1 c = search needs
+
+returns : tie.Need-returns
+returns c = search lone-kind
+
+returns-2 : tie.Need-returns-2
+returns-2 c = search lone-low
+
+returns-3 : tie.Need-returns-3
+returns-3 c = search lone-high
+
+returns-4 : tie.Need-returns-4
+returns-4 c = search lone-right
+
+pub number-fault-spec : {M : Type 1} → statement M
+number-fault-spec = tie.close (tie.spec mul-if1 returns returns-2 returns-3 returns-4)

@@ -1,0 +1,2 @@
+// What is wrong with one word of a day.
+pub mod words;

@@ -1,0 +1,12 @@
+pub mod Decided
+pub mod Driving
+pub mod Fleets
+pub mod GreedyForm
+pub mod GreedyLawful
+pub mod GreedyRoom
+pub mod LeftOut
+pub mod NextTasks
+pub mod OnTheRoad
+pub mod SmallTrucks
+pub mod VehicleStops
+pub mod WaysHome

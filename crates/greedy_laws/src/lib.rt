@@ -1,0 +1,1 @@
+// Laws of the greedy build: of the rules alone, without the code that follows them. There is no code here.

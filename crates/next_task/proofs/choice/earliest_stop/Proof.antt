@@ -1,0 +1,67 @@
+-- `next_task::choice::earliest_stop` meets its contract: the best so far is the least of the numbers of the words before word i.
+use Prim.Native.Nat.{_*_, _-_, _≤_}
+use borrow.Author.Needs.{needs}
+use mathlib.Core.Path.{_≡_, ap, _∙_, refl}
+use native.Mathlib.Omega.{arith}
+use Rattle.rules.specs.Least.{least}
+use Rattle.rules.specs.Choice.{waitable, openKey}
+use Rattle.laws.specs.Marks.{marked, both}
+use Rattle.laws.specs.Walk.{leastBelow}
+use Rattle.laws.proofs.Walk.{below-none, below-all, word-next}
+use Rattle.next_task.proofs.choice.earliest_stop.Statement.{statement}
+use Rattle.next_task.proofs.choice.earliest_stop.Tie as tie
+
+abbrev Inv-loop : tie.InvT-loop
+Inv-loop day z t c left best₀ i₀ best i =
+    (i ≤ 4) × (best ≤ z .stops) × (best ≡ leastBelow (both (marked (left .words)) (waitable day t c)) (openKey day) (z .stops) (i * 64))
+
+abbrev μ-loop : tie.MeasureT-loop
+μ-loop day z t c left best₀ i₀ best i = 4 - i
+
+loop-holds : tie.Need-loop-holds Inv-loop μ-loop
+loop-holds c = (search needs, search needs, below-none _ _ _)
+
+mul-earliest-in-word : tie.Need-mul-earliest-in-word Inv-loop μ-loop
+mul-earliest-in-word c = search needs
+
+element-copy-out-earliest-in-word : tie.Need-element-copy-out-earliest-in-word Inv-loop μ-loop
+element-copy-out-earliest-in-word c = search needs
+
+mul-earliest-in-word-2 : tie.Need-mul-earliest-in-word-2 Inv-loop μ-loop
+mul-earliest-in-word-2 c = search needs
+
+earliest-in-word-requires : tie.Need-earliest-in-word-requires Inv-loop μ-loop
+earliest-in-word-requires c κs = search needs
+
+add-i : tie.Need-add-i Inv-loop μ-loop
+add-i c = search needs
+
+loop-less : tie.Need-loop-less Inv-loop μ-loop
+loop-less c = search needs
+
+loop-again : tie.Need-loop-again Inv-loop μ-loop
+loop-again c =
+    let l = c .before .before .before .loop in
+    (search needs, search needs, word-next _ _ _ _ (l .i) (l .best) (l .inv .2) _ refl (c .earliest-in-word .ensures .1))
+
+returns : tie.Need-returns Inv-loop μ-loop
+returns c =
+    let l = c .before .loop in
+    let size = c .before .before .before .pre .0 .stopsAre in
+    (search needs, below-all _ _ _ (l .i * 64) _ (omega arith) (l .inv .2) ∙ ap (least _ _) size)
+
+pub earliest-stop-spec : {M : Type 1} → statement M
+earliest-stop-spec =
+    tie.close
+    (tie.spec
+    Inv-loop
+    μ-loop
+    loop-holds
+    mul-earliest-in-word
+    element-copy-out-earliest-in-word
+    mul-earliest-in-word-2
+    earliest-in-word-requires
+    add-i
+    loop-less
+    loop-again
+    returns)

@@ -1,0 +1,109 @@
+// What a vehicle does next: steps 3, 4 and 5.
+ghost use mathlib.Core.Path.{_≡_};
+ghost use Prim.Native.Nat.{_<_, _≤_};
+ghost use Rattle.rules.specs.Tips.{nearestTip};
+ghost use Rattle.rules.specs.Choice.{nearCapacity, farther, chosenStop};
+ghost use Rattle.rules.specs.Build.{emptying};
+ghost use Rattle.laws.specs.Marks.{marked};
+ghost use Rattle.day.specs.Layout.{LayoutOf};
+ghost use Rattle.greedy_laws.specs.States.{SmallTrip, SmallCargo};
+ghost use Rattle.next_task.specs.NextBy.{nextOf, waitBy, nextBy, NextWithin};
+use crate::choice::earliest_stop;
+use crate::choice::nearest_stop;
+use day::fields::Layout;
+use marks::Marks;
+use rules::walk::Cargo;
+use rules::walk::Trip;
+use ways_home::tips::nearest_tip;
+
+// The next task: a stop, a tip, or back to the depot.
+pub enum Next {
+    Stop(usize),
+    Tip(usize),
+    Home,
+}
+
+// Near to capacity: more than four fifths of Q, Q* or S*, with a load.
+fn is_near_capacity(day: &[u32], z: Layout, c: Cargo) -> bool
+    requires { ⌜ LayoutOf (now day) z × SmallCargo c ⌝ }
+    ensures { λ r. ⌜ r ≡ nearCapacity (now (day .entry)) c ⌝ }
+{
+    if c.load == 0 {
+        return false;
+    }
+    if 4 * day::fields::load_limit(day, z) < 5 * c.load {
+        return true;
+    }
+    if 4 * day::fields::day_limit(day, z) < 5 * c.kg {
+        return true;
+    }
+    4 * day::fields::stop_limit(day, z) < 5 * c.visits
+}
+
+// Whether stop k is farther than tip x; 0 is no tip.
+fn is_farther(day: &[u32], z: Layout, t: Trip, k: usize, x: usize) -> bool
+    requires { ⌜ LayoutOf (now day) z × SmallTrip (now day) 2147483648 t × (k ≤ z .stops) × (x ≤ z .tips) ⌝ }
+    ensures { λ r. ⌜ r ≡ farther (now (day .entry)) t k x ⌝ }
+{
+    if x == 0 {
+        return false;
+    }
+    let tip = day::fields::leg_between(day, z, t.place, x);
+    let stop = day::fields::leg_between(day, z, t.place, z.tips + k);
+    tip.minutes < stop.minutes
+}
+
+// The choice, or none where it is dropped.
+fn chosen_stop(day: &[u32], z: Layout, t: Trip, c: Cargo, k: usize) -> usize
+    requires { ⌜ LayoutOf (now day) z × SmallTrip (now day) 2147483648 t × SmallCargo c × (k ≤ z .stops) ⌝ }
+    ensures { λ r. ⌜ (r ≡ chosenStop (now (day .entry)) t c k) × (r ≤ z .stops) ⌝ }
+{
+    if is_near_capacity(day, z, c) {
+        let x = nearest_tip(day, z, t.place, t.minute);
+        if is_farther(day, z, t, k, x) {
+            return 0;
+        }
+        return k;
+    }
+    k
+}
+
+// Step 5, without a load.
+fn wait_next(day: &[u32], z: Layout, t: Trip, c: Cargo, left: Marks) -> Next
+    requires { ⌜ LayoutOf (now day) z × SmallTrip (now day) 2147483648 t × SmallCargo c ⌝ }
+    ensures { λ r. ⌜ (nextOf r ≡ waitBy (now (day .entry)) t c (marked (left .words))) × NextWithin z r ⌝ }
+{
+    let k = earliest_stop(day, z, t, c, left);
+    if k == 0 {
+        return Next::Home;
+    }
+    Next::Stop(k)
+}
+
+// Step 4, with a load.
+fn tip_next(day: &[u32], z: Layout, t: Trip) -> Next
+    requires { ⌜ LayoutOf (now day) z × SmallTrip (now day) 2147483648 t ⌝ }
+    ensures { λ r. ⌜ (nextOf r ≡ emptying (nearestTip (now (day .entry)) (t .place) (t .minute))) × NextWithin z r ⌝ }
+{
+    let x = nearest_tip(day, z, t.place, t.minute);
+    if x == 0 {
+        return Next::Home;
+    }
+    Next::Tip(x)
+}
+
+// The next task of a vehicle that has rested if that was due.
+pub fn next_task(day: &[u32], z: Layout, t: Trip, c: Cargo, left: Marks) -> Next
+    requires { ⌜ LayoutOf (now day) z × SmallTrip (now day) 2147483648 t × SmallCargo c ⌝ }
+    ensures { λ r. ⌜ (nextOf r ≡ nextBy (now (day .entry)) t c (marked (left .words))) × NextWithin z r ⌝ }
+{
+    let near = nearest_stop(day, z, t, c, left);
+    let k = chosen_stop(day, z, t, c, near);
+    if k != 0 {
+        return Next::Stop(k);
+    }
+    if 0 < c.load {
+        return tip_next(day, z, t);
+    }
+    wait_next(day, z, t, c, left)
+}

@@ -1,0 +1,12 @@
+pub mod Clear
+pub mod LawfulIff
+pub mod Loads
+pub mod Parsing
+pub mod Passing
+pub mod PlanChecks
+pub mod PlanParsing
+pub mod RoundChecks
+pub mod RoundWalks
+pub mod Timetables
+pub mod VehicleRounds
+pub mod WordForms

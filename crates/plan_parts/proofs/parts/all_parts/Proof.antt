@@ -1,0 +1,61 @@
+-- `plan_parts::parts::all_parts` meets its contract: what is left to check behind each part is answered as the whole plan is.
+use Prim.Native.Nat.{_≤_, _-_}
+use borrow.Author.Needs.{needs}
+use lib.ListN.{length}
+use Rattle.plan_parts.specs.Walked.{Reached}
+use Rattle.plan_parts.proofs.GoingThrough.{part-less, part-most, part-reached, none-told, told-end}
+use Rattle.plan_parts.proofs.Reaching.{reached-start}
+use Rattle.plan_parts.proofs.parts.all_parts.Statement.{statement}
+use Rattle.plan_parts.proofs.parts.all_parts.Tie as tie
+
+abbrev Inv-loop : tie.InvT-loop
+Inv-loop day z limits plan s₀ met₀ i₀ s met i = (i ≤ length plan) × Reached day plan i s met
+
+abbrev μ-loop : tie.MeasureT-loop
+μ-loop day z limits plan s₀ met₀ i₀ s met i = length plan - i
+
+first-state-requires : tie.Need-first-state-requires Inv-loop μ-loop
+first-state-requires c κs = search needs
+
+no-stops-requires : tie.Need-no-stops-requires Inv-loop μ-loop
+no-stops-requires c κs = search needs
+
+loop-holds : tie.Need-loop-holds Inv-loop μ-loop
+loop-holds c = (search needs, search reached-start)
+
+next-part-requires : tie.Need-next-part-requires Inv-loop μ-loop
+next-part-requires c κs = search needs
+
+none-told-requires : tie.Need-none-told-requires Inv-loop μ-loop
+none-told-requires c κs = search needs
+
+returns : tie.Need-returns Inv-loop μ-loop
+returns c = λ e. search none-told
+
+loop-less : tie.Need-loop-less Inv-loop μ-loop
+loop-less c = part-less _ _ _ _ _ (c .before .before .before .next-part .ensures) (c .before .if1 .left)
+
+loop-again : tie.Need-loop-again Inv-loop μ-loop
+loop-again c = (
+  part-most _ _ _ _ _ (c .before .before .before .next-part .ensures) (c .before .if1 .left),
+  part-reached _ _ _ _ _ (c .before .before .before .next-part .ensures) (c .before .if1 .left),
+)
+
+returns-2 : tie.Need-returns-2 Inv-loop μ-loop
+returns-2 c = λ e. search told-end
+
+pub all-parts-spec : {M : Type 1} → statement M
+all-parts-spec =
+    tie.close
+    (tie.spec
+    Inv-loop
+    μ-loop
+    first-state-requires
+    no-stops-requires
+    loop-holds
+    next-part-requires
+    none-told-requires
+    returns
+    loop-less
+    loop-again
+    returns-2)

@@ -1,0 +1,86 @@
+-- `plan_parts::parts::round` meets its contract: a vehicle is out, with no word at fault so far.
+use Prim.Native.Nat.{_≤_, _-_}
+use native.Mathlib.Omega.{arith}
+use borrow.Author.Needs.{needs}
+use lib.ListN.{length}
+use Rattle.plan_parts.specs.Walked.{outWith, Reached}
+use Rattle.plan_parts.proofs.GoingThrough.{out-start, out-few, out-small, out-byte, out-next, out-again, no-part}
+use Rattle.plan_parts.proofs.parts.round.Statement.{statement}
+use Rattle.plan_parts.proofs.parts.round.Tie as tie
+
+abbrev Inv-loop : tie.InvT-loop
+Inv-loop day z limits y met₀ plan from cargo₀ trip₀ i₀ met cargo trip i = (from ≤ i) × (i ≤ length plan) × Reached day plan i (outWith y cargo trip) met
+
+abbrev μ-loop : tie.MeasureT-loop
+μ-loop day z limits y met₀ plan from cargo₀ trip₀ i₀ met cargo trip i = length plan - i
+
+nothing-requires : tie.Need-nothing-requires Inv-loop μ-loop
+nothing-requires c κs = search needs
+
+leave-requires : tie.Need-leave-requires Inv-loop μ-loop
+leave-requires c κs = search needs
+
+loop-holds : tie.Need-loop-holds Inv-loop μ-loop
+loop-holds c = (search needs, search needs, search out-start)
+
+add-next : tie.Need-add-next Inv-loop μ-loop
+add-next c = search needs
+
+out-with-requires : tie.Need-out-with-requires Inv-loop μ-loop
+out-with-requires c κs = search out-few
+
+mul-task-step : tie.Need-mul-task-step Inv-loop μ-loop
+mul-task-step c = search needs
+
+shared-slice-read-task-step : tie.Need-shared-slice-read-task-step Inv-loop μ-loop
+shared-slice-read-task-step c = search needs
+
+task-step-requires : tie.Need-task-step-requires Inv-loop μ-loop
+task-step-requires c κs = (search needs, search needs, search out-small)
+
+no-part-requires : tie.Need-no-part-requires Inv-loop μ-loop
+no-part-requires c κs = search needs
+
+returns : tie.Need-returns Inv-loop μ-loop
+returns c = λ e. search no-part
+
+element-write-met : tie.Need-element-write-met Inv-loop μ-loop
+element-write-met c = search out-byte
+
+returns-2 : tie.Need-returns-2 Inv-loop μ-loop
+returns-2 c = λ e. record { more = omega arith; most = omega arith; reached = search out-next }
+
+loop-less : tie.Need-loop-less Inv-loop μ-loop
+loop-less c = search needs
+
+loop-again : tie.Need-loop-again Inv-loop μ-loop
+loop-again c = (search needs, search needs, search out-again)
+
+no-part-requires-2 : tie.Need-no-part-requires-2 Inv-loop μ-loop
+no-part-requires-2 c κs = search needs
+
+returns-3 : tie.Need-returns-3 Inv-loop μ-loop
+returns-3 c = λ e. search no-part
+
+pub round-spec : {M : Type 1} → statement M
+round-spec =
+    tie.close
+    (tie.spec
+    Inv-loop
+    μ-loop
+    nothing-requires
+    leave-requires
+    loop-holds
+    add-next
+    out-with-requires
+    mul-task-step
+    shared-slice-read-task-step
+    task-step-requires
+    no-part-requires
+    returns
+    element-write-met
+    returns-2
+    loop-less
+    loop-again
+    no-part-requires-2
+    returns-3)

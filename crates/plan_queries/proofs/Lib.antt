@@ -1,0 +1,4 @@
+pub mod PlanCalls
+pub mod RoundsCompared
+pub mod ToldApart
+pub mod VehicleParts

@@ -1,0 +1,74 @@
+-- Where one vehicle's words stand: one law for each way through the functions that look for them.
+-- Assumes nothing.
+use Prim.Native.Nat.{ℕ, suc, _+_, _-_, _/_, _%_, _≤_, _<_}
+use mathlib.Core.Path.{_≡_, refl, sym, ap, _∙_}
+use mathlib.Core.Bool.{Bool, true, false}
+use mathlib.Core.List.{List, [], _∷_}
+use native.Mathlib.Numerals.{add-one}
+use native.Mathlib.Omega.{arith}
+use lib.ListN.{length, getD, drop, drop-of-length-le}
+use lib.Seq.{drop-cons}
+use lib.Dec.{eqb}
+use borrow.Author.Tests.{eq-eqb, ne-eqb}
+use Rattle.rules.specs.Tests.{if_then_else_}
+use Rattle.rules.specs.Answers.{given, refused}
+use Rattle.rules.specs.PlanWords.{Word, backWord, wordOf}
+use Rattle.rules.specs.VehiclePlace.{isVehicle, wordsToBack, placeFrom}
+use Rattle.plan_laws.proofs.WordForms.{Apart, apart, vehicle-read}
+use Rattle.plan_laws.proofs.WordForms as Forms
+
+-- the A word of a number, and any other word
+not-vehicle : (number w : ℕ) {u : Word} → Apart w u → (w / 256 ≡ 10485760 → ⊥) → false ≡ isVehicle number u
+not-vehicle number w (Forms.isVehicle k h x) n = absurd (n (omega arith))
+not-vehicle number w (Forms.isStop k h x) n = refl
+not-vehicle number w (Forms.isTip k h x) n = refl
+not-vehicle number w (Forms.isRest x) n = refl
+not-vehicle number w (Forms.isBack x) n = refl
+not-vehicle number w (Forms.isLeft k h x) n = refl
+not-vehicle number w Forms.isStray n = refl
+
+pub other-word : (number w : ℕ) → (w / 256 ≡ 10485760 → ⊥) → false ≡ isVehicle number (wordOf w)
+other-word number w n = not-vehicle number w (apart w) n
+
+pub vehicle-word : (number w : ℕ) → w / 256 ≡ 10485760 → eqb (w % 256) number ≡ isVehicle number (wordOf w)
+vehicle-word number w e = rw (vehicle-read w e)
+
+-- the words up to the first E
+module _ (plan : List ℕ) (from : ℕ) where
+  words-at : (i : ℕ) → i < length plan → wordsToBack (drop i plan) ≡ (if eqb (getD plan i 0) backWord then 1 else suc (wordsToBack (drop (i + 1) plan)))
+  unfolding wordsToBack
+  words-at i h = rw (add-one, drop-cons plan i 0)
+
+  pub part-start : (from - from) + wordsToBack (drop from plan) ≡ wordsToBack (drop from plan)
+  part-start = omega arith
+
+  pub part-goes-on : (i : ℕ) → from ≤ i → i < length plan → (getD plan i 0 ≡ backWord → ⊥) → (i - from) + wordsToBack (drop i plan) ≡ wordsToBack (drop from plan)
+      → ((i + 1) - from) + wordsToBack (drop (i + 1) plan) ≡ wordsToBack (drop from plan)
+  part-goes-on i h g n inv = omega (arith, rw (ne-eqb _ _ n) at (words-at i g))
+
+  pub part-ends : (i : ℕ) → from ≤ i → i < length plan → getD plan i 0 ≡ backWord → (i - from) + wordsToBack (drop i plan) ≡ wordsToBack (drop from plan)
+      → (i + 1) - from ≡ wordsToBack (drop from plan)
+  part-ends i h g e inv = omega (arith, rw (eq-eqb _ _ e) at (words-at i g))
+
+  pub part-cut : (i : ℕ) → from ≤ i → length plan ≤ i → (i - from) + wordsToBack (drop i plan) ≡ wordsToBack (drop from plan) → i - from ≡ wordsToBack (drop from plan)
+  unfolding wordsToBack
+  part-cut i h g inv = omega (arith, inv, ap wordsToBack (drop-of-length-le plan g))
+
+-- the vehicles, one word after the other
+module _ (number : ℕ) (plan : List ℕ) where
+  place-at : (i : ℕ) → i < length plan
+      → placeFrom number (drop i plan) i ≡ (if isVehicle number (wordOf (getD plan i 0)) then given (i ∷ wordsToBack (drop i plan) ∷ []) else placeFrom number (drop (i + 1) plan) (i + 1))
+  unfolding placeFrom
+  place-at i h = rw (add-one, drop-cons plan i 0)
+
+  pub place-found : (i : ℕ) {b : Bool} {n : ℕ} → i < length plan → b ≡ isVehicle number (wordOf (getD plan i 0)) → b ≡ true → n ≡ wordsToBack (drop i plan)
+      → placeFrom number (drop i plan) i ≡ placeFrom number plan 0 → given (i ∷ n ∷ []) ≡ placeFrom number plan 0
+  place-found i h e t en inv = rw (en, ← inv, place-at i h, ← e, t) refl
+
+  pub place-goes-on : (i : ℕ) {b : Bool} → i < length plan → b ≡ isVehicle number (wordOf (getD plan i 0)) → b ≡ false
+      → placeFrom number (drop i plan) i ≡ placeFrom number plan 0 → placeFrom number (drop (i + 1) plan) (i + 1) ≡ placeFrom number plan 0
+  place-goes-on i h e t inv = sym (rw (← e, t) at (place-at i h)) ∙ inv
+
+  pub place-none : (i : ℕ) → length plan ≤ i → placeFrom number (drop i plan) i ≡ placeFrom number plan 0 → refused 15 number ≡ placeFrom number plan 0
+  unfolding placeFrom
+  place-none i h inv = rw (drop-of-length-le plan h) at inv

@@ -1,0 +1,13 @@
+-- `plan_queries::rounds::is_counted` meets its contract.
+use Rattle.plan_queries.proofs.RoundsCompared.{stop-counts, vehicle-counts}
+use Rattle.plan_queries.proofs.rounds.is_counted.Statement.{statement}
+use Rattle.plan_queries.proofs.rounds.is_counted.Tie as tie
+
+returns : tie.Need-returns
+returns c = search stop-counts
+
+returns-2 : tie.Need-returns-2
+returns-2 c = search vehicle-counts
+
+pub is-counted-spec : {M : Type 1} → statement M
+is-counted-spec = tie.close (tie.spec returns returns-2)

@@ -1,0 +1,58 @@
+-- `plan_queries::rounds::next_counted` meets its contract: what counts from the start on is what counts from word i on.
+use Prim.Native.Nat.{_≤_, _-_}
+use borrow.Author.Needs.{needs}
+use lib.ListN.{length, drop}
+use mathlib.Core.Path.{_≡_, refl}
+use Rattle.rules.specs.SameRounds.{counted}
+use Rattle.plan_queries.proofs.RoundsCompared.{next-here, next-later, next-none}
+use Rattle.plan_queries.proofs.rounds.next_counted.Statement.{statement}
+use Rattle.plan_queries.proofs.rounds.next_counted.Tie as tie
+
+abbrev Inv-loop : tie.InvT-loop
+Inv-loop plan from i₀ i = (from ≤ i) × (i ≤ length plan) × (counted (drop from plan) ≡ counted (drop i plan))
+
+abbrev μ-loop : tie.MeasureT-loop
+μ-loop plan from i₀ i = length plan - i
+
+loop-holds : tie.Need-loop-holds Inv-loop μ-loop
+loop-holds c = (search needs, search needs, refl)
+
+mul-is-counted : tie.Need-mul-is-counted Inv-loop μ-loop
+mul-is-counted c = search needs
+
+shared-slice-read-is-counted : tie.Need-shared-slice-read-is-counted Inv-loop μ-loop
+shared-slice-read-is-counted c = search needs
+
+is-counted-requires : tie.Need-is-counted-requires Inv-loop μ-loop
+is-counted-requires c κs = search needs
+
+returns : tie.Need-returns Inv-loop μ-loop
+returns c = search next-here
+
+add-i : tie.Need-add-i Inv-loop μ-loop
+add-i c = search needs
+
+loop-less : tie.Need-loop-less Inv-loop μ-loop
+loop-less c = search needs
+
+loop-again : tie.Need-loop-again Inv-loop μ-loop
+loop-again c = (search needs, search needs, search next-later)
+
+returns-2 : tie.Need-returns-2 Inv-loop μ-loop
+returns-2 c = search next-none
+
+pub next-counted-spec : {M : Type 1} → statement M
+next-counted-spec =
+    tie.close
+    (tie.spec
+    Inv-loop
+    μ-loop
+    loop-holds
+    mul-is-counted
+    shared-slice-read-is-counted
+    is-counted-requires
+    returns
+    add-i
+    loop-less
+    loop-again
+    returns-2)

@@ -1,0 +1,66 @@
+-- `plan_queries::vehicles::part_length` meets its contract: the words passed and those to the first E are all of them.
+use Prim.Native.Nat.{_≤_, _-_, _+_}
+use borrow.Author.Needs.{needs}
+use lib.ListN.{length, drop}
+use mathlib.Core.Path.{_≡_}
+use Rattle.rules.specs.VehiclePlace.{wordsToBack}
+use Rattle.plan_queries.proofs.VehicleParts.{part-start, part-goes-on, part-ends, part-cut}
+use Rattle.plan_queries.proofs.vehicles.part_length.Statement.{statement}
+use Rattle.plan_queries.proofs.vehicles.part_length.Tie as tie
+
+abbrev Inv-loop : tie.InvT-loop
+Inv-loop plan from i₀ i = (from ≤ i) × (i ≤ length plan) × ((i - from) + wordsToBack (drop i plan) ≡ wordsToBack (drop from plan))
+
+abbrev μ-loop : tie.MeasureT-loop
+μ-loop plan from i₀ i = length plan - i
+
+loop-holds : tie.Need-loop-holds Inv-loop μ-loop
+loop-holds c = (search needs, search needs, part-start _ _)
+
+mul-if1 : tie.Need-mul-if1 Inv-loop μ-loop
+mul-if1 c = search needs
+
+shared-slice-read-if1 : tie.Need-shared-slice-read-if1 Inv-loop μ-loop
+shared-slice-read-if1 c = search needs
+
+add-result : tie.Need-add-result Inv-loop μ-loop
+add-result c = search needs
+
+sub-result : tie.Need-sub-result Inv-loop μ-loop
+sub-result c = search needs
+
+returns : tie.Need-returns Inv-loop μ-loop
+returns c = (search part-ends, search needs)
+
+add-i : tie.Need-add-i Inv-loop μ-loop
+add-i c = search needs
+
+loop-less : tie.Need-loop-less Inv-loop μ-loop
+loop-less c = search needs
+
+loop-again : tie.Need-loop-again Inv-loop μ-loop
+loop-again c = (search needs, search needs, search part-goes-on)
+
+sub-result-2 : tie.Need-sub-result-2 Inv-loop μ-loop
+sub-result-2 c = search needs
+
+returns-2 : tie.Need-returns-2 Inv-loop μ-loop
+returns-2 c = (search part-cut, search needs)
+
+pub part-length-spec : {M : Type 1} → statement M
+part-length-spec =
+    tie.close
+    (tie.spec
+    Inv-loop
+    μ-loop
+    loop-holds
+    mul-if1
+    shared-slice-read-if1
+    add-result
+    sub-result
+    returns
+    add-i
+    loop-less
+    loop-again
+    sub-result-2
+    returns-2)

@@ -1,0 +1,62 @@
+-- `plan_queries::vehicles::place_in` meets its contract: the place from word i on is the place in the plan.
+use Prim.Native.Nat.{_≤_, _-_}
+use borrow.Author.Needs.{needs}
+use lib.ListN.{length, drop}
+use mathlib.Core.Path.{_≡_, refl}
+use Rattle.rules.specs.VehiclePlace.{placeFrom}
+use Rattle.plan_queries.proofs.VehicleParts.{place-found, place-goes-on, place-none}
+use Rattle.plan_queries.proofs.vehicles.place_in.Statement.{statement}
+use Rattle.plan_queries.proofs.vehicles.place_in.Tie as tie
+
+abbrev Inv-loop : tie.InvT-loop
+Inv-loop plan number i₀ i = (i ≤ length plan) × (placeFrom number (drop i plan) i ≡ placeFrom number plan 0)
+
+abbrev μ-loop : tie.MeasureT-loop
+μ-loop plan number i₀ i = length plan - i
+
+loop-holds : tie.Need-loop-holds Inv-loop μ-loop
+loop-holds c = (search needs, refl)
+
+mul-is-vehicle : tie.Need-mul-is-vehicle Inv-loop μ-loop
+mul-is-vehicle c = search needs
+
+shared-slice-read-is-vehicle : tie.Need-shared-slice-read-is-vehicle Inv-loop μ-loop
+shared-slice-read-is-vehicle c = search needs
+
+is-vehicle-requires : tie.Need-is-vehicle-requires Inv-loop μ-loop
+is-vehicle-requires c κs = search needs
+
+part-length-requires : tie.Need-part-length-requires Inv-loop μ-loop
+part-length-requires c κs = search needs
+
+returns : tie.Need-returns Inv-loop μ-loop
+returns c = search place-found
+
+add-i : tie.Need-add-i Inv-loop μ-loop
+add-i c = search needs
+
+loop-less : tie.Need-loop-less Inv-loop μ-loop
+loop-less c = search needs
+
+loop-again : tie.Need-loop-again Inv-loop μ-loop
+loop-again c = (search needs, search place-goes-on)
+
+returns-2 : tie.Need-returns-2 Inv-loop μ-loop
+returns-2 c = search place-none
+
+pub place-in-spec : {M : Type 1} → statement M
+place-in-spec =
+    tie.close
+    (tie.spec
+    Inv-loop
+    μ-loop
+    loop-holds
+    mul-is-vehicle
+    shared-slice-read-is-vehicle
+    is-vehicle-requires
+    part-length-requires
+    returns
+    add-i
+    loop-less
+    loop-again
+    returns-2)

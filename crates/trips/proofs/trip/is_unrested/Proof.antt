@@ -1,0 +1,17 @@
+-- `trips::trip::is_unrested` meets its contract.
+use borrow.Author.Needs.{needs}
+use Rattle.trips.proofs.Driving.{unrested-late}
+use Rattle.trips.proofs.trip.is_unrested.Statement.{statement}
+use Rattle.trips.proofs.trip.is_unrested.Tie as tie
+
+returns : tie.Need-returns
+returns c = search needs
+
+rest-window-requires : tie.Need-rest-window-requires
+rest-window-requires c κs = search needs
+
+returns-2 : tie.Need-returns-2
+returns-2 c = search unrested-late
+
+pub is-unrested-spec : {M : Type 1} → statement M
+is-unrested-spec = tie.close (tie.spec returns rest-window-requires returns-2)

@@ -1,0 +1,25 @@
+-- `trips::trip::visit_stop` meets its contract: the place of a stop stands behind the tips.
+use borrow.Author.Needs.{needs}
+use Rattle.trips.proofs.Driving.{stop-window, stop-minutes, stop-visited, stop-place}
+use Rattle.trips.proofs.trip.visit_stop.Statement.{statement}
+use Rattle.trips.proofs.trip.visit_stop.Tie as tie
+
+stop-window-requires : tie.Need-stop-window-requires
+stop-window-requires c κs = search needs
+
+stop-service-requires : tie.Need-stop-service-requires
+stop-service-requires c κs = search needs
+
+add-visit : tie.Need-add-visit
+add-visit c = search needs
+
+visit-requires : tie.Need-visit-requires
+visit-requires c κs = (search needs, search needs, search stop-place, search stop-window, search stop-minutes)
+
+returns : tie.Need-returns
+returns c = search stop-visited
+
+pub visit-stop-spec : {M : Type 1} → statement M
+visit-stop-spec =
+    tie.close
+    (tie.spec stop-window-requires stop-service-requires add-visit visit-requires returns)

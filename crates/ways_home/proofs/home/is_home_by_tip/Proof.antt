@@ -1,0 +1,41 @@
+-- `ways_home::home::is_home_by_tip` meets its contract.
+use borrow.Author.Needs.{needs}
+use native.Mathlib.Omega.{arith}
+use Rattle.ways_home.proofs.HomeLaws.{tip-none, tip-home, visit-minute, tip-trip}
+use Rattle.ways_home.proofs.home.is_home_by_tip.Statement.{statement}
+use Rattle.ways_home.proofs.home.is_home_by_tip.Tie as tie
+
+returns : tie.Need-returns
+returns c = search tip-none
+
+tip-window-requires : tie.Need-tip-window-requires
+tip-window-requires c κs = search needs
+
+tip-service-requires : tie.Need-tip-service-requires
+tip-service-requires c κs = search needs
+
+visit-requires : tie.Need-visit-requires
+visit-requires c κs = search needs
+
+rest-if-due-requires : tie.Need-rest-if-due-requires
+rest-if-due-requires c κs = (search needs, omega (arith, visit-minute _ _ _ _ _ (c .before .before .before .before .before .pre .1) (c .visit .ensures)))
+
+is-home-direct-requires : tie.Need-is-home-direct-requires
+is-home-direct-requires c κs =
+    let pre = c .before .before .before .before .before .before .pre in
+    tip-trip _ _ _ _ _ _ _ (pre .0) (pre .1) (pre .2) (c .before .visit .ensures) (c .rest-if-due .ensures)
+
+returns-2 : tie.Need-returns-2
+returns-2 c = search tip-home
+
+pub is-home-by-tip-spec : {M : Type 1} → statement M
+is-home-by-tip-spec =
+    tie.close
+    (tie.spec
+    returns
+    tip-window-requires
+    tip-service-requires
+    visit-requires
+    rest-if-due-requires
+    is-home-direct-requires
+    returns-2)

@@ -1,0 +1,38 @@
+-- `ways_home::home::is_way_home` meets its contract.
+use borrow.Author.Needs.{needs}
+use native.Mathlib.Omega.{arith}
+use Rattle.ways_home.proofs.HomeLaws.{empty-home, loaded-home, rest-small}
+use Rattle.ways_home.proofs.home.is_way_home.Statement.{statement}
+use Rattle.ways_home.proofs.home.is_way_home.Tie as tie
+
+rest-if-due-requires : tie.Need-rest-if-due-requires
+rest-if-due-requires c κs = search needs
+
+is-home-direct-requires : tie.Need-is-home-direct-requires
+is-home-direct-requires c κs =
+    let t = c .before .before .before .pre .1 in
+    let s = rest-small _ _ _ _ t (c .before .rest-if-due .ensures) in
+    (search needs, omega (arith, s .place, t .place), omega (arith, s .minute, t .minute))
+
+returns : tie.Need-returns
+returns c = search empty-home
+
+nearest-tip-requires : tie.Need-nearest-tip-requires
+nearest-tip-requires c κs = let s = rest-small _ _ _ _ (c .before .before .before .pre .1) (c .before .rest-if-due .ensures) in (search needs, omega (arith, s .place), omega (arith, s .minute))
+
+is-home-by-tip-requires : tie.Need-is-home-by-tip-requires
+is-home-by-tip-requires c κs = (search needs, rest-small _ _ _ _ (c .before .before .before .before .pre .1) (c .before .before .rest-if-due .ensures), search needs)
+
+returns-2 : tie.Need-returns-2
+returns-2 c = search loaded-home
+
+pub is-way-home-spec : {M : Type 1} → statement M
+is-way-home-spec =
+    tie.close
+    (tie.spec
+    rest-if-due-requires
+    is-home-direct-requires
+    returns
+    nearest-tip-requires
+    is-home-by-tip-requires
+    returns-2)

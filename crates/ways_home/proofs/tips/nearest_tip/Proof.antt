@@ -1,0 +1,51 @@
+-- `ways_home::tips::nearest_tip` meets its contract: the best so far is the least of the first k tips.
+use Prim.Native.Nat.{_≤_, _-_}
+use borrow.Author.Needs.{needs}
+use mathlib.Core.Path.{_≡_}
+use Rattle.rules.specs.Least.{least}
+use Rattle.rules.specs.Fields.{legMinutes}
+use Rattle.rules.specs.Tips.{openTip}
+use Rattle.ways_home.proofs.TipLaws.{tips-none, tips-next, tips-few, tips-all}
+use Rattle.ways_home.proofs.tips.nearest_tip.Statement.{statement}
+use Rattle.ways_home.proofs.tips.nearest_tip.Tie as tie
+
+abbrev Inv-loop : tie.InvT-loop
+Inv-loop day z place minute tips best₀ k₀ best k = (k ≤ tips) × (best ≤ k) × (best ≡ least (openTip day place minute) (legMinutes day place) k)
+
+abbrev μ-loop : tie.MeasureT-loop
+μ-loop day z place minute tips best₀ k₀ best k = tips - k
+
+loop-holds : tie.Need-loop-holds Inv-loop μ-loop
+loop-holds c = (search needs, search needs, tips-none _ _ _)
+
+add-better-tip : tie.Need-add-better-tip Inv-loop μ-loop
+add-better-tip c = search needs
+
+better-tip-requires : tie.Need-better-tip-requires Inv-loop μ-loop
+better-tip-requires c κs = search needs
+
+add-k : tie.Need-add-k Inv-loop μ-loop
+add-k c = search needs
+
+loop-less : tie.Need-loop-less Inv-loop μ-loop
+loop-less c = search needs
+
+loop-again : tie.Need-loop-again Inv-loop μ-loop
+loop-again c = let e = tips-next _ _ _ _ _ (c .before .before .loop .inv .2) (c .better-tip .ensures) in (search needs, tips-few _ _ _ _ _ e, e)
+
+returns : tie.Need-returns Inv-loop μ-loop
+returns c = (search tips-all, search needs)
+
+pub nearest-tip-spec : {M : Type 1} → statement M
+nearest-tip-spec =
+    tie.close
+    (tie.spec
+    Inv-loop
+    μ-loop
+    loop-holds
+    add-better-tip
+    better-tip-requires
+    add-k
+    loop-less
+    loop-again
+    returns)

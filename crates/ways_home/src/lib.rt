@@ -1,0 +1,3 @@
+// The nearest tip, and whether a vehicle has a way home.
+pub mod home;
+pub mod tips;

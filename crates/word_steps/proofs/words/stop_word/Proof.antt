@@ -1,0 +1,46 @@
+-- `word_steps::words::stop_word` meets its contract: form, then marks, then what the word does.
+use borrow.Author.Needs.{needs}
+use Rattle.word_steps.proofs.Forming.{stop-formed, stop-below, known-some, known-most, stop-met, stop-unmet, misformed, met-again, goes-on}
+use Rattle.word_steps.proofs.words.stop_word.Statement.{statement}
+use Rattle.word_steps.proofs.words.stop_word.Tie as tie
+
+is-within-requires : tie.Need-is-within-requires
+is-within-requires c κs = search needs
+
+both-requires : tie.Need-both-requires
+both-requires c κs = search needs
+
+at-fault-requires : tie.Need-at-fault-requires
+at-fault-requires c κs = search needs
+
+returns : tie.Need-returns
+returns c = search (misformed, stop-formed)
+
+element-copy-out-if2 : tie.Need-element-copy-out-if2
+element-copy-out-if2 c = search stop-below
+
+at-fault-requires-2 : tie.Need-at-fault-requires-2
+at-fault-requires-2 c κs = search needs
+
+returns-2 : tie.Need-returns-2
+returns-2 c = search (met-again, stop-formed, stop-met)
+
+serve-requires : tie.Need-serve-requires
+serve-requires c κs = (search needs, search needs, search needs, search known-some, search known-most)
+
+returns-3 : tie.Need-returns-3
+returns-3 c = search (goes-on, stop-formed, stop-unmet)
+
+pub stop-word-spec : {M : Type 1} → statement M
+stop-word-spec =
+    tie.close
+    (tie.spec
+    is-within-requires
+    both-requires
+    at-fault-requires
+    returns
+    element-copy-out-if2
+    at-fault-requires-2
+    returns-2
+    serve-requires
+    returns-3)

@@ -1,0 +1,36 @@
+-- `word_steps::words::tip_word` meets its contract: form, then what the word does.
+use borrow.Author.Needs.{needs}
+use Rattle.word_steps.proofs.Forming.{tip-formed, known-some, known-most, misformed, goes-on}
+use Rattle.word_steps.specs.Steps.{isMetIn}
+use Rattle.word_steps.proofs.words.tip_word.Statement.{statement}
+use Rattle.word_steps.proofs.words.tip_word.Tie as tie
+
+is-within-requires : tie.Need-is-within-requires
+is-within-requires c κs = search needs
+
+both-requires : tie.Need-both-requires
+both-requires c κs = search needs
+
+at-fault-requires : tie.Need-at-fault-requires
+at-fault-requires c κs = search needs
+
+returns : tie.Need-returns
+returns c = search (misformed, tip-formed)
+
+empty-out-requires : tie.Need-empty-out-requires
+empty-out-requires c κs = (search needs, search needs, search known-some, search known-most)
+
+returns-2 : tie.Need-returns-2
+unfolding isMetIn
+returns-2 c = search (goes-on, tip-formed)
+
+pub tip-word-spec : {M : Type 1} → statement M
+tip-word-spec =
+    tie.close
+    (tie.spec
+    is-within-requires
+    both-requires
+    at-fault-requires
+    returns
+    empty-out-requires
+    returns-2)

@@ -1,0 +1,3 @@
+// One word of a plan: its form, then what it does.
+pub mod steps;
+pub mod words;
