@@ -6,21 +6,6 @@ use Rattle.answer_numbers.proofs.Six.{two-values, three-values}
 use Rattle.answer_numbers.proofs.write_place_answer.Statement.{statement}
 use Rattle.answer_numbers.proofs.write_place_answer.Tie as tie
 
-enum-known-answer : tie.Need-enum-known-answer
-enum-known-answer c = search needs
-
-write-six-requires : tie.Need-write-six-requires
-write-six-requires c κs = search needs
-
-enum-known-answer-2 : tie.Need-enum-known-answer-2
-enum-known-answer-2 c = search needs
-
-cast-write-six : tie.Need-cast-write-six
-cast-write-six c = search needs
-
-write-six-requires-2 : tie.Need-write-six-requires-2
-write-six-requires-2 c κs = search needs
-
 returns : tie.Need-returns
 returns c = three-values _ _ (sym (ap placeValues (c .before .before .before .answer .given .1))) (c .write-six .ensures)
 
@@ -31,10 +16,10 @@ pub write-place-answer-spec : {M : Type 1} → statement M
 write-place-answer-spec =
     tie.close
     (tie.spec
-    enum-known-answer
-    write-six-requires
-    enum-known-answer-2
-    cast-write-six
-    write-six-requires-2
+    (λ c. search needs)
+    (λ c κs. search needs)
+    (λ c. search needs)
+    (λ c. search needs)
+    (λ c κs. search needs)
     returns
     returns-2)

@@ -9,12 +9,9 @@ returns : tie.Need-returns
 unfolding checkWords
 returns c = search branches
 
-check-words-requires : tie.Need-check-words-requires
-check-words-requires c κs = search needs
-
 returns-2 : tie.Need-returns-2
 unfolding checkWords
 returns-2 c = search branches
 
 pub check-accepted-spec : {M : Type 1} → statement M
-check-accepted-spec = tie.close (tie.spec returns check-words-requires returns-2)
+check-accepted-spec = tie.close (tie.spec returns (λ c κs. search needs) returns-2)

@@ -13,12 +13,6 @@ returns-2 c = few-refused _ _ (c .before .if1 .left) (c .if2 .taken)
 returns-3 : tie.Need-returns-3
 returns-3 c = room-refused _ _ (c .before .before .if1 .left) (c .before .if2 .left) (c .if3 .taken)
 
-write-words-requires : tie.Need-write-words-requires
-write-words-requires c κs = search needs
-
-same-length : tie.Need-same-length
-same-length c = search needs
-
 returns-4 : tie.Need-returns-4
 returns-4 c =
     let h = c .before .before .before .before in
@@ -27,4 +21,4 @@ returns-4 c =
 
 pub read-words-spec : {M : Type 1} → statement M
 read-words-spec =
-    tie.close (tie.spec returns returns-2 returns-3 write-words-requires same-length returns-4)
+    tie.close (tie.spec returns returns-2 returns-3 (λ c κs. search needs) (λ c. search needs) returns-4)

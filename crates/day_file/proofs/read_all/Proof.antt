@@ -42,9 +42,6 @@ returns-2 c =
     let few : at-loop .loop .at ≤ length (at-read .read-from .last .1 .0) = omega (arith, at-loop .loop .inv .0, at-read .read-from .kept .1 .0) in
     (few, sym (length-take-le _ _ few))
 
-add-at : tie.Need-add-at Inv-loop μ-loop
-add-at c = search needs
-
 loop-less : tie.Need-loop-less Inv-loop μ-loop
 loop-less c =
     let at-if = c .before in
@@ -76,7 +73,7 @@ read-all-spec =
     returns
     same-length-2
     returns-2
-    add-at
+    (λ c. search needs)
     loop-less
     loop-again
     same-length-3

@@ -4,18 +4,12 @@ use Rattle.day_faults.proofs.Parts.{found-stands, found-behind}
 use Rattle.judge.proofs.fault_from_tips.Statement.{statement}
 use Rattle.judge.proofs.fault_from_tips.Tie as tie
 
-tips-fault-requires : tie.Need-tips-fault-requires
-tips-fault-requires c κs = search needs
-
 returns : tie.Need-returns
 returns c = search found-stands
-
-fault-from-stops-requires : tie.Need-fault-from-stops-requires
-fault-from-stops-requires c κs = search needs
 
 returns-2 : tie.Need-returns-2
 returns-2 c = search found-behind
 
 pub fault-from-tips-spec : {M : Type 1} → statement M
 fault-from-tips-spec =
-    tie.close (tie.spec tips-fault-requires returns fault-from-stops-requires returns-2)
+    tie.close (tie.spec (λ c κs. search needs) returns (λ c κs. search needs) returns-2)

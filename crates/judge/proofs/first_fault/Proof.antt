@@ -4,18 +4,12 @@ use Rattle.day_faults.proofs.Parts.{found-stands, found-behind}
 use Rattle.judge.proofs.first_fault.Statement.{statement}
 use Rattle.judge.proofs.first_fault.Tie as tie
 
-head-fault-requires : tie.Need-head-fault-requires
-head-fault-requires c κs = search needs
-
 returns : tie.Need-returns
 returns c = search found-stands
-
-fault-from-tips-requires : tie.Need-fault-from-tips-requires
-fault-from-tips-requires c κs = search needs
 
 returns-2 : tie.Need-returns-2
 returns-2 c = search found-behind
 
 pub first-fault-spec : {M : Type 1} → statement M
 first-fault-spec =
-    tie.close (tie.spec head-fault-requires returns fault-from-tips-requires returns-2)
+    tie.close (tie.spec (λ c κs. search needs) returns (λ c κs. search needs) returns-2)

@@ -17,24 +17,6 @@ returns-2 : tie.Need-returns-2
 unfolding judgeSized
 returns-2 c = search branches
 
-add-places : tie.Need-add-places
-add-places c = search needs
-
-add-places-2 : tie.Need-add-places-2
-add-places-2 c = search needs
-
-mul-if3 : tie.Need-mul-if3
-mul-if3 c = search needs
-
-add-if3 : tie.Need-add-if3
-add-if3 c = search needs
-
-mul-if3-2 : tie.Need-mul-if3-2
-mul-if3-2 c = search needs
-
-add-if3-2 : tie.Need-add-if3-2
-add-if3-2 c = search needs
-
 mul-if3-3 : tie.Need-mul-if3-3
 mul-if3-3 c = let a = c .before .before .before .args in omega (arith, legs-few (a .d) (a .n) (omega arith) (omega arith))
 
@@ -58,12 +40,12 @@ judge-sized-spec =
     (tie.spec
     returns
     returns-2
-    add-places
-    add-places-2
-    mul-if3
-    add-if3
-    mul-if3-2
-    add-if3-2
+    (λ c. search needs)
+    (λ c. search needs)
+    (λ c. search needs)
+    (λ c. search needs)
+    (λ c. search needs)
+    (λ c. search needs)
     mul-if3-3
     add-if3-3
     returns-3

@@ -5,14 +5,8 @@ use borrow.Author.Needs.{needs}
 use Rattle.kazhuvendi.proofs.kz_check.Statement.{statement}
 use Rattle.kazhuvendi.proofs.kz_check.Tie as tie
 
-check-requires : tie.Need-check-requires
-check-requires c κs = search needs
-
-write-answer-requires : tie.Need-write-answer-requires
-write-answer-requires c κs = search needs
-
 returns : tie.Need-returns
 returns c = c .write-answer .ensures ∙ ap inSix (c .before .before .check .ensures)
 
 pub kz-check-spec : {M : Type 1} → statement M
-kz-check-spec = tie.close (tie.spec check-requires write-answer-requires returns)
+kz-check-spec = tie.close (tie.spec (λ c κs. search needs) (λ c κs. search needs) returns)

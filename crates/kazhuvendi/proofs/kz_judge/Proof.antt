@@ -5,14 +5,8 @@ use borrow.Author.Needs.{needs}
 use Rattle.kazhuvendi.proofs.kz_judge.Statement.{statement}
 use Rattle.kazhuvendi.proofs.kz_judge.Tie as tie
 
-judge-requires : tie.Need-judge-requires
-judge-requires c κs = search needs
-
-write-day-answer-requires : tie.Need-write-day-answer-requires
-write-day-answer-requires c κs = search needs
-
 returns : tie.Need-returns
 returns c = c .write-day-answer .ensures ∙ ap inSix (c .before .before .judge .ensures)
 
 pub kz-judge-spec : {M : Type 1} → statement M
-kz-judge-spec = tie.close (tie.spec judge-requires write-day-answer-requires returns)
+kz-judge-spec = tie.close (tie.spec (λ c κs. search needs) (λ c κs. search needs) returns)

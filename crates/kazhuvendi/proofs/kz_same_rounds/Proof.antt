@@ -5,14 +5,8 @@ use borrow.Author.Needs.{needs}
 use Rattle.kazhuvendi.proofs.kz_same_rounds.Statement.{statement}
 use Rattle.kazhuvendi.proofs.kz_same_rounds.Tie as tie
 
-same-rounds-requires : tie.Need-same-rounds-requires
-same-rounds-requires c κs = search needs
-
-write-rounds-answer-requires : tie.Need-write-rounds-answer-requires
-write-rounds-answer-requires c κs = search needs
-
 returns : tie.Need-returns
 returns c = c .write-rounds-answer .ensures ∙ ap inSix (c .before .before .same-rounds .ensures .0)
 
 pub kz-same-rounds-spec : {M : Type 1} → statement M
-kz-same-rounds-spec = tie.close (tie.spec same-rounds-requires write-rounds-answer-requires returns)
+kz-same-rounds-spec = tie.close (tie.spec (λ c κs. search needs) (λ c κs. search needs) returns)

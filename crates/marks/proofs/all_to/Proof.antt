@@ -14,9 +14,6 @@ Inv-loop n m₀ i₀ m i = (i ≤ n) × (marked (m .words) ≡ upTo i) × (onesO
 abbrev μ-loop : tie.MeasureT-loop
 μ-loop n m₀ i₀ m i = n - i
 
-none-requires : tie.Need-none-requires Inv-loop μ-loop
-none-requires c κs = search needs
-
 loop-holds : tie.Need-loop-holds Inv-loop μ-loop
 loop-holds c = (
   search needs,
@@ -24,20 +21,11 @@ loop-holds c = (
   ap onesOf (c .none .ensures) ∙ onesOf-none 4,
 )
 
-add-mark : tie.Need-add-mark Inv-loop μ-loop
-add-mark c = search needs
-
 mark-requires : tie.Need-mark-requires Inv-loop μ-loop
 mark-requires c κs = (
   search needs,
   ap (λ p. p (c .before .loop .i + 1)) (c .before .loop .inv .1) ∙ upTo-out _ _ (omega arith),
 )
-
-add-i : tie.Need-add-i Inv-loop μ-loop
-add-i c = search needs
-
-loop-less : tie.Need-loop-less Inv-loop μ-loop
-loop-less c = search needs
 
 loop-again : tie.Need-loop-again Inv-loop μ-loop
 loop-again c =
@@ -53,11 +41,11 @@ all-to-spec =
     (tie.spec
     Inv-loop
     μ-loop
-    none-requires
+    (λ c κs. search needs)
     loop-holds
-    add-mark
+    (λ c. search needs)
     mark-requires
-    add-i
-    loop-less
+    (λ c. search needs)
+    (λ c. search needs)
     loop-again
     returns)

@@ -7,9 +7,6 @@ use Rattle.laws.proofs.Bits.{bit-le, one-shl-bit}
 use Rattle.marks.proofs.clear_bit.Statement.{statement}
 use Rattle.marks.proofs.clear_bit.Tie as tie
 
-shl-result : tie.Need-shl-result
-shl-result c = search needs
-
 sub-result : tie.Need-sub-result
 sub-result c = rw (one-shl-bit _ (c .pre .0)) (bit-le _ _ (c .pre .1))
 
@@ -19,4 +16,4 @@ returns c =
     (refl, omega (arith, bit-le (c .args .b) (c .args .w) (c .pre .1), pow-pos (c .args .b)))
 
 pub clear-bit-spec : {M : Type 1} → statement M
-clear-bit-spec = tie.close (tie.spec shl-result sub-result returns)
+clear-bit-spec = tie.close (tie.spec (λ c. search needs) sub-result returns)

@@ -9,27 +9,12 @@ use Rattle.laws.proofs.Marks.{unmarked-bit, mark-words}
 use Rattle.marks.proofs.mark.Statement.{statement}
 use Rattle.marks.proofs.mark.Tie as tie
 
-mul-next : tie.Need-mul-next
-mul-next c = search needs
-
-element-copy-out-next : tie.Need-element-copy-out-next
-element-copy-out-next c = search needs
-
-shl-next : tie.Need-shl-next
-shl-next c = search needs
-
 add-next : tie.Need-add-next
 add-next c =
     let s = c .before in
     let fits-now = array-fits w64 4 (s .args .m .words) _ (s .good .0 .1 .1 .0) _ in
     let clear = unmarked-bit _ _ (s .pre .1) in
     rw one-shl (record { fits = bit-add-lt (s .args .k % 64) 64 _ (omega arith) fits-now clear })
-
-mul-next-2 : tie.Need-mul-next-2
-mul-next-2 c = search needs
-
-element-write-next : tie.Need-element-write-next
-element-write-next c = search needs
 
 returns : tie.Need-returns
 returns c =
@@ -41,10 +26,10 @@ pub mark-spec : {M : Type 1} → statement M
 mark-spec =
     tie.close
     (tie.spec
-    mul-next
-    element-copy-out-next
-    shl-next
+    (λ c. search needs)
+    (λ c. search needs)
+    (λ c. search needs)
     add-next
-    mul-next-2
-    element-write-next
+    (λ c. search needs)
+    (λ c. search needs)
     returns)

@@ -15,27 +15,15 @@ use Rattle.marks.proofs.remaining.Tie as tie
 at-most : (c : tie.Start) (i : ℕ) → ones (getD (c .args .t1 .words) i 0) ≤ 64
 at-most c i = ones-le 64 _ (array-fits w64 4 (c .args .t1 .words) _ (c .good .0 .1 .1 .0) i)
 
-element-copy-out-result : tie.Need-element-copy-out-result
-element-copy-out-result c = search needs
-
-element-copy-out-result-2 : tie.Need-element-copy-out-result-2
-element-copy-out-result-2 c = search needs
-
 add-result : tie.Need-add-result
 add-result c =
     let s = c .before .before in
     omega (arith, at-most s 0, at-most s 1)
 
-element-copy-out-result-3 : tie.Need-element-copy-out-result-3
-element-copy-out-result-3 c = search needs
-
 add-result-2 : tie.Need-add-result-2
 add-result-2 c =
     let s = c .before .before .before in
     omega (arith, at-most s 0, at-most s 1, at-most s 2)
-
-element-copy-out-result-4 : tie.Need-element-copy-out-result-4
-element-copy-out-result-4 c = search needs
 
 add-result-3 : tie.Need-add-result-3
 add-result-3 c =
@@ -51,11 +39,11 @@ pub remaining-spec : {M : Type 1} → statement M
 remaining-spec =
     tie.close
     (tie.spec
-    element-copy-out-result
-    element-copy-out-result-2
+    (λ c. search needs)
+    (λ c. search needs)
     add-result
-    element-copy-out-result-3
+    (λ c. search needs)
     add-result-2
-    element-copy-out-result-4
+    (λ c. search needs)
     add-result-3
     returns)

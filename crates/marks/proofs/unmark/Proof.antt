@@ -8,21 +8,12 @@ use Rattle.laws.proofs.Marks.{marked-within, marked-bit, unmark-words}
 use Rattle.marks.proofs.unmark.Statement.{statement}
 use Rattle.marks.proofs.unmark.Tie as tie
 
-mul-next : tie.Need-mul-next
-mul-next c = search needs
-
 element-copy-out-next : tie.Need-element-copy-out-next
 element-copy-out-next c =
     omega (arith, marked-within _ _ (c .pre), array-length w64 4 (c .args .m .words) _ (c .good .0 .1 .1 .0))
 
-shl-next : tie.Need-shl-next
-shl-next c = search needs
-
 sub-next : tie.Need-sub-next
 sub-next c = rw one-shl (bit-le _ _ (marked-bit _ _ (c .before .pre)))
-
-mul-next-2 : tie.Need-mul-next-2
-mul-next-2 c = search needs
 
 element-write-next : tie.Need-element-write-next
 element-write-next c = element-copy-out-next (c .before)
@@ -34,10 +25,10 @@ pub unmark-spec : {M : Type 1} → statement M
 unmark-spec =
     tie.close
     (tie.spec
-    mul-next
+    (λ c. search needs)
     element-copy-out-next
-    shl-next
+    (λ c. search needs)
     sub-next
-    mul-next-2
+    (λ c. search needs)
     element-write-next
     returns)

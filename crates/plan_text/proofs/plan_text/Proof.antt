@@ -4,17 +4,8 @@ use Rattle.plan_text.proofs.PrintedLaws.{printed-long, printed-short, p
 use Rattle.plan_text.proofs.plan_text.Statement.{statement}
 use Rattle.plan_text.proofs.plan_text.Tie as tie
 
-slice-aggregate-put-bytes : tie.Need-slice-aggregate-put-bytes
-slice-aggregate-put-bytes c = search needs
-
-put-bytes-requires : tie.Need-put-bytes-requires
-put-bytes-requires c κs = search needs
-
 returns : tie.Need-returns
 returns c = put-printed (c .put-bytes .ensures) (printed-long _ (c .before .before .before .if1 .taken))
-
-put-file-requires : tie.Need-put-file-requires
-put-file-requires c κs = search needs
 
 returns-2 : tie.Need-returns-2
 returns-2 c = put-printed (c .put-file .ensures) (printed-short _ (c .before .before .if1 .left))
@@ -22,4 +13,4 @@ returns-2 c = put-printed (c .put-file .ensures) (printed-short _ (c .before .be
 pub plan-text-spec : {M : Type 1} → statement M
 plan-text-spec =
     tie.close
-    (tie.spec slice-aggregate-put-bytes put-bytes-requires returns put-file-requires returns-2)
+    (tie.spec (λ c. search needs) (λ c κs. search needs) returns (λ c κs. search needs) returns-2)

@@ -8,18 +8,6 @@ use Rattle.plan_text.specs.Printed.{dayText}
 use Rattle.plan_text.proofs.put_day.Statement.{statement}
 use Rattle.plan_text.proofs.put_day.Tie as tie
 
-empty-plan-requires : tie.Need-empty-plan-requires
-empty-plan-requires c κs = search needs
-
-slice-aggregate-plan-of : tie.Need-slice-aggregate-plan-of
-slice-aggregate-plan-of c = search needs
-
-plan-of-requires : tie.Need-plan-of-requires
-plan-of-requires c κs = search needs
-
-slice-aggregate-put-answer : tie.Need-slice-aggregate-put-answer
-slice-aggregate-put-answer c = search needs
-
 put-answer-requires : tie.Need-put-answer-requires
 put-answer-requires c κs =
     let at-plan-of = c .before .before .before in
@@ -29,9 +17,6 @@ put-answer-requires c κs =
     let empty = at-empty-plan .empty-plan in
     let kept = planned .kept .1 .0 in
     day-room _ (start .args .text .now) (planned .last .1 .0) (empty .result) (start .pre) (planned .ensures .0) kept (empty .ensures)
-
-same-length : tie.Need-same-length
-same-length c = search needs
 
 returns : tie.Need-returns
 unfolding dayText
@@ -45,10 +30,10 @@ pub put-day-spec : {M : Type 1} → statement M
 put-day-spec =
     tie.close
     (tie.spec
-    empty-plan-requires
-    slice-aggregate-plan-of
-    plan-of-requires
-    slice-aggregate-put-answer
+    (λ c κs. search needs)
+    (λ c. search needs)
+    (λ c κs. search needs)
+    (λ c. search needs)
     put-answer-requires
-    same-length
+    (λ c. search needs)
     returns)

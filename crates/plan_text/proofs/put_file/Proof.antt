@@ -8,18 +8,6 @@ use Rattle.plan_text.proofs.PrintedLaws.{file-fits, file-day, file-refu
 use Rattle.plan_text.proofs.put_file.Statement.{statement}
 use Rattle.plan_text.proofs.put_file.Tie as tie
 
-day-words-requires : tie.Need-day-words-requires
-day-words-requires c κs = search needs
-
-slice-aggregate-read-words : tie.Need-slice-aggregate-read-words
-slice-aggregate-read-words c = search needs
-
-read-words-requires : tie.Need-read-words-requires
-read-words-requires c κs = search needs
-
-enum-known-answer : tie.Need-enum-known-answer
-enum-known-answer c = search needs
-
 array-share-prefix-words : tie.Need-array-share-prefix-words
 array-share-prefix-words c =
     let at-answer = c .before .before in
@@ -32,18 +20,6 @@ array-share-prefix-words c =
 slice-aggregate-put-day : tie.Need-slice-aggregate-put-day
 slice-aggregate-put-day c = sym (length-take-le _ _ (array-share-prefix-words (c .before)))
 
-put-day-requires : tie.Need-put-day-requires
-put-day-requires c κs = search needs
-
-enum-known-answer-2 : tie.Need-enum-known-answer-2
-enum-known-answer-2 c = search needs
-
-put-refused-requires : tie.Need-put-refused-requires
-put-refused-requires c κs = search needs
-
-same-length : tie.Need-same-length
-same-length c = search needs
-
 returns : tie.Need-returns
 returns c =
     let at-put-day = c .before .before in
@@ -53,9 +29,6 @@ returns c =
     let read = at-read-words .read-words .ensures in
     let told = rw (at-answer .answer .given .1) at (read .0) in
     put-same (at-put-day .put-day .ensures) (file-day _ (words .result) told _ (words .ensures) (read .1 .1))
-
-same-length-2 : tie.Need-same-length-2
-same-length-2 c = search needs
 
 returns-2 : tie.Need-returns-2
 returns-2 c =
@@ -72,16 +45,16 @@ pub put-file-spec : {M : Type 1} → statement M
 put-file-spec =
     tie.close
     (tie.spec
-    day-words-requires
-    slice-aggregate-read-words
-    read-words-requires
-    enum-known-answer
+    (λ c κs. search needs)
+    (λ c. search needs)
+    (λ c κs. search needs)
+    (λ c. search needs)
     array-share-prefix-words
     slice-aggregate-put-day
-    put-day-requires
-    enum-known-answer-2
-    put-refused-requires
-    same-length
+    (λ c κs. search needs)
+    (λ c. search needs)
+    (λ c κs. search needs)
+    (λ c. search needs)
     returns
-    same-length-2
+    (λ c. search needs)
     returns-2)

@@ -4,23 +4,11 @@ use Rattle.builder.proofs.BuiltPlans.{is-accepted, accepted-long, accepted-answ
 use Rattle.planner.proofs.build.Statement.{statement}
 use Rattle.planner.proofs.build.Tie as tie
 
-judge-requires : tie.Need-judge-requires
-judge-requires c κs = search needs
-
-enum-told : tie.Need-enum-told
-enum-told c = search needs
-
 layout-of-requires : tie.Need-layout-of-requires
 layout-of-requires c κs = search accepted-long
 
 build-accepted-requires : tie.Need-build-accepted-requires
 build-accepted-requires c κs = (search needs, search is-accepted)
-
-enum-known-number : tie.Need-enum-known-number
-enum-known-number c = search needs
-
-same-length : tie.Need-same-length
-same-length c = search needs
 
 returns : tie.Need-returns
 returns c = (search accepted-answer, search accepted-buffer)
@@ -32,11 +20,11 @@ pub build-spec : {M : Type 1} → statement M
 build-spec =
     tie.close
     (tie.spec
-    judge-requires
-    enum-told
+    (λ c κs. search needs)
+    (λ c. search needs)
     layout-of-requires
     build-accepted-requires
-    enum-known-number
-    same-length
+    (λ c. search needs)
+    (λ c. search needs)
     returns
     returns-2)

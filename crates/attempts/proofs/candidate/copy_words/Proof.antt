@@ -33,9 +33,6 @@ slice-write-part c = omega (arith, c .before .loop-test .taken, c .before .befor
 add-i : tie.Need-add-i Inv-loop μ-loop
 add-i c = omega (arith, c .before .loop-test .taken, c .before .before .before .good)
 
-loop-less : tie.Need-loop-less Inv-loop μ-loop
-loop-less c = search needs
-
 loop-again : tie.Need-loop-again Inv-loop μ-loop
 loop-again c = (omega (arith, c .before .loop-test .taken), copy-next _ _ _ (c .before .before .loop .inv .1) (c .before .loop-test .taken) (c .before .before .before .pre))
 
@@ -57,7 +54,7 @@ copy-words-spec =
     mul-part-2
     slice-write-part
     add-i
-    loop-less
+    (λ c. search needs)
     loop-again
     same-length
     returns)

@@ -30,9 +30,6 @@ cast-to c = let s = c .before .before .before .before .before .before .pre .4 in
 add-is-touched : tie.Need-add-is-touched
 add-is-touched c = let s = c .before .before .before .before .before .before .pre .4 in omega (arith, s .inside, few-vehicles (s .trying))
 
-is-touched-requires : tie.Need-is-touched-requires
-is-touched-requires c κs = search needs
-
 add-write-round : tie.Need-add-write-round
 add-write-round c = let s = c .before .before .before .before .before .before .before .pre .4 in omega (arith, s .inside, few-vehicles (s .trying))
 
@@ -54,9 +51,6 @@ part-write-round-end c = let s = c .before .before .before .before .before .befo
 write-round-requires : tie.Need-write-round-requires
 write-round-requires c κs = let s = c .before .before .before .before .before .before .before .before .before .pre .4 in (c .before .before .before .before .before .before .before .before .before .pre .0, c .before .before .before .before .before .before .before .before .before .pre .1, c .before .before .before .before .before .before .before .before .before .pre .2, c .before .before .before .before .before .before .before .before .before .pre .3, omega (arith, s .inside, few-vehicles (s .trying)), some-roundable s (c .before .before .before .before .before .before .before .before .before .pre .1) (is-touches _ _ (c .before .before .is-touched .ensures)) refl)
 
-same-length : tie.Need-same-length
-same-length c = search needs
-
 returns : tie.Need-returns
 returns c = λ rounds t l h. round-retried t l (is-touches _ _ (c .before .before .before .before .before .is-touched .ensures)) (c .before .before .write-round .ensures _ (round-able t l (c .before .before .before .before .before .before .before .before .before .before .before .before .pre .1) h (is-touches _ _ (c .before .before .before .before .before .is-touched .ensures)) (bounds t l .words)))
 
@@ -72,7 +66,7 @@ next-round-spec =
     shared-slice-read-to
     cast-to
     add-is-touched
-    is-touched-requires
+    (λ c κs. search needs)
     add-write-round
     cast-write-round
     mul-write-round
@@ -80,5 +74,5 @@ next-round-spec =
     part-write-round-start
     part-write-round-end
     write-round-requires
-    same-length
+    (λ c. search needs)
     returns)

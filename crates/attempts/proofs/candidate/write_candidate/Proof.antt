@@ -8,12 +8,6 @@ use borrow.Author.Needs.{needs}
 use Rattle.attempts.proofs.candidate.write_candidate.Statement.{statement}
 use Rattle.attempts.proofs.candidate.write_candidate.Tie as tie
 
-write-rounds-requires : tie.Need-write-rounds-requires
-write-rounds-requires c κs = search needs
-
-same-length : tie.Need-same-length
-same-length c = search needs
-
 returns : tie.Need-returns
 returns c = λ rounds t n. candidate-fails t n (c .before .before .before .write-rounds .ensures rounds t n) (c .if1 .taken)
 
@@ -38,9 +32,6 @@ sub-copy-words c = let s = c .before .before .before .before .before .before .be
 part-copy-words-start : tie.Need-part-copy-words-start
 part-copy-words-start c = let s = c .before .before .before .before .before .before .before .before .before .before .pre .4 in omega (arith, ends-inside (s .trying) (s .counted))
 
-part-copy-words-end : tie.Need-part-copy-words-end
-part-copy-words-end c = search needs
-
 mul-copy-words-2 : tie.Need-mul-copy-words-2
 mul-copy-words-2 c = let s = c .before .before .before .before .before .before .before .before .before .before .before .pre .4 in let w = c .before .before .before .before .before .write-rounds .ensures (s .rounds) (s .trying) (s .counted) .written (c .before .before .if1 .left) in omega (arith, room-left (s .trying) w)
 
@@ -50,17 +41,11 @@ sub-copy-words-2 c = let s = c .before .before .before .before .before .before .
 part-copy-words-start-2 : tie.Need-part-copy-words-start-2
 part-copy-words-start-2 c = let s = c .before .before .before .before .before .before .before .before .before .before .before .pre .4 in let w = c .before .before .before .before .before .write-rounds .ensures (s .rounds) (s .trying) (s .counted) .written (c .before .before .if1 .left) in omega (arith, room-left (s .trying) w, w .text .size, room-is (c .before .before .before .before .before .before .before .before .before .before .before .pre .0) (c .before .before .before .before .before .before .before .before .before .before .before .pre .5))
 
-part-copy-words-end-2 : tie.Need-part-copy-words-end-2
-part-copy-words-end-2 c = search needs
-
 copy-words-requires : tie.Need-copy-words-requires
 copy-words-requires c κs = let s = c .before .before .before .before .before .before .before .before .before .before .before .before .pre .4 in lefts-room (s .trying) (s .counted) (c .before .before .before .before .before .before .write-rounds .ensures (s .rounds) (s .trying) (s .counted) .written (c .before .before .before .if1 .left)) (room-is (c .before .before .before .before .before .before .before .before .before .before .before .before .pre .0) (c .before .before .before .before .before .before .before .before .before .before .before .before .pre .5))
 
 add-t17 : tie.Need-add-t17
 add-t17 c = let s = c .before .before .before .before .before .before .before .before .before .before .before .before .before .before .before .pre .4 in let w = c .before .before .before .before .before .before .before .before .before .write-rounds .ensures (s .rounds) (s .trying) (s .counted) .written (c .before .before .before .before .before .before .if1 .left) in omega (arith, room-left (s .trying) w, lefts-long (s .trying) (s .counted))
-
-same-length-2 : tie.Need-same-length-2
-same-length-2 c = search needs
 
 returns-2 : tie.Need-returns-2
 returns-2 c = λ rounds t n. candidate-ends t n _ (c .before .before .before .before .before .before .before .before .before .write-rounds .ensures rounds t n .written (c .before .before .before .before .before .before .if1 .left)) (c .before .before .copy-words .ensures) refl refl
@@ -69,8 +54,8 @@ pub write-candidate-spec : {M : Type 1} → statement M
 write-candidate-spec =
     tie.close
     (tie.spec
-    write-rounds-requires
-    same-length
+    (λ c κs. search needs)
+    (λ c. search needs)
     returns
     mul-from
     shared-slice-read-from
@@ -79,12 +64,12 @@ write-candidate-spec =
     mul-copy-words
     sub-copy-words
     part-copy-words-start
-    part-copy-words-end
+    (λ c. search needs)
     mul-copy-words-2
     sub-copy-words-2
     part-copy-words-start-2
-    part-copy-words-end-2
+    (λ c. search needs)
     copy-words-requires
     add-t17
-    same-length-2
+    (λ c. search needs)
     returns-2)

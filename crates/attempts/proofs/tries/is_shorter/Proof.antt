@@ -16,9 +16,6 @@ sub-v c = let s = c .before .before .before .before .before .before .before .pre
 retry-requires : tie.Need-retry-requires
 retry-requires c κs = (c .before .before .before .before .before .before .before .before .pre .0, c .before .before .before .before .before .before .before .before .pre .1, c .before .before .before .before .before .before .before .before .pre .2, c .before .before .before .before .before .before .before .before .pre .3, some-one (c .before .before .before .before .before .before .before .before .pre .4), c .before .before .before .before .before .before .before .before .pre .5)
 
-same-length : tie.Need-same-length
-same-length c = search needs
-
 returns : tie.Need-returns
 returns c = λ f rounds h. one-failed h (c .before .before .before .retry .ensures) (c .if1 .taken)
 
@@ -27,9 +24,6 @@ mul-result c = let s = c .before .before .before .before .before .before .before
 
 shared-slice-read-result : tie.Need-shared-slice-read-result
 shared-slice-read-result c = let s = c .before .before .before .before .before .before .before .before .before .before .before .before .before .before .before .pre .4 in omega (arith, vehicles-of (s .measured) .insideOne, few-vehicles (s .measured .trying), s .measured .measures)
-
-same-length-2 : tie.Need-same-length-2
-same-length-2 c = search needs
 
 returns-2 : tie.Need-returns-2
 returns-2 c = λ f rounds h. one-longer h (c .before .before .before .before .before .before .before .retry .ensures) (c .before .before .before .before .if1 .left) (c .before .before .if2 .taken) f
@@ -40,20 +34,8 @@ sub-u c = let s = c .before .before .before .before .before .before .before .bef
 retry-requires-2 : tie.Need-retry-requires-2
 retry-requires-2 c κs = (c .before .before .before .before .before .before .before .before .before .before .before .before .before .before .before .before .pre .0, c .before .before .before .before .before .before .before .before .before .before .before .before .before .before .before .before .pre .1, c .before .before .before .before .before .before .before .before .before .before .before .before .before .before .before .before .pre .2, c .before .before .before .before .before .before .before .before .before .before .before .before .before .before .before .before .pre .3, some-other (c .before .before .before .before .before .before .before .before .before .before .before .before .before .before .before .before .pre .4), omega (arith, c .before .before .before .before .before .before .before .before .before .before .before .before .before .before .before .before .pre .5, c .before .before .before .before .before .before .before .retry .kept .1 .1 .1 .1 .1 .1 .1 .0))
 
-same-length-3 : tie.Need-same-length-3
-same-length-3 c = search needs
-
 returns-3 : tie.Need-returns-3
 returns-3 c = λ f rounds h. other-failed h (c .before .before .before .retry2 .ensures) (c .if3 .taken)
-
-wide-requires : tie.Need-wide-requires
-wide-requires c κs = search needs
-
-wide-requires-2 : tie.Need-wide-requires-2
-wide-requires-2 c κs = search needs
-
-add-result : tie.Need-add-result
-add-result c = search needs
 
 mul-wide : tie.Need-mul-wide
 mul-wide c = let s = c .before .before .before .before .before .before .before .before .before .before .before .before .before .before .before .before .before .before .before .before .before .before .pre .4 in omega (arith, vehicles-of (s .measured) .insideOne, few-vehicles (s .measured .trying))
@@ -61,23 +43,11 @@ mul-wide c = let s = c .before .before .before .before .before .before .before .
 shared-slice-read-wide : tie.Need-shared-slice-read-wide
 shared-slice-read-wide c = let s = c .before .before .before .before .before .before .before .before .before .before .before .before .before .before .before .before .before .before .before .before .before .before .before .pre .4 in omega (arith, vehicles-of (s .measured) .insideOne, few-vehicles (s .measured .trying), s .measured .measures)
 
-wide-requires-3 : tie.Need-wide-requires-3
-wide-requires-3 c κs = search needs
-
 mul-wide-2 : tie.Need-mul-wide-2
 mul-wide-2 c = let s = c .before .before .before .before .before .before .before .before .before .before .before .before .before .before .before .before .before .before .before .before .before .before .before .before .pre .4 in omega (arith, vehicles-of (s .measured) .insideOther, few-vehicles (s .measured .trying))
 
 shared-slice-read-wide-2 : tie.Need-shared-slice-read-wide-2
 shared-slice-read-wide-2 c = let s = c .before .before .before .before .before .before .before .before .before .before .before .before .before .before .before .before .before .before .before .before .before .before .before .before .before .pre .4 in omega (arith, vehicles-of (s .measured) .insideOther, few-vehicles (s .measured .trying), s .measured .measures)
-
-wide-requires-4 : tie.Need-wide-requires-4
-wide-requires-4 c κs = search needs
-
-add-result-2 : tie.Need-add-result-2
-add-result-2 c = search needs
-
-same-length-4 : tie.Need-same-length-4
-same-length-4 c = search needs
 
 returns-4 : tie.Need-returns-4
 returns-4 c = λ f rounds h. both-longer h (c .before .before .before .before .before .before .before .before .before .before .before .before .before .before .before .before .before .retry .ensures) (c .before .before .before .before .before .before .before .before .before .before .before .before .before .before .if1 .left) (c .before .before .before .before .before .before .before .before .before .before .before .before .if2 .left) (c .before .before .before .before .before .before .before .before .before .retry2 .ensures) (c .before .before .before .before .before .before .if3 .left) (c .before .before .before .before .before .wide .ensures .0) (c .before .before .before .before .wide2 .ensures .0) (c .before .before .wide3 .ensures .0) (c .wide4 .ensures .0) f
@@ -88,25 +58,25 @@ is-shorter-spec =
     (tie.spec
     sub-v
     retry-requires
-    same-length
+    (λ c. search needs)
     returns
     mul-result
     shared-slice-read-result
-    same-length-2
+    (λ c. search needs)
     returns-2
     sub-u
     retry-requires-2
-    same-length-3
+    (λ c. search needs)
     returns-3
-    wide-requires
-    wide-requires-2
-    add-result
+    (λ c κs. search needs)
+    (λ c κs. search needs)
+    (λ c. search needs)
     mul-wide
     shared-slice-read-wide
-    wide-requires-3
+    (λ c κs. search needs)
     mul-wide-2
     shared-slice-read-wide-2
-    wide-requires-4
-    add-result-2
-    same-length-4
+    (λ c κs. search needs)
+    (λ c. search needs)
+    (λ c. search needs)
     returns-4)

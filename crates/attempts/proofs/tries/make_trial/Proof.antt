@@ -11,44 +11,17 @@ use Rattle.attempts.proofs.tries.is_shorter.Reads as is-shorter-reads
 use Rattle.attempts.proofs.tries.judge_candidate.Reads as judge-candidate-reads
 use Rattle.attempts.proofs.tries.not_kept.Reads as not-kept-reads
 
-is-shorter-requires : tie.Need-is-shorter-requires
-is-shorter-requires c κs = search needs
-
 write-candidate-requires : tie.Need-write-candidate-requires
 write-candidate-requires c κs = let s = c .before .before .before .before .before .before .before .before .before .before .before .before .pre .4 in (c .before .before .before .before .before .before .before .before .before .before .before .before .pre .0, c .before .before .before .before .before .before .before .before .before .before .before .before .pre .1, c .before .before .before .before .before .before .before .before .before .before .before .before .pre .2, c .before .before .before .before .before .before .before .before .before .before .before .before .pre .3, record { rounds = s .rounds; trying = s .made .measured .trying; counted = s .made .counted }, omega (arith, c .before .before .before .before .before .before .before .before .before .before .before .before .pre .5, c .before .before .before .before .is-shorter .kept .1 .1 .1 .1 .1 .1 .1 .0))
-
-not-kept-requires : tie.Need-not-kept-requires
-not-kept-requires c κs = search needs
-
-same-length : tie.Need-same-length
-same-length c = search needs
 
 returns : tie.Need-returns
 returns c = λ rounds h. tried-stuck (c .before .before .before .before .before .before .before .before .before .before .before .before .before .before .before .before .before .pre .1) h _ (c .before .before .before .before .write-candidate .ensures rounds (h .measured .trying) (h .counted)) (c .before .if2 .taken) (c .not-kept .ensures)
 
-sub-judge-candidate : tie.Need-sub-judge-candidate
-sub-judge-candidate c = search needs
-
-part-judge-candidate-start : tie.Need-part-judge-candidate-start
-part-judge-candidate-start c = search needs
-
 part-judge-candidate-end : tie.Need-part-judge-candidate-end
 part-judge-candidate-end c = let s = c .before .before .before .before .before .before .before .before .before .before .before .before .before .before .before .before .before .pre .4 in omega (arith, candidate-fits (c .before .before .before .before .write-candidate .ensures (s .rounds) (s .made .measured .trying) (s .made .counted)) (c .before .if2 .left))
 
-judge-candidate-requires : tie.Need-judge-candidate-requires
-judge-candidate-requires c κs = search needs
-
-same-length-2 : tie.Need-same-length-2
-same-length-2 c = search needs
-
 returns-2 : tie.Need-returns-2
 returns-2 c = λ rounds h. tried-judged (c .before .before .before .before .before .before .before .before .before .before .before .before .before .before .before .before .before .before .before .pre .1) h _ (c .before .before .before .before .before .before .write-candidate .ensures rounds (h .measured .trying) (h .counted)) (c .before .before .before .if2 .left) (c .judge-candidate .ensures .0) (c .judge-candidate .ensures .1)
-
-not-kept-requires-2 : tie.Need-not-kept-requires-2
-not-kept-requires-2 c κs = search needs
-
-same-length-3 : tie.Need-same-length-3
-same-length-3 c = search needs
 
 returns-3 : tie.Need-returns-3
 returns-3 c = λ rounds h. tried-none (c .before .before .before .before .before .before .before .before .before .before .before .before .pre .1) h _ (c .before .before .before .before .is-shorter .ensures (c .before .if1 .left)) (c .not-kept2 .ensures)
@@ -57,17 +30,17 @@ pub make-trial-spec : {M : Type 1} → statement M
 make-trial-spec =
     tie.close
     (tie.spec
-    is-shorter-requires
+    (λ c κs. search needs)
     write-candidate-requires
-    not-kept-requires
-    same-length
+    (λ c κs. search needs)
+    (λ c. search needs)
     returns
-    sub-judge-candidate
-    part-judge-candidate-start
+    (λ c. search needs)
+    (λ c. search needs)
     part-judge-candidate-end
-    judge-candidate-requires
-    same-length-2
+    (λ c κs. search needs)
+    (λ c. search needs)
     returns-2
-    not-kept-requires-2
-    same-length-3
+    (λ c κs. search needs)
+    (λ c. search needs)
     returns-3)

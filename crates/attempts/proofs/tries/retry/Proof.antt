@@ -43,15 +43,6 @@ sub-to c = let s = c .before .before .before .before .before .before .before .pr
 add-span-of : tie.Need-add-span-of
 add-span-of c = let s = c .before .before .before .before .before .before .before .pre .4 in omega (arith, s .inside, few-vehicles (s .trying))
 
-sub-span-of : tie.Need-sub-span-of
-sub-span-of c = search needs
-
-part-span-of-start : tie.Need-part-span-of-start
-part-span-of-start c = search needs
-
-part-span-of-end : tie.Need-part-span-of-end
-part-span-of-end c = search needs
-
 mul-span-of : tie.Need-mul-span-of
 mul-span-of c = let s = c .before .before .before .before .before .before .before .before .before .pre .4 in let b = bounds (s .trying) (s .inside) in omega (arith, b .order, b .inside, plan-short (s .trying))
 
@@ -63,27 +54,6 @@ part-span-of-start-2 c = let s = c .before .before .before .before .before .befo
 
 part-span-of-end-2 : tie.Need-part-span-of-end-2
 part-span-of-end-2 c = let s = c .before .before .before .before .before .before .before .before .before .pre .4 in let b = bounds (s .trying) (s .inside) in omega (arith, start-next (trying-laid (s .trying)) (s .inside), b .inside)
-
-span-of-requires : tie.Need-span-of-requires
-span-of-requires c κs = search needs
-
-sub-before : tie.Need-sub-before
-sub-before c = search needs
-
-part-before-start : tie.Need-part-before-start
-part-before-start c = search needs
-
-part-before-end : tie.Need-part-before-end
-part-before-end c = search needs
-
-sub-behind : tie.Need-sub-behind
-sub-behind c = search needs
-
-part-behind-start : tie.Need-part-behind-start
-part-behind-start c = search needs
-
-part-behind-end : tie.Need-part-behind-end
-part-behind-end c = search needs
 
 mul-measure : tie.Need-mul-measure
 mul-measure c = let s = c .before .before .before .before .before .before .before .before .before .before .before .before .before .pre .4 in let b = bounds (s .trying) (s .inside) in omega (arith, b .order, b .inside, plan-short (s .trying))
@@ -99,9 +69,6 @@ part-measure-end c = let s = c .before .before .before .before .before .before .
 
 measure-requires : tie.Need-measure-requires
 measure-requires c κs = let s = c .before .before .before .before .before .before .before .before .before .before .before .before .before .before .before .pre .4 in let room = room-is (c .before .before .before .before .before .before .before .before .before .before .before .before .before .before .before .pre .0) (c .before .before .before .before .before .before .before .before .before .before .before .before .before .before .before .pre .5) in let are = retry-walkable (s .trying) (s .inside) {work = c .before .before .before .before .before .before .before .before .before .before .before .before .before .before .before .args .work .now} (c .before .before .before .before .before .before .before .before .before .before .before .before .before .before .before .pre .1) room (s .touched) .are in (c .before .before .before .before .before .before .before .before .before .before .before .before .before .before .before .pre .0, c .before .before .before .before .before .before .before .before .before .before .before .before .before .before .before .pre .1, c .before .before .before .before .before .before .before .before .before .before .before .before .before .before .before .pre .2, c .before .before .before .before .before .before .before .before .before .before .before .before .before .before .before .pre .3, s .tracked .tracked .beforeSize, s .tracked .tracked .behindSize, retry-short (s .trying) (s .inside) (c .before .before .before .before .before .before .before .before .before .before .before .before .before .before .before .pre .1) are, record { tasks = _; measurable = retry-measurable (s .trying) (s .inside) (c .before .before .before .before .before .before .before .before .before .before .before .before .before .before .before .pre .1) room (s .touched) (s .tracked) (c .before .before .before .before .span-of .ensures _ are (valid-single _ (s .inside) (s .trying .valid))) })
-
-same-length : tie.Need-same-length
-same-length c = search needs
 
 returns : tie.Need-returns
 returns c = λ rounds t k l y. let room = room-is (c .before .before .before .before .before .before .before .before .before .before .before .before .before .before .before .before .before .before .pre .0) (c .before .before .before .before .before .before .before .before .before .before .before .before .before .before .before .before .before .before .pre .5) in let are = retry-walkable t l {work = c .before .before .before .before .before .before .before .before .before .before .before .before .before .before .before .before .before .before .args .work .now} (c .before .before .before .before .before .before .before .before .before .before .before .before .before .before .before .before .before .before .pre .1) room y .are in c .before .before .measure .ensures _ (retry-measurable t l (c .before .before .before .before .before .before .before .before .before .before .before .before .before .before .before .before .before .before .pre .1) room y k (c .before .before .before .before .before .before .before .span-of .ensures _ are (valid-single _ l (t .valid))))
@@ -120,24 +87,24 @@ retry-spec =
     cast-to
     sub-to
     add-span-of
-    sub-span-of
-    part-span-of-start
-    part-span-of-end
+    (λ c. search needs)
+    (λ c. search needs)
+    (λ c. search needs)
     mul-span-of
     sub-span-of-2
     part-span-of-start-2
     part-span-of-end-2
-    span-of-requires
-    sub-before
-    part-before-start
-    part-before-end
-    sub-behind
-    part-behind-start
-    part-behind-end
+    (λ c κs. search needs)
+    (λ c. search needs)
+    (λ c. search needs)
+    (λ c. search needs)
+    (λ c. search needs)
+    (λ c. search needs)
+    (λ c. search needs)
     mul-measure
     sub-measure
     part-measure-start
     part-measure-end
     measure-requires
-    same-length
+    (λ c. search needs)
     returns)

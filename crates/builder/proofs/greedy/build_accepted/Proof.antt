@@ -7,35 +7,14 @@ use Rattle.builder.proofs.BuiltPlans.{need-is, short-answer, short-buff
 use Rattle.builder.proofs.greedy.build_accepted.Statement.{statement}
 use Rattle.builder.proofs.greedy.build_accepted.Tie as tie
 
-mul-need : tie.Need-mul-need
-mul-need c = search needs
-
 returns : tie.Need-returns
 returns c = (short-answer _ (need-is (c .before .before .before .before .pre .0)) (c .if1 .taken), short-buffer _ _ (need-is (c .before .before .before .before .pre .0)) (c .if1 .taken))
 
 write-plan-requires : tie.Need-write-plan-requires
 write-plan-requires c κs = let p = c .before .before .before .before .before .pre in (p .0, omega (arith, accepted-ranges _ (p .1) .stopsMost, p .0 .stopsAre), c .before .if1 .left)
 
-sub-check-accepted : tie.Need-sub-check-accepted
-sub-check-accepted c = search needs
-
-part-check-accepted-start : tie.Need-part-check-accepted-start
-part-check-accepted-start c = search needs
-
 part-check-accepted-end : tie.Need-part-check-accepted-end
 part-check-accepted-end c = plan-fits _ _ (c .before .before .before .write-plan .ensures .0 .0) (c .before .before .before .write-plan .ensures .1) (omega (arith, c .before .before .before .before .before .before .before .before .before .pre .0 .stopsAre, c .before .before .before .before .before .if1 .left))
-
-check-accepted-requires : tie.Need-check-accepted-requires
-check-accepted-requires c κs = search needs
-
-enum-known-answer : tie.Need-enum-known-answer
-enum-known-answer c = search needs
-
-enum-known-answer-2 : tie.Need-enum-known-answer-2
-enum-known-answer-2 c = search needs
-
-same-length : tie.Need-same-length
-same-length c = search needs
 
 returns-2 : tie.Need-returns-2
 returns-2 c =
@@ -45,9 +24,6 @@ returns-2 c =
     let checked = c .before .before .before .check-accepted .ensures in
     let answer = c .before .answer .given .1 in
     (long-answer _ _ (p .1) _ (w .1) (w .0 .0) checked answer (w .0 .1) long, long-buffer _ _ (need-is (p .0)) (c .before .before .before .before .before .before .before .before .before .before .if1 .left) (w .1))
-
-same-length-2 : tie.Need-same-length-2
-same-length-2 c = search needs
 
 returns-3 : tie.Need-returns-3
 returns-3 c =
@@ -62,16 +38,16 @@ pub build-accepted-spec : {M : Type 1} → statement M
 build-accepted-spec =
     tie.close
     (tie.spec
-    mul-need
+    (λ c. search needs)
     returns
     write-plan-requires
-    sub-check-accepted
-    part-check-accepted-start
+    (λ c. search needs)
+    (λ c. search needs)
     part-check-accepted-end
-    check-accepted-requires
-    enum-known-answer
-    enum-known-answer-2
-    same-length
+    (λ c κs. search needs)
+    (λ c. search needs)
+    (λ c. search needs)
+    (λ c. search needs)
     returns-2
-    same-length-2
+    (λ c. search needs)
     returns-3)

@@ -22,9 +22,6 @@ Inv-loop part₀ from m₀ at₀ k₀ part m at k =
 abbrev μ-loop : tie.MeasureT-loop
 μ-loop part₀ from m₀ at₀ k₀ part m at k = onesOf (m .words)
 
-lowest-requires : tie.Need-lowest-requires Inv-loop μ-loop
-lowest-requires c κs = search needs
-
 loop-holds : tie.Need-loop-holds Inv-loop μ-loop
 loop-holds c = (λ n taken ws p few e w. leaving-none n taken e w, c .lowest .ensures, refl, refl)
 
@@ -44,9 +41,6 @@ mul-part c = let l = slice-write-part c in search needs
 
 unmark-requires : tie.Need-unmark-requires Inv-loop μ-loop
 unmark-requires c κs = c .before .loop .inv .1 .isMarked (c .loop-test .taken)
-
-lowest-requires-2 : tie.Need-lowest-requires-2 Inv-loop μ-loop
-lowest-requires-2 c κs = search needs
 
 add-at : tie.Need-add-at Inv-loop μ-loop
 add-at c = let l = mul-part (c .before .before) in omega (arith, l)
@@ -77,14 +71,14 @@ write-lefts-spec =
     (tie.spec
     Inv-loop
     μ-loop
-    lowest-requires
+    (λ c κs. search needs)
     loop-holds
     cast-part
     add-part
     mul-part
     slice-write-part
     unmark-requires
-    lowest-requires-2
+    (λ c κs. search needs)
     add-at
     loop-less
     loop-again

@@ -13,20 +13,8 @@ Inv-loop day z limits plan s₀ met₀ i₀ s met i = (i ≤ length plan) × Rea
 abbrev μ-loop : tie.MeasureT-loop
 μ-loop day z limits plan s₀ met₀ i₀ s met i = length plan - i
 
-first-state-requires : tie.Need-first-state-requires Inv-loop μ-loop
-first-state-requires c κs = search needs
-
-no-stops-requires : tie.Need-no-stops-requires Inv-loop μ-loop
-no-stops-requires c κs = search needs
-
 loop-holds : tie.Need-loop-holds Inv-loop μ-loop
 loop-holds c = (search needs, search reached-start)
-
-mul-word-step : tie.Need-mul-word-step Inv-loop μ-loop
-mul-word-step c = search needs
-
-shared-slice-read-word-step : tie.Need-shared-slice-read-word-step Inv-loop μ-loop
-shared-slice-read-word-step c = search needs
 
 word-step-requires : tie.Need-word-step-requires Inv-loop μ-loop
 word-step-requires c κs = (search needs, search needs, search reached-small)
@@ -36,12 +24,6 @@ returns c = search reached-fault
 
 array-write-met : tie.Need-array-write-met Inv-loop μ-loop
 array-write-met c = search stop-byte
-
-add-i : tie.Need-add-i Inv-loop μ-loop
-add-i c = search needs
-
-loop-less : tie.Need-loop-less Inv-loop μ-loop
-loop-less c = search needs
 
 loop-again : tie.Need-loop-again Inv-loop μ-loop
 loop-again c = (search needs, search reached-next)
@@ -58,16 +40,16 @@ check-each-spec =
     (tie.spec
     Inv-loop
     μ-loop
-    first-state-requires
-    no-stops-requires
+    (λ c κs. search needs)
+    (λ c κs. search needs)
     loop-holds
-    mul-word-step
-    shared-slice-read-word-step
+    (λ c. search needs)
+    (λ c. search needs)
     word-step-requires
     returns
     array-write-met
-    add-i
-    loop-less
+    (λ c. search needs)
+    (λ c. search needs)
     loop-again
     finish-requires
     returns-2)

@@ -9,12 +9,6 @@ returns : tie.Need-returns
 unfolding endOf
 returns c = search branches
 
-add-if2 : tie.Need-add-if2
-add-if2 c = search needs
-
-cast-if2 : tie.Need-cast-if2
-cast-if2 c = search needs
-
 returns-2 : tie.Need-returns-2
 unfolding endOf
 returns-2 c = search branches
@@ -24,4 +18,4 @@ unfolding endOf
 returns-3 c = search branches
 
 pub finish-spec : {M : Type 1} → statement M
-finish-spec = tie.close (tie.spec returns add-if2 cast-if2 returns-2 returns-3)
+finish-spec = tie.close (tie.spec returns (λ c. search needs) (λ c. search needs) returns-2 returns-3)

@@ -4,11 +4,8 @@ use Rattle.day.proofs.Readers.{depot-read}
 use Rattle.day.proofs.fields.depot_window.Statement.{statement}
 use Rattle.day.proofs.fields.depot_window.Tie as tie
 
-window-at-requires : tie.Need-window-at-requires
-window-at-requires c κs = search needs
-
 returns : tie.Need-returns
 returns c = search depot-read
 
 pub depot-window-spec : {M : Type 1} → statement M
-depot-window-spec = tie.close (tie.spec window-at-requires returns)
+depot-window-spec = tie.close (tie.spec (λ c κs. search needs) returns)

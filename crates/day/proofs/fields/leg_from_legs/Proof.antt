@@ -10,18 +10,6 @@ use Rattle.day.proofs.fields.leg_from_legs.Tie as tie
 inside : (c : tie.After-struct-known) → c .before .before .args .z .legs + c .before .before .args .p * c .before .before .args .z .places + c .before .before .args .q < length (c .before .before .args .day .now)
 inside c = leg-at _ _ _ _ (c .before .before .pre .0) (c .before .before .pre .1) (c .before .before .pre .2)
 
-mul-legs : tie.Need-mul-legs
-mul-legs c = search needs
-
-sub-legs : tie.Need-sub-legs
-sub-legs c = search needs
-
-part-legs-start : tie.Need-part-legs-start
-part-legs-start c = search needs
-
-part-legs-end : tie.Need-part-legs-end
-part-legs-end c = search needs
-
 mul-w : tie.Need-mul-w
 mul-w c = omega (arith, inside c)
 
@@ -41,10 +29,10 @@ pub leg-from-legs-spec : {M : Type 1} → statement M
 leg-from-legs-spec =
     tie.close
     (tie.spec
-    mul-legs
-    sub-legs
-    part-legs-start
-    part-legs-end
+    (λ c. search needs)
+    (λ c. search needs)
+    (λ c. search needs)
+    (λ c. search needs)
     mul-w
     add-w
     mul-w-2

@@ -16,29 +16,11 @@ abbrev μ-loop : tie.MeasureT-loop
 loop-holds : tie.Need-loop-holds Inv-loop μ-loop
 loop-holds c = (search needs, refl)
 
-mul-head-word-fault : tie.Need-mul-head-word-fault Inv-loop μ-loop
-mul-head-word-fault c = search needs
-
-shared-slice-read-head-word-fault : tie.Need-shared-slice-read-head-word-fault Inv-loop μ-loop
-shared-slice-read-head-word-fault c = search needs
-
-head-word-fault-requires : tie.Need-head-word-fault-requires Inv-loop μ-loop
-head-word-fault-requires c κs = search needs
-
 returns : tie.Need-returns Inv-loop μ-loop
 returns c = search head-stops
 
-add-i : tie.Need-add-i Inv-loop μ-loop
-add-i c = search needs
-
-loop-less : tie.Need-loop-less Inv-loop μ-loop
-loop-less c = search needs
-
 loop-again : tie.Need-loop-again Inv-loop μ-loop
 loop-again c = (search needs, search head-passes)
-
-none-until-requires : tie.Need-none-until-requires Inv-loop μ-loop
-none-until-requires c κs = search needs
 
 returns-2 : tie.Need-returns-2 Inv-loop μ-loop
 returns-2 c = search head-end
@@ -50,12 +32,12 @@ head-fault-spec =
     Inv-loop
     μ-loop
     loop-holds
-    mul-head-word-fault
-    shared-slice-read-head-word-fault
-    head-word-fault-requires
+    (λ c. search needs)
+    (λ c. search needs)
+    (λ c κs. search needs)
     returns
-    add-i
-    loop-less
+    (λ c. search needs)
+    (λ c. search needs)
     loop-again
-    none-until-requires
+    (λ c κs. search needs)
     returns-2)

@@ -14,35 +14,14 @@ Inv-loop day d n k₀ i₀ k i = (k ≤ n) × (i ≡ tipsEnd d + 3 * k) × (judg
 abbrev μ-loop : tie.MeasureT-loop
 μ-loop day d n k₀ i₀ k i = n - k
 
-mul-i : tie.Need-mul-i Inv-loop μ-loop
-mul-i c = search needs
-
-add-i : tie.Need-add-i Inv-loop μ-loop
-add-i c = search needs
-
 loop-holds : tie.Need-loop-holds Inv-loop μ-loop
 loop-holds c = (search needs, search needs, refl)
-
-stop-fault-requires : tie.Need-stop-fault-requires Inv-loop μ-loop
-stop-fault-requires c κs = search needs
 
 returns : tie.Need-returns Inv-loop μ-loop
 returns c = search part-stops
 
-add-i-2 : tie.Need-add-i-2 Inv-loop μ-loop
-add-i-2 c = search needs
-
-add-k : tie.Need-add-k Inv-loop μ-loop
-add-k c = search needs
-
-loop-less : tie.Need-loop-less Inv-loop μ-loop
-loop-less c = search needs
-
 loop-again : tie.Need-loop-again Inv-loop μ-loop
 loop-again c = (search needs, search needs, search part-passes)
-
-none-until-requires : tie.Need-none-until-requires Inv-loop μ-loop
-none-until-requires c κs = search needs
 
 returns-2 : tie.Need-returns-2 Inv-loop μ-loop
 returns-2 c = search stops-end
@@ -53,14 +32,14 @@ stops-fault-spec =
     (tie.spec
     Inv-loop
     μ-loop
-    mul-i
-    add-i
+    (λ c. search needs)
+    (λ c. search needs)
     loop-holds
-    stop-fault-requires
+    (λ c κs. search needs)
     returns
-    add-i-2
-    add-k
-    loop-less
+    (λ c. search needs)
+    (λ c. search needs)
+    (λ c. search needs)
     loop-again
-    none-until-requires
+    (λ c κs. search needs)
     returns-2)

@@ -4,32 +4,8 @@ use Rattle.day_faults.proofs.Parts.{tip-window-stops, tip-service-judge
 use Rattle.day_faults.proofs.faults.tip_fault.Statement.{statement}
 use Rattle.day_faults.proofs.faults.tip_fault.Tie as tie
 
-mul-window-fault : tie.Need-mul-window-fault
-mul-window-fault c = search needs
-
-shared-slice-read-window-fault : tie.Need-shared-slice-read-window-fault
-shared-slice-read-window-fault c = search needs
-
-window-fault-requires : tie.Need-window-fault-requires
-window-fault-requires c κs = search needs
-
 returns : tie.Need-returns
 returns c = search tip-window-stops
-
-add-number-fault : tie.Need-add-number-fault
-add-number-fault c = search needs
-
-mul-number-fault : tie.Need-mul-number-fault
-mul-number-fault c = search needs
-
-shared-slice-read-number-fault : tie.Need-shared-slice-read-number-fault
-shared-slice-read-number-fault c = search needs
-
-number-fault-requires : tie.Need-number-fault-requires
-number-fault-requires c κs = search needs
-
-add-t14 : tie.Need-add-t14
-add-t14 c = search needs
 
 returns-2 : tie.Need-returns-2
 returns-2 c = search tip-service-judged
@@ -38,13 +14,13 @@ pub tip-fault-spec : {M : Type 1} → statement M
 tip-fault-spec =
     tie.close
     (tie.spec
-    mul-window-fault
-    shared-slice-read-window-fault
-    window-fault-requires
+    (λ c. search needs)
+    (λ c. search needs)
+    (λ c κs. search needs)
     returns
-    add-number-fault
-    mul-number-fault
-    shared-slice-read-number-fault
-    number-fault-requires
-    add-t14
+    (λ c. search needs)
+    (λ c. search needs)
+    (λ c. search needs)
+    (λ c κs. search needs)
+    (λ c. search needs)
     returns-2)

@@ -16,26 +16,11 @@ abbrev μ-loop : tie.MeasureT-loop
 loop-holds : tie.Need-loop-holds Inv-loop μ-loop
 loop-holds c = (search needs, search needs, refl)
 
-tip-fault-requires : tie.Need-tip-fault-requires Inv-loop μ-loop
-tip-fault-requires c κs = search needs
-
 returns : tie.Need-returns Inv-loop μ-loop
 returns c = search part-stops
 
-add-i : tie.Need-add-i Inv-loop μ-loop
-add-i c = search needs
-
-add-k : tie.Need-add-k Inv-loop μ-loop
-add-k c = search needs
-
-loop-less : tie.Need-loop-less Inv-loop μ-loop
-loop-less c = search needs
-
 loop-again : tie.Need-loop-again Inv-loop μ-loop
 loop-again c = (search needs, search needs, search part-passes)
-
-none-until-requires : tie.Need-none-until-requires Inv-loop μ-loop
-none-until-requires c κs = search needs
 
 returns-2 : tie.Need-returns-2 Inv-loop μ-loop
 returns-2 c = search tips-end
@@ -47,11 +32,11 @@ tips-fault-spec =
     Inv-loop
     μ-loop
     loop-holds
-    tip-fault-requires
+    (λ c κs. search needs)
     returns
-    add-i
-    add-k
-    loop-less
+    (λ c. search needs)
+    (λ c. search needs)
+    (λ c. search needs)
     loop-again
-    none-until-requires
+    (λ c κs. search needs)
     returns-2)

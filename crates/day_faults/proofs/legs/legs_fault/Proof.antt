@@ -16,29 +16,8 @@ Inv-loop day d n places p₀ i₀ p i = (p ≤ places) × (i ≤ length day) × 
 abbrev μ-loop : tie.MeasureT-loop
 μ-loop day d n places p₀ i₀ p i = places - p
 
-add-places : tie.Need-add-places Inv-loop μ-loop
-add-places c = search needs
-
-add-places-2 : tie.Need-add-places-2 Inv-loop μ-loop
-add-places-2 c = search needs
-
-mul-i : tie.Need-mul-i Inv-loop μ-loop
-mul-i c = search needs
-
-add-i : tie.Need-add-i Inv-loop μ-loop
-add-i c = search needs
-
-mul-i-2 : tie.Need-mul-i-2 Inv-loop μ-loop
-mul-i-2 c = search needs
-
-add-i-2 : tie.Need-add-i-2 Inv-loop μ-loop
-add-i-2 c = search needs
-
 loop-holds : tie.Need-loop-holds Inv-loop μ-loop
 loop-holds c = (search needs, search needs, search needs, refl)
-
-add-row-fault : tie.Need-add-row-fault Inv-loop μ-loop
-add-row-fault c = search needs
 
 row-fault-requires : tie.Need-row-fault-requires Inv-loop μ-loop
 row-fault-requires c κs = search row-at
@@ -46,22 +25,10 @@ row-fault-requires c κs = search row-at
 returns : tie.Need-returns Inv-loop μ-loop
 returns c = search part-stops
 
-add-i-3 : tie.Need-add-i-3 Inv-loop μ-loop
-add-i-3 c = search needs
-
-add-p : tie.Need-add-p Inv-loop μ-loop
-add-p c = search needs
-
-loop-less : tie.Need-loop-less Inv-loop μ-loop
-loop-less c = search needs
-
 loop-again : tie.Need-loop-again Inv-loop μ-loop
 loop-again c =
     let l = c .before .before .before .before .loop in
     (search needs, search row-within, search row-next, part-passes _ _ _ _ _ _ _ (c .if1 .left) (c .before .before .row-fault .ensures) (l .inv .3))
-
-none-until-requires : tie.Need-none-until-requires Inv-loop μ-loop
-none-until-requires c κs = search needs
 
 returns-2 : tie.Need-returns-2 Inv-loop μ-loop
 returns-2 c = search rows-end
@@ -72,19 +39,19 @@ legs-fault-spec =
     (tie.spec
     Inv-loop
     μ-loop
-    add-places
-    add-places-2
-    mul-i
-    add-i
-    mul-i-2
-    add-i-2
+    (λ c. search needs)
+    (λ c. search needs)
+    (λ c. search needs)
+    (λ c. search needs)
+    (λ c. search needs)
+    (λ c. search needs)
     loop-holds
-    add-row-fault
+    (λ c. search needs)
     row-fault-requires
     returns
-    add-i-3
-    add-p
-    loop-less
+    (λ c. search needs)
+    (λ c. search needs)
+    (λ c. search needs)
     loop-again
-    none-until-requires
+    (λ c κs. search needs)
     returns-2)

@@ -16,24 +16,6 @@ abbrev μ-loop : tie.MeasureT-loop
 loop-holds : tie.Need-loop-holds Inv-loop μ-loop
 loop-holds c = (search needs, search needs, search needs, λ z. range-start _ _)
 
-mul-out-of-range : tie.Need-mul-out-of-range Inv-loop μ-loop
-mul-out-of-range c = search needs
-
-shared-slice-read-out-of-range : tie.Need-shared-slice-read-out-of-range Inv-loop μ-loop
-shared-slice-read-out-of-range c = search needs
-
-out-of-range-requires : tie.Need-out-of-range-requires Inv-loop μ-loop
-out-of-range-requires c κs = search needs
-
-add-off : tie.Need-add-off Inv-loop μ-loop
-add-off c = search needs
-
-add-i : tie.Need-add-i Inv-loop μ-loop
-add-i c = search needs
-
-loop-less : tie.Need-loop-less Inv-loop μ-loop
-loop-less c = search needs
-
 loop-again : tie.Need-loop-again Inv-loop μ-loop
 loop-again c = (search needs, search needs, search needs, λ z. search range-next)
 
@@ -47,11 +29,11 @@ legs-off-spec =
     Inv-loop
     μ-loop
     loop-holds
-    mul-out-of-range
-    shared-slice-read-out-of-range
-    out-of-range-requires
-    add-off
-    add-i
-    loop-less
+    (λ c. search needs)
+    (λ c. search needs)
+    (λ c κs. search needs)
+    (λ c. search needs)
+    (λ c. search needs)
+    (λ c. search needs)
     loop-again
     returns)

@@ -5,21 +5,12 @@ use Rattle.day_faults.proofs.Rows.{glance}
 use Rattle.day_faults.proofs.legs.row_right.Statement.{statement}
 use Rattle.day_faults.proofs.legs.row_right.Tie as tie
 
-legs-off-requires : tie.Need-legs-off-requires
-legs-off-requires c κs = search needs
-
 returns : tie.Need-returns
 returns c = λ e. absurd (false≢true e)
-
-mul-result : tie.Need-mul-result
-mul-result c = search needs
-
-shared-slice-read-result : tie.Need-shared-slice-read-result
-shared-slice-read-result c = search needs
 
 returns-2 : tie.Need-returns-2
 returns-2 c = λ e. search glance
 
 pub row-right-spec : {M : Type 1} → statement M
 row-right-spec =
-    tie.close (tie.spec legs-off-requires returns mul-result shared-slice-read-result returns-2)
+    tie.close (tie.spec (λ c κs. search needs) returns (λ c. search needs) (λ c. search needs) returns-2)

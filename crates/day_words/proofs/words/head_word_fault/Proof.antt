@@ -6,43 +6,25 @@ use Rattle.day.proofs.WordFaults.{form-fault}
 use Rattle.day_words.proofs.words.head_word_fault.Statement.{statement}
 use Rattle.day_words.proofs.words.head_word_fault.Tie as tie
 
-number-fault-requires : tie.Need-number-fault-requires
-number-fault-requires c κs = search needs
-
 returns : tie.Need-returns
 unfolding headForm
 returns c = search (form-fault, branches) depth 9
-
-number-fault-requires-2 : tie.Need-number-fault-requires-2
-number-fault-requires-2 c κs = search needs
 
 returns-2 : tie.Need-returns-2
 unfolding headForm
 returns-2 c = search (form-fault, branches) depth 9
 
-number-fault-requires-3 : tie.Need-number-fault-requires-3
-number-fault-requires-3 c κs = search needs
-
 returns-3 : tie.Need-returns-3
 unfolding headForm
 returns-3 c = search (form-fault, branches) depth 9
-
-window-fault-requires : tie.Need-window-fault-requires
-window-fault-requires c κs = search needs
 
 returns-4 : tie.Need-returns-4
 unfolding headForm
 returns-4 c = search (form-fault, branches) depth 9
 
-window-fault-requires-2 : tie.Need-window-fault-requires-2
-window-fault-requires-2 c κs = search needs
-
 returns-5 : tie.Need-returns-5
 unfolding headForm
 returns-5 c = search (form-fault, branches) depth 9
-
-number-fault-requires-4 : tie.Need-number-fault-requires-4
-number-fault-requires-4 c κs = search needs
 
 returns-6 : tie.Need-returns-6
 unfolding headForm
@@ -52,15 +34,15 @@ pub head-word-fault-spec : {M : Type 1} → statement M
 head-word-fault-spec =
     tie.close
     (tie.spec
-    number-fault-requires
+    (λ c κs. search needs)
     returns
-    number-fault-requires-2
+    (λ c κs. search needs)
     returns-2
-    number-fault-requires-3
+    (λ c κs. search needs)
     returns-3
-    window-fault-requires
+    (λ c κs. search needs)
     returns-4
-    window-fault-requires-2
+    (λ c κs. search needs)
     returns-5
-    number-fault-requires-4
+    (λ c κs. search needs)
     returns-6)

@@ -5,17 +5,11 @@ use Rattle.day.proofs.WordFaults.{form-fault}
 use Rattle.day_words.proofs.words.leg_word_fault.Statement.{statement}
 use Rattle.day_words.proofs.words.leg_word_fault.Tie as tie
 
-stay-fault-requires : tie.Need-stay-fault-requires
-stay-fault-requires c κs = search needs
-
 returns : tie.Need-returns
 returns c = search (form-fault, branches)
-
-leg-fault-requires : tie.Need-leg-fault-requires
-leg-fault-requires c κs = search needs
 
 returns-2 : tie.Need-returns-2
 returns-2 c = search (form-fault, branches)
 
 pub leg-word-fault-spec : {M : Type 1} → statement M
-leg-word-fault-spec = tie.close (tie.spec stay-fault-requires returns leg-fault-requires returns-2)
+leg-word-fault-spec = tie.close (tie.spec (λ c κs. search needs) returns (λ c κs. search needs) returns-2)

@@ -4,9 +4,6 @@ use Rattle.day.proofs.WordFaults.{lone-kind, lone-low, lone-high, lone-right}
 use Rattle.day_words.proofs.words.number_fault.Statement.{statement}
 use Rattle.day_words.proofs.words.number_fault.Tie as tie
 
-mul-if1 : tie.Need-mul-if1
-mul-if1 c = search needs
-
 returns : tie.Need-returns
 returns c = search lone-kind
 
@@ -20,4 +17,4 @@ returns-4 : tie.Need-returns-4
 returns-4 c = search lone-right
 
 pub number-fault-spec : {M : Type 1} → statement M
-number-fault-spec = tie.close (tie.spec mul-if1 returns returns-2 returns-3 returns-4)
+number-fault-spec = tie.close (tie.spec (λ c. search needs) returns returns-2 returns-3 returns-4)

@@ -4,9 +4,6 @@ use Rattle.day.proofs.WordFaults.{window-kind, window-backward, window-late, wi
 use Rattle.day_words.proofs.words.window_fault.Statement.{statement}
 use Rattle.day_words.proofs.words.window_fault.Tie as tie
 
-mul-if1 : tie.Need-mul-if1
-mul-if1 c = search needs
-
 returns : tie.Need-returns
 returns c = search window-kind
 
@@ -20,4 +17,4 @@ returns-4 : tie.Need-returns-4
 returns-4 c = search window-right
 
 pub window-fault-spec : {M : Type 1} → statement M
-window-fault-spec = tie.close (tie.spec mul-if1 returns returns-2 returns-3 returns-4)
+window-fault-spec = tie.close (tie.spec (λ c. search needs) returns returns-2 returns-3 returns-4)

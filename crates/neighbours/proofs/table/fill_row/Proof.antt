@@ -17,37 +17,16 @@ abbrev μ-loop : tie.MeasureT-loop
 loop-holds : tie.Need-loop-holds Inv-loop μ-loop
 loop-holds c = (search needs, row-none _ _ _ _, key-first _ _)
 
-next-key-requires : tie.Need-next-key-requires Inv-loop μ-loop
-next-key-requires c κs = search needs
-
-stop-of-key-requires : tie.Need-stop-of-key-requires Inv-loop μ-loop
-stop-of-key-requires c κs = search needs
-
-mul-table : tie.Need-mul-table Inv-loop μ-loop
-mul-table c = search needs
-
-add-table : tie.Need-add-table Inv-loop μ-loop
-add-table c = search needs
-
 slice-write-table : tie.Need-slice-write-table Inv-loop μ-loop
 slice-write-table c =
     let p = c .before .before .before .before .before .before .pre in
     omega (arith, p .1, p .2, p .3, c .before .before .before .loop .inv .1 .size, c .before .before .loop-test .taken)
-
-add-r : tie.Need-add-r Inv-loop μ-loop
-add-r c = search needs
-
-loop-less : tie.Need-loop-less Inv-loop μ-loop
-loop-less c = search needs
 
 loop-again : tie.Need-loop-again Inv-loop μ-loop
 loop-again c =
     let p = c .before .before .before .before .before .before .pre in
     let e = key-next _ _ _ _ (c .before .before .before .loop .inv .2) (c .before .next-key .ensures) in
     (search needs, row-next _ _ _ _ _ _ _ _ (c .before .before .before .loop .inv .1) (p .3) (omega (arith, p .1, c .before .before .loop-test .taken)) (p .2) e (c .stop-of-key .ensures), e)
-
-same-length : tie.Need-same-length Inv-loop μ-loop
-same-length c = search needs
 
 returns : tie.Need-returns Inv-loop μ-loop
 returns c = row-all _ _ _ _ _ _ _ (c .before .loop .inv .1) (c .before .loop .inv .0) (c .loop-test .left)
@@ -59,13 +38,13 @@ fill-row-spec =
     Inv-loop
     μ-loop
     loop-holds
-    next-key-requires
-    stop-of-key-requires
-    mul-table
-    add-table
+    (λ c κs. search needs)
+    (λ c κs. search needs)
+    (λ c. search needs)
+    (λ c. search needs)
     slice-write-table
-    add-r
-    loop-less
+    (λ c. search needs)
+    (λ c. search needs)
     loop-again
-    same-length
+    (λ c. search needs)
     returns)

@@ -15,23 +15,8 @@ abbrev μ-loop : tie.MeasureT-loop
 loop-holds : tie.Need-loop-holds Inv-loop μ-loop
 loop-holds c = (search needs, search rows-none)
 
-add-fill-stop : tie.Need-add-fill-stop Inv-loop μ-loop
-add-fill-stop c = search needs
-
-fill-stop-requires : tie.Need-fill-stop-requires Inv-loop μ-loop
-fill-stop-requires c κs = search needs
-
-add-i : tie.Need-add-i Inv-loop μ-loop
-add-i c = search needs
-
-loop-less : tie.Need-loop-less Inv-loop μ-loop
-loop-less c = search needs
-
 loop-again : tie.Need-loop-again Inv-loop μ-loop
 loop-again c = (search needs, rows-next _ _ _ _ _ (c .before .before .before .before .before .before .before .before .pre .2) (c .before .before .before .before .before .loop .inv .1) (c .before .before .fill-stop .ensures))
-
-same-length : tie.Need-same-length Inv-loop μ-loop
-same-length c = search needs
 
 returns : tie.Need-returns Inv-loop μ-loop
 returns c = search rows-all
@@ -43,10 +28,10 @@ fill-table-spec =
     Inv-loop
     μ-loop
     loop-holds
-    add-fill-stop
-    fill-stop-requires
-    add-i
-    loop-less
+    (λ c. search needs)
+    (λ c κs. search needs)
+    (λ c. search needs)
+    (λ c. search needs)
     loop-again
-    same-length
+    (λ c. search needs)
     returns)

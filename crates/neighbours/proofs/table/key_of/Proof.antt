@@ -8,44 +8,11 @@ use Rattle.neighbours.proofs.table.key_of.Tie as tie
 returns : tie.Need-returns
 returns c = key-self _ _ _ (c .if1 .taken)
 
-stop-window-requires : tie.Need-stop-window-requires
-stop-window-requires c κs = search needs
-
-stop-window-requires-2 : tie.Need-stop-window-requires-2
-stop-window-requires-2 c κs = search needs
-
-stop-service-requires : tie.Need-stop-service-requires
-stop-service-requires c κs = search needs
-
-add-leg-between : tie.Need-add-leg-between
-add-leg-between c = search needs
-
-add-leg-between-2 : tie.Need-add-leg-between-2
-add-leg-between-2 c = search needs
-
-leg-between-requires : tie.Need-leg-between-requires
-leg-between-requires c κs = search needs
-
-add-if2 : tie.Need-add-if2
-add-if2 c = search needs
-
-add-if2-2 : tie.Need-add-if2-2
-add-if2-2 c = search needs
-
 returns-2 : tie.Need-returns-2
 returns-2 c = search key-early
 
-add-if3 : tie.Need-add-if3
-add-if3 c = search needs
-
-add-if3-2 : tie.Need-add-if3-2
-add-if3-2 c = search needs
-
 returns-3 : tie.Need-returns-3
 returns-3 c = search key-late
-
-mul-result : tie.Need-mul-result
-mul-result c = search needs
 
 cast-result : tie.Need-cast-result
 cast-result c =
@@ -72,19 +39,19 @@ key-of-spec =
     tie.close
     (tie.spec
     returns
-    stop-window-requires
-    stop-window-requires-2
-    stop-service-requires
-    add-leg-between
-    add-leg-between-2
-    leg-between-requires
-    add-if2
-    add-if2-2
+    (λ c κs. search needs)
+    (λ c κs. search needs)
+    (λ c κs. search needs)
+    (λ c. search needs)
+    (λ c. search needs)
+    (λ c κs. search needs)
+    (λ c. search needs)
+    (λ c. search needs)
     returns-2
-    add-if3
-    add-if3-2
+    (λ c. search needs)
+    (λ c. search needs)
     returns-3
-    mul-result
+    (λ c. search needs)
     cast-result
     add-result
     returns-4)

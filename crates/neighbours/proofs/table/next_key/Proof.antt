@@ -16,27 +16,6 @@ abbrev μ-loop : tie.MeasureT-loop
 loop-holds : tie.Need-loop-holds Inv-loop μ-loop
 loop-holds c = (search needs, above-none _ _)
 
-add-key-above : tie.Need-add-key-above Inv-loop μ-loop
-add-key-above c = search needs
-
-mul-key-above : tie.Need-mul-key-above Inv-loop μ-loop
-mul-key-above c = search needs
-
-shared-slice-read-key-above : tie.Need-shared-slice-read-key-above Inv-loop μ-loop
-shared-slice-read-key-above c = search needs
-
-key-above-requires : tie.Need-key-above-requires Inv-loop μ-loop
-key-above-requires c κs = search needs
-
-lesser-requires : tie.Need-lesser-requires Inv-loop μ-loop
-lesser-requires c κs = search needs
-
-add-j : tie.Need-add-j Inv-loop μ-loop
-add-j c = search needs
-
-loop-less : tie.Need-loop-less Inv-loop μ-loop
-loop-less c = search needs
-
 loop-again : tie.Need-loop-again Inv-loop μ-loop
 loop-again c = (search needs, search above-next)
 
@@ -50,12 +29,12 @@ next-key-spec =
     Inv-loop
     μ-loop
     loop-holds
-    add-key-above
-    mul-key-above
-    shared-slice-read-key-above
-    key-above-requires
-    lesser-requires
-    add-j
-    loop-less
+    (λ c. search needs)
+    (λ c. search needs)
+    (λ c. search needs)
+    (λ c κs. search needs)
+    (λ c κs. search needs)
+    (λ c. search needs)
+    (λ c. search needs)
     loop-again
     returns)

@@ -9,12 +9,9 @@ returns : tie.Need-returns
 unfolding stopOfKey
 returns c = search branches
 
-cast-result : tie.Need-cast-result
-cast-result c = search needs
-
 returns-2 : tie.Need-returns-2
 unfolding stopOfKey
 returns-2 c = search branches
 
 pub stop-of-key-spec : {M : Type 1} → statement M
-stop-of-key-spec = tie.close (tie.spec returns cast-result returns-2)
+stop-of-key-spec = tie.close (tie.spec returns (λ c. search needs) returns-2)

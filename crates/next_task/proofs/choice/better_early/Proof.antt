@@ -11,18 +11,6 @@ returns c = (search needs, search no-stop)
 returns-2 : tie.Need-returns-2
 returns-2 c = (search needs, search past-stops)
 
-stop-window-requires : tie.Need-stop-window-requires
-stop-window-requires c κs = search needs
-
-is-earlier-requires : tie.Need-is-earlier-requires
-is-earlier-requires c κs = search needs
-
-stop-quantity-requires : tie.Need-stop-quantity-requires
-stop-quantity-requires c κs = search needs
-
-fits-requires : tie.Need-fits-requires
-fits-requires c κs = search needs
-
 is-waitable-requires : tie.Need-is-waitable-requires
 is-waitable-requires c κs =
     let m = c .before .before .before .before in
@@ -68,10 +56,10 @@ better-early-spec =
     (tie.spec
     returns
     returns-2
-    stop-window-requires
-    is-earlier-requires
-    stop-quantity-requires
-    fits-requires
+    (λ c κs. search needs)
+    (λ c κs. search needs)
+    (λ c κs. search needs)
+    (λ c κs. search needs)
     is-waitable-requires
     returns-3
     returns-4

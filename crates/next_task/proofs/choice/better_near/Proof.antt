@@ -11,21 +11,6 @@ returns c = (search needs, search no-stop)
 returns-2 : tie.Need-returns-2
 returns-2 c = (search needs, search past-stops)
 
-add-leg-between : tie.Need-add-leg-between
-add-leg-between c = search needs
-
-leg-between-requires : tie.Need-leg-between-requires
-leg-between-requires c κs = search needs
-
-is-nearer-requires : tie.Need-is-nearer-requires
-is-nearer-requires c κs = search needs
-
-stop-quantity-requires : tie.Need-stop-quantity-requires
-stop-quantity-requires c κs = search needs
-
-fits-requires : tie.Need-fits-requires
-fits-requires c κs = search needs
-
 is-takeable-requires : tie.Need-is-takeable-requires
 is-takeable-requires c κs =
     let m = c .before .before .before .before in
@@ -71,11 +56,11 @@ better-near-spec =
     (tie.spec
     returns
     returns-2
-    add-leg-between
-    leg-between-requires
-    is-nearer-requires
-    stop-quantity-requires
-    fits-requires
+    (λ c. search needs)
+    (λ c κs. search needs)
+    (λ c κs. search needs)
+    (λ c κs. search needs)
+    (λ c κs. search needs)
     is-takeable-requires
     returns-3
     returns-4

@@ -26,15 +26,6 @@ lowest-bit-requires c κs = omega arith
 add-better-early : tie.Need-add-better-early Inv-loop μ-loop
 add-better-early c = omega (arith, c .lowest-bit .ensures .within)
 
-better-early-requires : tie.Need-better-early-requires Inv-loop μ-loop
-better-early-requires c κs = search needs
-
-clear-bit-requires : tie.Need-clear-bit-requires Inv-loop μ-loop
-clear-bit-requires c κs = search needs
-
-loop-less : tie.Need-loop-less Inv-loop μ-loop
-loop-less c = search needs
-
 loop-again : tie.Need-loop-again Inv-loop μ-loop
 loop-again c =
     let h = c .before .before .before .before .loop in
@@ -52,8 +43,8 @@ earliest-in-word-spec =
     loop-holds
     lowest-bit-requires
     add-better-early
-    better-early-requires
-    clear-bit-requires
-    loop-less
+    (λ c κs. search needs)
+    (λ c κs. search needs)
+    (λ c. search needs)
     loop-again
     returns)

@@ -21,24 +21,6 @@ abbrev μ-loop : tie.MeasureT-loop
 loop-holds : tie.Need-loop-holds Inv-loop μ-loop
 loop-holds c = (search needs, search needs, below-none _ _ _)
 
-mul-earliest-in-word : tie.Need-mul-earliest-in-word Inv-loop μ-loop
-mul-earliest-in-word c = search needs
-
-element-copy-out-earliest-in-word : tie.Need-element-copy-out-earliest-in-word Inv-loop μ-loop
-element-copy-out-earliest-in-word c = search needs
-
-mul-earliest-in-word-2 : tie.Need-mul-earliest-in-word-2 Inv-loop μ-loop
-mul-earliest-in-word-2 c = search needs
-
-earliest-in-word-requires : tie.Need-earliest-in-word-requires Inv-loop μ-loop
-earliest-in-word-requires c κs = search needs
-
-add-i : tie.Need-add-i Inv-loop μ-loop
-add-i c = search needs
-
-loop-less : tie.Need-loop-less Inv-loop μ-loop
-loop-less c = search needs
-
 loop-again : tie.Need-loop-again Inv-loop μ-loop
 loop-again c =
     let l = c .before .before .before .loop in
@@ -57,11 +39,11 @@ earliest-stop-spec =
     Inv-loop
     μ-loop
     loop-holds
-    mul-earliest-in-word
-    element-copy-out-earliest-in-word
-    mul-earliest-in-word-2
-    earliest-in-word-requires
-    add-i
-    loop-less
+    (λ c. search needs)
+    (λ c. search needs)
+    (λ c. search needs)
+    (λ c κs. search needs)
+    (λ c. search needs)
+    (λ c. search needs)
     loop-again
     returns)

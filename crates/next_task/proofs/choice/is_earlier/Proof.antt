@@ -7,11 +7,8 @@ use Rattle.next_task.proofs.choice.is_earlier.Tie as tie
 returns : tie.Need-returns
 returns c = search first-choice
 
-stop-window-requires : tie.Need-stop-window-requires
-stop-window-requires c κs = search needs
-
 returns-2 : tie.Need-returns-2
 returns-2 c = search earlier-choice
 
 pub is-earlier-spec : {M : Type 1} → statement M
-is-earlier-spec = tie.close (tie.spec returns stop-window-requires returns-2)
+is-earlier-spec = tie.close (tie.spec returns (λ c κs. search needs) returns-2)

@@ -5,15 +5,6 @@ use Rattle.next_task.proofs.ChoiceLaws.{fit-home, served-trip}
 use Rattle.next_task.proofs.choice.is_suited.Statement.{statement}
 use Rattle.next_task.proofs.choice.is_suited.Tie as tie
 
-stop-quantity-requires : tie.Need-stop-quantity-requires
-stop-quantity-requires c κs = search needs
-
-visit-stop-requires : tie.Need-visit-stop-requires
-visit-stop-requires c κs = search needs
-
-add-is-way-home : tie.Need-add-is-way-home
-add-is-way-home c = search needs
-
 is-way-home-requires : tie.Need-is-way-home-requires
 is-way-home-requires c κs =
     let pre = c .before .before .before .before .pre in
@@ -26,8 +17,8 @@ pub is-suited-spec : {M : Type 1} → statement M
 is-suited-spec =
     tie.close
     (tie.spec
-    stop-quantity-requires
-    visit-stop-requires
-    add-is-way-home
+    (λ c κs. search needs)
+    (λ c κs. search needs)
+    (λ c. search needs)
     is-way-home-requires
     returns)

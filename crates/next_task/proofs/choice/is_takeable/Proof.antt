@@ -5,18 +5,6 @@ use Rattle.next_task.proofs.ChoiceLaws.{early, late, in-window, soon}
 use Rattle.next_task.proofs.choice.is_takeable.Statement.{statement}
 use Rattle.next_task.proofs.choice.is_takeable.Tie as tie
 
-add-leg-between : tie.Need-add-leg-between
-add-leg-between c = search needs
-
-leg-between-requires : tie.Need-leg-between-requires
-leg-between-requires c κs = search needs
-
-stop-window-requires : tie.Need-stop-window-requires
-stop-window-requires c κs = search needs
-
-add-at : tie.Need-add-at
-add-at c = search needs
-
 returns : tie.Need-returns
 returns c = search early
 
@@ -37,10 +25,10 @@ pub is-takeable-spec : {M : Type 1} → statement M
 is-takeable-spec =
     tie.close
     (tie.spec
-    add-leg-between
-    leg-between-requires
-    stop-window-requires
-    add-at
+    (λ c. search needs)
+    (λ c κs. search needs)
+    (λ c κs. search needs)
+    (λ c. search needs)
     returns
     returns-2
     is-suited-requires

@@ -5,18 +5,6 @@ use Rattle.next_task.proofs.ChoiceLaws.{open-already, not-open-yet, soo
 use Rattle.next_task.proofs.choice.is_waitable.Statement.{statement}
 use Rattle.next_task.proofs.choice.is_waitable.Tie as tie
 
-add-leg-between : tie.Need-add-leg-between
-add-leg-between c = search needs
-
-leg-between-requires : tie.Need-leg-between-requires
-leg-between-requires c κs = search needs
-
-stop-window-requires : tie.Need-stop-window-requires
-stop-window-requires c κs = search needs
-
-add-if1 : tie.Need-add-if1
-add-if1 c = search needs
-
 returns : tie.Need-returns
 returns c = search open-already
 
@@ -34,10 +22,10 @@ pub is-waitable-spec : {M : Type 1} → statement M
 is-waitable-spec =
     tie.close
     (tie.spec
-    add-leg-between
-    leg-between-requires
-    stop-window-requires
-    add-if1
+    (λ c. search needs)
+    (λ c κs. search needs)
+    (λ c κs. search needs)
+    (λ c. search needs)
     returns
     is-suited-requires
     returns-2)

@@ -26,15 +26,6 @@ lowest-bit-requires c κs = omega arith
 add-better-near : tie.Need-add-better-near Inv-loop μ-loop
 add-better-near c = omega (arith, c .lowest-bit .ensures .within)
 
-better-near-requires : tie.Need-better-near-requires Inv-loop μ-loop
-better-near-requires c κs = search needs
-
-clear-bit-requires : tie.Need-clear-bit-requires Inv-loop μ-loop
-clear-bit-requires c κs = search needs
-
-loop-less : tie.Need-loop-less Inv-loop μ-loop
-loop-less c = search needs
-
 loop-again : tie.Need-loop-again Inv-loop μ-loop
 loop-again c =
     let h = c .before .before .before .before .loop in
@@ -52,8 +43,8 @@ nearest-in-word-spec =
     loop-holds
     lowest-bit-requires
     add-better-near
-    better-near-requires
-    clear-bit-requires
-    loop-less
+    (λ c κs. search needs)
+    (λ c κs. search needs)
+    (λ c. search needs)
     loop-again
     returns)

@@ -21,24 +21,6 @@ abbrev μ-loop : tie.MeasureT-loop
 loop-holds : tie.Need-loop-holds Inv-loop μ-loop
 loop-holds c = (search needs, search needs, below-none _ _ _)
 
-mul-nearest-in-word : tie.Need-mul-nearest-in-word Inv-loop μ-loop
-mul-nearest-in-word c = search needs
-
-element-copy-out-nearest-in-word : tie.Need-element-copy-out-nearest-in-word Inv-loop μ-loop
-element-copy-out-nearest-in-word c = search needs
-
-mul-nearest-in-word-2 : tie.Need-mul-nearest-in-word-2 Inv-loop μ-loop
-mul-nearest-in-word-2 c = search needs
-
-nearest-in-word-requires : tie.Need-nearest-in-word-requires Inv-loop μ-loop
-nearest-in-word-requires c κs = search needs
-
-add-i : tie.Need-add-i Inv-loop μ-loop
-add-i c = search needs
-
-loop-less : tie.Need-loop-less Inv-loop μ-loop
-loop-less c = search needs
-
 loop-again : tie.Need-loop-again Inv-loop μ-loop
 loop-again c =
     let l = c .before .before .before .loop in
@@ -57,11 +39,11 @@ nearest-stop-spec =
     Inv-loop
     μ-loop
     loop-holds
-    mul-nearest-in-word
-    element-copy-out-nearest-in-word
-    mul-nearest-in-word-2
-    nearest-in-word-requires
-    add-i
-    loop-less
+    (λ c. search needs)
+    (λ c. search needs)
+    (λ c. search needs)
+    (λ c κs. search needs)
+    (λ c. search needs)
+    (λ c. search needs)
     loop-again
     returns)

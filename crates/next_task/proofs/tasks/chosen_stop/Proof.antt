@@ -4,15 +4,6 @@ use Rattle.next_task.proofs.TaskLaws.{dropped, kept-near, kept}
 use Rattle.next_task.proofs.tasks.chosen_stop.Statement.{statement}
 use Rattle.next_task.proofs.tasks.chosen_stop.Tie as tie
 
-is-near-capacity-requires : tie.Need-is-near-capacity-requires
-is-near-capacity-requires c κs = search needs
-
-nearest-tip-requires : tie.Need-nearest-tip-requires
-nearest-tip-requires c κs = search needs
-
-is-farther-requires : tie.Need-is-farther-requires
-is-farther-requires c κs = search needs
-
 returns : tie.Need-returns
 returns c = (search dropped, search needs)
 
@@ -26,9 +17,9 @@ pub chosen-stop-spec : {M : Type 1} → statement M
 chosen-stop-spec =
     tie.close
     (tie.spec
-    is-near-capacity-requires
-    nearest-tip-requires
-    is-farther-requires
+    (λ c κs. search needs)
+    (λ c κs. search needs)
+    (λ c κs. search needs)
     returns
     returns-2
     returns-3)

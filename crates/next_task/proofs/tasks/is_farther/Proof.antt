@@ -7,19 +7,10 @@ use Rattle.next_task.proofs.tasks.is_farther.Tie as tie
 returns : tie.Need-returns
 returns c = search no-tip
 
-leg-between-requires : tie.Need-leg-between-requires
-leg-between-requires c κs = search needs
-
-add-leg-between : tie.Need-add-leg-between
-add-leg-between c = search needs
-
-leg-between-requires-2 : tie.Need-leg-between-requires-2
-leg-between-requires-2 c κs = search needs
-
 returns-2 : tie.Need-returns-2
 returns-2 c = search by-minutes
 
 pub is-farther-spec : {M : Type 1} → statement M
 is-farther-spec =
     tie.close
-    (tie.spec returns leg-between-requires add-leg-between leg-between-requires-2 returns-2)
+    (tie.spec returns (λ c κs. search needs) (λ c. search needs) (λ c κs. search needs) returns-2)

@@ -14,20 +14,8 @@ Inv-loop day z limits plan s₀ met₀ i₀ s met i = (i ≤ length plan) × Rea
 abbrev μ-loop : tie.MeasureT-loop
 μ-loop day z limits plan s₀ met₀ i₀ s met i = length plan - i
 
-first-state-requires : tie.Need-first-state-requires Inv-loop μ-loop
-first-state-requires c κs = search needs
-
-no-stops-requires : tie.Need-no-stops-requires Inv-loop μ-loop
-no-stops-requires c κs = search needs
-
 loop-holds : tie.Need-loop-holds Inv-loop μ-loop
 loop-holds c = (search needs, search reached-start)
-
-next-part-requires : tie.Need-next-part-requires Inv-loop μ-loop
-next-part-requires c κs = search needs
-
-none-told-requires : tie.Need-none-told-requires Inv-loop μ-loop
-none-told-requires c κs = search needs
 
 returns : tie.Need-returns Inv-loop μ-loop
 returns c = λ e. search none-told
@@ -50,11 +38,11 @@ all-parts-spec =
     (tie.spec
     Inv-loop
     μ-loop
-    first-state-requires
-    no-stops-requires
+    (λ c κs. search needs)
+    (λ c κs. search needs)
     loop-holds
-    next-part-requires
-    none-told-requires
+    (λ c κs. search needs)
+    (λ c κs. search needs)
     returns
     loop-less
     loop-again

@@ -14,32 +14,14 @@ Inv-loop day z limits y met₀ plan from cargo₀ trip₀ i₀ met cargo trip i 
 abbrev μ-loop : tie.MeasureT-loop
 μ-loop day z limits y met₀ plan from cargo₀ trip₀ i₀ met cargo trip i = length plan - i
 
-nothing-requires : tie.Need-nothing-requires Inv-loop μ-loop
-nothing-requires c κs = search needs
-
-leave-requires : tie.Need-leave-requires Inv-loop μ-loop
-leave-requires c κs = search needs
-
 loop-holds : tie.Need-loop-holds Inv-loop μ-loop
 loop-holds c = (search needs, search needs, search out-start)
-
-add-next : tie.Need-add-next Inv-loop μ-loop
-add-next c = search needs
 
 out-with-requires : tie.Need-out-with-requires Inv-loop μ-loop
 out-with-requires c κs = search out-few
 
-mul-task-step : tie.Need-mul-task-step Inv-loop μ-loop
-mul-task-step c = search needs
-
-shared-slice-read-task-step : tie.Need-shared-slice-read-task-step Inv-loop μ-loop
-shared-slice-read-task-step c = search needs
-
 task-step-requires : tie.Need-task-step-requires Inv-loop μ-loop
 task-step-requires c κs = (search needs, search needs, search out-small)
-
-no-part-requires : tie.Need-no-part-requires Inv-loop μ-loop
-no-part-requires c κs = search needs
 
 returns : tie.Need-returns Inv-loop μ-loop
 returns c = λ e. search no-part
@@ -50,14 +32,8 @@ element-write-met c = search out-byte
 returns-2 : tie.Need-returns-2 Inv-loop μ-loop
 returns-2 c = λ e. record { more = omega arith; most = omega arith; reached = search out-next }
 
-loop-less : tie.Need-loop-less Inv-loop μ-loop
-loop-less c = search needs
-
 loop-again : tie.Need-loop-again Inv-loop μ-loop
 loop-again c = (search needs, search needs, search out-again)
-
-no-part-requires-2 : tie.Need-no-part-requires-2 Inv-loop μ-loop
-no-part-requires-2 c κs = search needs
 
 returns-3 : tie.Need-returns-3 Inv-loop μ-loop
 returns-3 c = λ e. search no-part
@@ -68,19 +44,19 @@ round-spec =
     (tie.spec
     Inv-loop
     μ-loop
-    nothing-requires
-    leave-requires
+    (λ c κs. search needs)
+    (λ c κs. search needs)
     loop-holds
-    add-next
+    (λ c. search needs)
     out-with-requires
-    mul-task-step
-    shared-slice-read-task-step
+    (λ c. search needs)
+    (λ c. search needs)
     task-step-requires
-    no-part-requires
+    (λ c κs. search needs)
     returns
     element-write-met
     returns-2
-    loop-less
+    (λ c. search needs)
     loop-again
-    no-part-requires-2
+    (λ c κs. search needs)
     returns-3)

@@ -3,17 +3,8 @@ use borrow.Author.Needs.{needs}
 use Rattle.plan_parts.proofs.start.first_state.Statement.{statement}
 use Rattle.plan_parts.proofs.start.first_state.Tie as tie
 
-none-told-requires : tie.Need-none-told-requires
-none-told-requires c κs = search needs
-
-nothing-requires : tie.Need-nothing-requires
-nothing-requires c κs = search needs
-
-leave-requires : tie.Need-leave-requires
-leave-requires c κs = search needs
-
 returns : tie.Need-returns
 returns c = simp (c .before .before .none-told .ensures, c .before .nothing .ensures, c .leave .ensures)
 
 pub first-state-spec : {M : Type 1} → statement M
-first-state-spec = tie.close (tie.spec none-told-requires nothing-requires leave-requires returns)
+first-state-spec = tie.close (tie.spec (λ c κs. search needs) (λ c κs. search needs) (λ c κs. search needs) returns)

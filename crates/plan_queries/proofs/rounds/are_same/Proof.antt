@@ -12,47 +12,14 @@ Inv-loop first second i₀ j₀ i j = (i ≤ length first) × (j ≤ length seco
 abbrev μ-loop : tie.MeasureT-loop
 μ-loop first second i₀ j₀ i j = length first - i
 
-next-counted-requires : tie.Need-next-counted-requires Inv-loop μ-loop
-next-counted-requires c κs = search needs
-
-next-counted-requires-2 : tie.Need-next-counted-requires-2 Inv-loop μ-loop
-next-counted-requires-2 c κs = search needs
-
 loop-holds : tie.Need-loop-holds Inv-loop μ-loop
 loop-holds c = (search needs, search needs, search alike-start)
 
 returns : tie.Need-returns Inv-loop μ-loop
 returns c = search second-shorter
 
-mul-if2 : tie.Need-mul-if2 Inv-loop μ-loop
-mul-if2 c = search needs
-
-shared-slice-read-if2 : tie.Need-shared-slice-read-if2 Inv-loop μ-loop
-shared-slice-read-if2 c = search needs
-
-mul-if2-2 : tie.Need-mul-if2-2 Inv-loop μ-loop
-mul-if2-2 c = search needs
-
-shared-slice-read-if2-2 : tie.Need-shared-slice-read-if2-2 Inv-loop μ-loop
-shared-slice-read-if2-2 c = search needs
-
 returns-2 : tie.Need-returns-2 Inv-loop μ-loop
 returns-2 c = search words-differ
-
-add-next-counted : tie.Need-add-next-counted Inv-loop μ-loop
-add-next-counted c = search needs
-
-next-counted-requires-3 : tie.Need-next-counted-requires-3 Inv-loop μ-loop
-next-counted-requires-3 c κs = search needs
-
-add-next-counted-2 : tie.Need-add-next-counted-2 Inv-loop μ-loop
-add-next-counted-2 c = search needs
-
-next-counted-requires-4 : tie.Need-next-counted-requires-4 Inv-loop μ-loop
-next-counted-requires-4 c κs = search needs
-
-loop-less : tie.Need-loop-less Inv-loop μ-loop
-loop-less c = search needs
 
 loop-again : tie.Need-loop-again Inv-loop μ-loop
 loop-again c = (search needs, search needs, search words-agree)
@@ -66,19 +33,19 @@ are-same-spec =
     (tie.spec
     Inv-loop
     μ-loop
-    next-counted-requires
-    next-counted-requires-2
+    (λ c κs. search needs)
+    (λ c κs. search needs)
     loop-holds
     returns
-    mul-if2
-    shared-slice-read-if2
-    mul-if2-2
-    shared-slice-read-if2-2
+    (λ c. search needs)
+    (λ c. search needs)
+    (λ c. search needs)
+    (λ c. search needs)
     returns-2
-    add-next-counted
-    next-counted-requires-3
-    add-next-counted-2
-    next-counted-requires-4
-    loop-less
+    (λ c. search needs)
+    (λ c κs. search needs)
+    (λ c. search needs)
+    (λ c κs. search needs)
+    (λ c. search needs)
     loop-again
     returns-3)

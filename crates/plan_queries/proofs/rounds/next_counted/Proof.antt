@@ -17,23 +17,8 @@ abbrev μ-loop : tie.MeasureT-loop
 loop-holds : tie.Need-loop-holds Inv-loop μ-loop
 loop-holds c = (search needs, search needs, refl)
 
-mul-is-counted : tie.Need-mul-is-counted Inv-loop μ-loop
-mul-is-counted c = search needs
-
-shared-slice-read-is-counted : tie.Need-shared-slice-read-is-counted Inv-loop μ-loop
-shared-slice-read-is-counted c = search needs
-
-is-counted-requires : tie.Need-is-counted-requires Inv-loop μ-loop
-is-counted-requires c κs = search needs
-
 returns : tie.Need-returns Inv-loop μ-loop
 returns c = search next-here
-
-add-i : tie.Need-add-i Inv-loop μ-loop
-add-i c = search needs
-
-loop-less : tie.Need-loop-less Inv-loop μ-loop
-loop-less c = search needs
 
 loop-again : tie.Need-loop-again Inv-loop μ-loop
 loop-again c = (search needs, search needs, search next-later)
@@ -48,11 +33,11 @@ next-counted-spec =
     Inv-loop
     μ-loop
     loop-holds
-    mul-is-counted
-    shared-slice-read-is-counted
-    is-counted-requires
+    (λ c. search needs)
+    (λ c. search needs)
+    (λ c κs. search needs)
     returns
-    add-i
-    loop-less
+    (λ c. search needs)
+    (λ c. search needs)
     loop-again
     returns-2)

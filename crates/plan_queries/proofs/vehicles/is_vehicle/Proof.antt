@@ -7,11 +7,8 @@ use Rattle.plan_queries.proofs.vehicles.is_vehicle.Tie as tie
 returns : tie.Need-returns
 returns c = search other-word
 
-cast-result : tie.Need-cast-result
-cast-result c = search needs
-
 returns-2 : tie.Need-returns-2
 returns-2 c = search vehicle-word
 
 pub is-vehicle-spec : {M : Type 1} → statement M
-is-vehicle-spec = tie.close (tie.spec returns cast-result returns-2)
+is-vehicle-spec = tie.close (tie.spec returns (λ c. search needs) returns-2)

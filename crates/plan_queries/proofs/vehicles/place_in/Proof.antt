@@ -17,26 +17,8 @@ abbrev μ-loop : tie.MeasureT-loop
 loop-holds : tie.Need-loop-holds Inv-loop μ-loop
 loop-holds c = (search needs, refl)
 
-mul-is-vehicle : tie.Need-mul-is-vehicle Inv-loop μ-loop
-mul-is-vehicle c = search needs
-
-shared-slice-read-is-vehicle : tie.Need-shared-slice-read-is-vehicle Inv-loop μ-loop
-shared-slice-read-is-vehicle c = search needs
-
-is-vehicle-requires : tie.Need-is-vehicle-requires Inv-loop μ-loop
-is-vehicle-requires c κs = search needs
-
-part-length-requires : tie.Need-part-length-requires Inv-loop μ-loop
-part-length-requires c κs = search needs
-
 returns : tie.Need-returns Inv-loop μ-loop
 returns c = search place-found
-
-add-i : tie.Need-add-i Inv-loop μ-loop
-add-i c = search needs
-
-loop-less : tie.Need-loop-less Inv-loop μ-loop
-loop-less c = search needs
 
 loop-again : tie.Need-loop-again Inv-loop μ-loop
 loop-again c = (search needs, search place-goes-on)
@@ -51,12 +33,12 @@ place-in-spec =
     Inv-loop
     μ-loop
     loop-holds
-    mul-is-vehicle
-    shared-slice-read-is-vehicle
-    is-vehicle-requires
-    part-length-requires
+    (λ c. search needs)
+    (λ c. search needs)
+    (λ c κs. search needs)
+    (λ c κs. search needs)
     returns
-    add-i
-    loop-less
+    (λ c. search needs)
+    (λ c. search needs)
     loop-again
     returns-2)

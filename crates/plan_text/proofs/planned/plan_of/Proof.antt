@@ -4,18 +4,6 @@ use Rattle.plan_text.proofs.PlannedLaws.{planned-answer, planned-buffer
 use Rattle.plan_text.proofs.planned.plan_of.Statement.{statement}
 use Rattle.plan_text.proofs.planned.plan_of.Tie as tie
 
-empty-plan-requires : tie.Need-empty-plan-requires
-empty-plan-requires c κs = search needs
-
-slice-aggregate-plan : tie.Need-slice-aggregate-plan
-slice-aggregate-plan c = search needs
-
-plan-requires : tie.Need-plan-requires
-plan-requires c κs = search needs
-
-same-length : tie.Need-same-length
-same-length c = search needs
-
 returns : tie.Need-returns
 returns c =
     let at-plan = c .before .before .before in
@@ -26,4 +14,4 @@ returns c =
     (planned-answer _ _ (empty .result) (start .pre) (empty .ensures) (planned .0), planned-buffer _ _ (empty .result) (start .pre) (empty .ensures) (planned .1 .0))
 
 pub plan-of-spec : {M : Type 1} → statement M
-plan-of-spec = tie.close (tie.spec empty-plan-requires slice-aggregate-plan plan-requires same-length returns)
+plan-of-spec = tie.close (tie.spec (λ c κs. search needs) (λ c. search needs) (λ c κs. search needs) (λ c. search needs) returns)

@@ -4,9 +4,6 @@ use borrow.Author.Needs.{needs}
 use Rattle.planner.proofs.accepted.are_long.Statement.{statement}
 use Rattle.planner.proofs.accepted.are_long.Tie as tie
 
-mul-need : tie.Need-mul-need
-mul-need c = search needs
-
 returns : tie.Need-returns
 returns c = search long-not
 
@@ -14,4 +11,4 @@ returns-2 : tie.Need-returns-2
 returns-2 c = search long-by
 
 pub are-long-spec : {M : Type 1} → statement M
-are-long-spec = tie.close (tie.spec mul-need returns returns-2)
+are-long-spec = tie.close (tie.spec (λ c. search needs) returns returns-2)

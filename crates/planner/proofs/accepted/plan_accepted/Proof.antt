@@ -8,26 +8,14 @@ use borrow.Author.Needs.{needs}
 use Rattle.planner.proofs.accepted.plan_accepted.Statement.{statement}
 use Rattle.planner.proofs.accepted.plan_accepted.Tie as tie
 
-is-few-requires : tie.Need-is-few-requires
-is-few-requires c κs = search needs
-
 are-long-requires : tie.Need-are-long-requires
 are-long-requires c κs = (c .before .before .before .before .before .pre .0, omega (arith, c .before .before .before .before .before .pre .0 .stopsAre, accepted-ranges _ (c .before .before .before .before .before .pre .1) .stopsMost))
 
 work-over-requires : tie.Need-work-over-requires
 work-over-requires c κs = let l = long-room (c .before .before .before .before .before .before .before .before .before .pre .0) _ _ (sym (c .before .before .before .are-long .ensures) ∙ c .before .before .if2 .taken) in (c .before .before .before .before .before .before .before .before .before .pre .0, c .before .before .before .before .before .before .before .before .before .pre .1, few-is _ (sym (c .before .before .before .before .before .is-few .ensures) ∙ c .before .before .before .before .if1 .taken), l .0, l .1)
 
-same-length : tie.Need-same-length
-same-length c = search needs
-
-same-length-2 : tie.Need-same-length-2
-same-length-2 c = search needs
-
 returns : tie.Need-returns
 returns c = let f = sym (c .before .before .before .before .before .before .before .before .before .if1 .taken) ∙ c .before .before .before .before .before .before .before .before .before .before .is-few .ensures in let l = sym (c .before .before .before .before .before .before .before .if2 .taken) ∙ c .before .before .before .before .before .before .before .before .are-long .ensures in (worked-answer (c .before .before .before .before .before .before .before .before .before .before .before .before .before .before .args .day .now) (c .before .before .before .before .before .before .before .before .before .before .before .before .before .before .args .k) (c .before .before .before .before .before .before .before .before .before .before .before .before .before .before .args .budget) (length (c .before .before .before .before .before .before .before .before .before .before .before .before .before .before .args .work .now)) (c .before .before .before .before .before .before .before .before .before .before .before .before .before .before .args .plan .now) f l (c .before .before .before .before .work-over .ensures), (worked-buffer (c .before .before .before .before .before .before .before .before .before .before .before .before .before .before .args .day .now) (c .before .before .before .before .before .before .before .before .before .before .before .before .before .before .args .k) (c .before .before .before .before .before .before .before .before .before .before .before .before .before .before .args .budget) (length (c .before .before .before .before .before .before .before .before .before .before .before .before .before .before .args .work .now)) (c .before .before .before .before .before .before .before .before .before .before .before .before .before .before .args .plan .now) f l (c .before .before .before .before .work-over .ensures), worked-spare (c .before .before .before .before .before .before .before .before .before .before .before .before .before .before .args .day .now) (c .before .before .before .before .before .before .before .before .before .before .before .before .before .before .args .k) (c .before .before .before .before .before .before .before .before .before .before .before .before .before .before .args .budget) (length (c .before .before .before .before .before .before .before .before .before .before .before .before .before .before .args .work .now)) (c .before .before .before .before .before .before .before .before .before .before .before .before .before .before .args .plan .now) f l))
-
-mul-t9 : tie.Need-mul-t9
-mul-t9 c = search needs
 
 returns-2 : tie.Need-returns-2
 returns-2 c = let f = sym (c .before .before .before .if1 .taken) ∙ c .before .before .before .before .is-few .ensures in let l = sym (c .before .if2 .left) ∙ c .before .before .are-long .ensures in (short-answer (c .before .before .before .before .before .before .before .before .args .day .now) (c .before .before .before .before .before .before .before .before .args .k) (c .before .before .before .before .before .before .before .before .args .budget) (length (c .before .before .before .before .before .before .before .before .args .work .now)) (c .before .before .before .before .before .before .before .before .args .plan .now) f l (need-refused (c .before .before .before .before .before .before .before .before .pre .0)), (short-buffer (c .before .before .before .before .before .before .before .before .args .day .now) (c .before .before .before .before .before .before .before .before .args .k) (c .before .before .before .before .before .before .before .before .args .budget) (length (c .before .before .before .before .before .before .before .before .args .work .now)) (c .before .before .before .before .before .before .before .before .args .plan .now) f l, λ _. refl))
@@ -39,12 +27,12 @@ pub plan-accepted-spec : {M : Type 1} → statement M
 plan-accepted-spec =
     tie.close
     (tie.spec
-    is-few-requires
+    (λ c κs. search needs)
     are-long-requires
     work-over-requires
-    same-length
-    same-length-2
+    (λ c. search needs)
+    (λ c. search needs)
     returns
-    mul-t9
+    (λ c. search needs)
     returns-2
     returns-3)

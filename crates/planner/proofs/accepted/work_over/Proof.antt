@@ -4,41 +4,11 @@ use borrow.Author.Needs.{needs}
 use Rattle.planner.proofs.accepted.work_over.Statement.{statement}
 use Rattle.planner.proofs.accepted.work_over.Tie as tie
 
-build-accepted-requires : tie.Need-build-accepted-requires
-build-accepted-requires c κs = search needs
-
-enum-known-answer : tie.Need-enum-known-answer
-enum-known-answer c = search needs
-
-mul-need : tie.Need-mul-need
-mul-need c = search needs
-
-sub-improve : tie.Need-sub-improve
-sub-improve c = search needs
-
-part-improve-start : tie.Need-part-improve-start
-part-improve-start c = search needs
-
-part-improve-end : tie.Need-part-improve-end
-part-improve-end c = search needs
-
 improve-requires : tie.Need-improve-requires
 improve-requires c κs = let p = c .before .before .before .before .before .before .before .before .before .before .before .before .before .pre in let b = c .before .before .before .before .before .before .before .before .build-accepted .ensures in let v = built-values (c .before .before .before .before .before .before .before .before .before .before .before .before .before .args .day .now) (c .before .before .before .before .before .before .before .before .before .before .before .before .before .args .plan .now) (p .0) (p .3) (b .0) (c .before .before .before .before .answer .given .1) in (p .0, p .1, p .2, lent-long (c .before .before .before .before .before .before .before .before .before .before .before .before .before .args .day .now) (c .before .before .before .before .before .before .before .before .before .before .before .before .before .args .plan .now) (p .0) (p .3) (b .1), p .4, greedy-at (c .before .before .before .before .before .before .before .before .before .before .before .before .before .args .day .now) (c .before .before .before .before .before .before .before .before .before .before .before .before .before .args .plan .now) (p .0) (p .3) (b .1) (v .wordsAre), v .distanceIs)
 
-enum-known-answer-2 : tie.Need-enum-known-answer-2
-enum-known-answer-2 c = search needs
-
-same-length : tie.Need-same-length
-same-length c = search needs
-
-same-length-2 : tie.Need-same-length-2
-same-length-2 c = search needs
-
 returns : tie.Need-returns
 returns c = let p = c .before .before .before .before .before .before .before .before .before .before .before .before .before .before .before .before .before .before .pre in let b = c .before .before .before .before .before .before .before .before .before .before .before .before .before .build-accepted .ensures in let v = built-values (c .before .before .before .before .before .before .before .before .before .before .before .before .before .before .before .before .before .before .args .day .now) (c .before .before .before .before .before .before .before .before .before .before .before .before .before .before .before .before .before .before .args .plan .now) (p .0) (p .3) (b .0) (c .before .before .before .before .before .before .before .before .before .answer .given .1) in worked-over (c .before .before .before .before .before .before .before .before .before .before .before .before .before .before .before .before .before .before .args .day .now) (c .before .before .before .before .before .before .before .before .before .before .before .before .before .before .before .before .before .before .args .plan .now) (p .0) (p .3) (b .1) (c .before .before .before .before .improve .ensures) (search needs) (v .leftIs)
-
-same-length-3 : tie.Need-same-length-3
-same-length-3 c = search needs
 
 returns-2 : tie.Need-returns-2
 returns-2 c = let p = c .before .before .before .before .before .before .before .before .before .before .pre in absurd (not-refused (c .before .before .before .before .before .before .before .before .before .before .args .day .now) (c .before .before .before .before .before .before .before .before .before .before .args .plan .now) (p .0) (p .3) (c .before .before .before .before .before .build-accepted .ensures .0) (c .before .answer2 .given .1))
@@ -47,16 +17,16 @@ pub work-over-spec : {M : Type 1} → statement M
 work-over-spec =
     tie.close
     (tie.spec
-    build-accepted-requires
-    enum-known-answer
-    mul-need
-    sub-improve
-    part-improve-start
-    part-improve-end
+    (λ c κs. search needs)
+    (λ c. search needs)
+    (λ c. search needs)
+    (λ c. search needs)
+    (λ c. search needs)
+    (λ c. search needs)
     improve-requires
-    enum-known-answer-2
-    same-length
-    same-length-2
+    (λ c. search needs)
+    (λ c. search needs)
+    (λ c. search needs)
     returns
-    same-length-3
+    (λ c. search needs)
     returns-2)

@@ -9,12 +9,6 @@ use Rattle.text.proofs.PutLaws.{put-more, put-same}
 use Rattle.text.proofs.lines.put_answer.Statement.{statement}
 use Rattle.text.proofs.lines.put_answer.Tie as tie
 
-enum-known-answer : tie.Need-enum-known-answer
-enum-known-answer c = search needs
-
-put-planned-requires : tie.Need-put-planned-requires
-put-planned-requires c κs = search needs
-
 slice-aggregate-put-words : tie.Need-slice-aggregate-put-words
 slice-aggregate-put-words c =
     let at-answer = c .before .before .before .before .before .before .before in
@@ -31,15 +25,6 @@ put-words-requires c κs =
     let put = planned .ensures in
     words-room _ _ (start .args .plan .now) (planned .last .0) (start .args .text .now) few (put .1) (start .pre .0) (put .0 .size)
 
-enum-known-answer-2 : tie.Need-enum-known-answer-2
-enum-known-answer-2 c = search needs
-
-put-refused-requires : tie.Need-put-refused-requires
-put-refused-requires c κs = search needs
-
-same-length : tie.Need-same-length
-same-length c = search needs
-
 returns : tie.Need-returns
 returns c =
     let at-put-words = c .before .before in
@@ -51,9 +36,6 @@ returns c =
     let both = put-more (planned .0) words (omega (arith, start .pre .0, planned .1)) in
     rw (at-answer .answer .given .1) (put-same both (planned-text _ _ _ _ _ _))
 
-same-length-2 : tie.Need-same-length-2
-same-length-2 c = search needs
-
 returns-2 : tie.Need-returns-2
 returns-2 c =
     let at-put-refused = c .before .before in
@@ -64,13 +46,13 @@ pub put-answer-spec : {M : Type 1} → statement M
 put-answer-spec =
     tie.close
     (tie.spec
-    enum-known-answer
-    put-planned-requires
+    (λ c. search needs)
+    (λ c κs. search needs)
     slice-aggregate-put-words
     put-words-requires
-    enum-known-answer-2
-    put-refused-requires
-    same-length
+    (λ c. search needs)
+    (λ c κs. search needs)
+    (λ c. search needs)
     returns
-    same-length-2
+    (λ c. search needs)
     returns-2)

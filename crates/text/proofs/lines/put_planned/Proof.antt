@@ -6,24 +6,6 @@ use Rattle.text.specs.Lines.{plannedLine}
 use Rattle.text.proofs.lines.put_planned.Statement.{statement}
 use Rattle.text.proofs.lines.put_planned.Tie as tie
 
-put-number-requires : tie.Need-put-number-requires
-put-number-requires c κs = search needs
-
-put-number-requires-2 : tie.Need-put-number-requires-2
-put-number-requires-2 c κs = search needs
-
-put-settled-requires : tie.Need-put-settled-requires
-put-settled-requires c κs = search needs
-
-put-number-requires-3 : tie.Need-put-number-requires-3
-put-number-requires-3 c κs = search needs
-
-put-number-requires-4 : tie.Need-put-number-requires-4
-put-number-requires-4 c κs = search needs
-
-same-length : tie.Need-same-length
-same-length c = search needs
-
 returns : tie.Need-returns
 unfolding plannedLine
 returns c =
@@ -49,10 +31,10 @@ pub put-planned-spec : {M : Type 1} → statement M
 put-planned-spec =
     tie.close
     (tie.spec
-    put-number-requires
-    put-number-requires-2
-    put-settled-requires
-    put-number-requires-3
-    put-number-requires-4
-    same-length
+    (λ c κs. search needs)
+    (λ c κs. search needs)
+    (λ c κs. search needs)
+    (λ c κs. search needs)
+    (λ c κs. search needs)
+    (λ c. search needs)
     returns)

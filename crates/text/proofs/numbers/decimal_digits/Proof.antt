@@ -15,12 +15,6 @@ Inv-loop n digits₀ at₀ rest₀ digits at rest = (at < 20) × (length digits 
 abbrev μ-loop : tie.MeasureT-loop
 μ-loop n digits₀ at₀ rest₀ digits at rest = at
 
-cast-digit : tie.Need-cast-digit Inv-loop μ-loop
-cast-digit c = search needs
-
-digit-requires : tie.Need-digit-requires Inv-loop μ-loop
-digit-requires c κs = search needs
-
 slice-write-digits : tie.Need-slice-write-digits Inv-loop μ-loop
 slice-write-digits c = omega (arith, c .before .before .pre)
 
@@ -36,15 +30,6 @@ returns : tie.Need-returns Inv-loop μ-loop
 returns c =
     let at-loop = c .before .before in
     (decimal-done _ _ _ _ (c .if1 .taken) (at-loop .loop .inv .2), at-loop .loop .inv .0)
-
-sub-at : tie.Need-sub-at Inv-loop μ-loop
-sub-at c = search needs
-
-cast-digit-2 : tie.Need-cast-digit-2 Inv-loop μ-loop
-cast-digit-2 c = search needs
-
-digit-requires-2 : tie.Need-digit-requires-2 Inv-loop μ-loop
-digit-requires-2 c κs = search needs
 
 slice-write-digits-2 : tie.Need-slice-write-digits-2 Inv-loop μ-loop
 slice-write-digits-2 c =
@@ -75,15 +60,15 @@ decimal-digits-spec =
     (tie.spec
     Inv-loop
     μ-loop
-    cast-digit
-    digit-requires
+    (λ c. search needs)
+    (λ c κs. search needs)
     slice-write-digits
     loop-holds
     same-length
     returns
-    sub-at
-    cast-digit-2
-    digit-requires-2
+    (λ c. search needs)
+    (λ c. search needs)
+    (λ c κs. search needs)
     slice-write-digits-2
     loop-less
     loop-again

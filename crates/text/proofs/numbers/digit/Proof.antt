@@ -4,17 +4,11 @@ use Rattle.text.proofs.DigitLaws.{digit-low, digit-high}
 use Rattle.text.proofs.numbers.digit.Statement.{statement}
 use Rattle.text.proofs.numbers.digit.Tie as tie
 
-add-result : tie.Need-add-result
-add-result c = search needs
-
 returns : tie.Need-returns
 returns c = digit-low _ (c .if1 .taken)
-
-add-result-2 : tie.Need-add-result-2
-add-result-2 c = search needs
 
 returns-2 : tie.Need-returns-2
 returns-2 c = digit-high _ (c .if1 .left)
 
 pub digit-spec : {M : Type 1} → statement M
-digit-spec = tie.close (tie.spec add-result returns add-result-2 returns-2)
+digit-spec = tie.close (tie.spec (λ c. search needs) returns (λ c. search needs) returns-2)

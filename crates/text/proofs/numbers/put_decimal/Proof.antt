@@ -4,27 +4,6 @@ use Rattle.text.proofs.DigitLaws.{digits-put}
 use Rattle.text.proofs.numbers.put_decimal.Statement.{statement}
 use Rattle.text.proofs.numbers.put_decimal.Tie as tie
 
-slice-aggregate-decimal-digits : tie.Need-slice-aggregate-decimal-digits
-slice-aggregate-decimal-digits c = search needs
-
-decimal-digits-requires : tie.Need-decimal-digits-requires
-decimal-digits-requires c κs = search needs
-
-sub-put-bytes : tie.Need-sub-put-bytes
-sub-put-bytes c = search needs
-
-part-put-bytes-start : tie.Need-part-put-bytes-start
-part-put-bytes-start c = search needs
-
-part-put-bytes-end : tie.Need-part-put-bytes-end
-part-put-bytes-end c = search needs
-
-put-bytes-requires : tie.Need-put-bytes-requires
-put-bytes-requires c κs = search needs
-
-same-length : tie.Need-same-length
-same-length c = search needs
-
 returns : tie.Need-returns
 returns c =
     let at-put-bytes = c .before .before in
@@ -36,11 +15,11 @@ pub put-decimal-spec : {M : Type 1} → statement M
 put-decimal-spec =
     tie.close
     (tie.spec
-    slice-aggregate-decimal-digits
-    decimal-digits-requires
-    sub-put-bytes
-    part-put-bytes-start
-    part-put-bytes-end
-    put-bytes-requires
-    same-length
+    (λ c. search needs)
+    (λ c κs. search needs)
+    (λ c. search needs)
+    (λ c. search needs)
+    (λ c. search needs)
+    (λ c κs. search needs)
+    (λ c. search needs)
     returns)

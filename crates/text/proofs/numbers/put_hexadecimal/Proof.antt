@@ -18,24 +18,6 @@ abbrev μ-loop : tie.MeasureT-loop
 loop-holds : tie.Need-loop-holds Inv-loop μ-loop
 loop-holds c = (put-same (put-start _ _) (hex-none _), omega arith)
 
-mul-digit : tie.Need-mul-digit Inv-loop μ-loop
-mul-digit c = search needs
-
-sub-digit : tie.Need-sub-digit Inv-loop μ-loop
-sub-digit c = search needs
-
-cast-digit : tie.Need-cast-digit Inv-loop μ-loop
-cast-digit c = search needs
-
-shr-digit : tie.Need-shr-digit Inv-loop μ-loop
-shr-digit c = search needs
-
-cast-digit-2 : tie.Need-cast-digit-2 Inv-loop μ-loop
-cast-digit-2 c = search needs
-
-digit-requires : tie.Need-digit-requires Inv-loop μ-loop
-digit-requires c κs = search needs
-
 add-text : tie.Need-add-text Inv-loop μ-loop
 add-text c = omega (arith, c .before .before .before .before .pre, c .before .loop-test .taken)
 
@@ -45,9 +27,6 @@ slice-write-text c =
     let at-loop = at-test .before in
     let start = at-loop .before .before in
     omega (arith, start .pre, at-test .loop-test .taken, at-loop .loop .inv .0 .size)
-
-add-i : tie.Need-add-i Inv-loop μ-loop
-add-i c = search needs
 
 loop-less : tie.Need-loop-less Inv-loop μ-loop
 loop-less c = omega (arith, c .before .loop-test .taken)
@@ -76,15 +55,15 @@ put-hexadecimal-spec =
     Inv-loop
     μ-loop
     loop-holds
-    mul-digit
-    sub-digit
-    cast-digit
-    shr-digit
-    cast-digit-2
-    digit-requires
+    (λ c. search needs)
+    (λ c. search needs)
+    (λ c. search needs)
+    (λ c. search needs)
+    (λ c. search needs)
+    (λ c κs. search needs)
     add-text
     slice-write-text
-    add-i
+    (λ c. search needs)
     loop-less
     loop-again
     add-result

@@ -6,15 +6,6 @@ use Rattle.text.specs.Lines.{number}
 use Rattle.text.proofs.numbers.put_number.Statement.{statement}
 use Rattle.text.proofs.numbers.put_number.Tie as tie
 
-put-decimal-requires : tie.Need-put-decimal-requires
-put-decimal-requires c κs = search needs
-
-put-byte-requires : tie.Need-put-byte-requires
-put-byte-requires c κs = search needs
-
-same-length : tie.Need-same-length
-same-length c = search needs
-
 returns : tie.Need-returns
 unfolding number
 returns c =
@@ -26,4 +17,4 @@ returns c =
     (put-more (put .0) mark (omega (arith, start .pre, put .1)), omega (arith, put .1, mark .next))
 
 pub put-number-spec : {M : Type 1} → statement M
-put-number-spec = tie.close (tie.spec put-decimal-requires put-byte-requires same-length returns)
+put-number-spec = tie.close (tie.spec (λ c κs. search needs) (λ c κs. search needs) (λ c. search needs) returns)

@@ -7,18 +7,12 @@ use Rattle.text.specs.Lines.{wordLine}
 use Rattle.text.proofs.numbers.put_word.Statement.{statement}
 use Rattle.text.proofs.numbers.put_word.Tie as tie
 
-put-hexadecimal-requires : tie.Need-put-hexadecimal-requires
-put-hexadecimal-requires c κs = search needs
-
 put-byte-requires : tie.Need-put-byte-requires
 put-byte-requires c κs =
     let at-put-hexadecimal = c .before .before .before in
     let start = at-put-hexadecimal .before .before .before in
     let put = at-put-hexadecimal .put-hexadecimal .ensures in
     omega (arith, start .pre, put .next, put .size, hexadecimal-length (start .args .w))
-
-same-length : tie.Need-same-length
-same-length c = search needs
 
 returns : tie.Need-returns
 unfolding wordLine
@@ -30,4 +24,4 @@ returns c =
     put-more put (at-put-byte .put-byte .ensures) (omega (arith, start .pre, put .next, hexadecimal-length (start .args .w)))
 
 pub put-word-spec : {M : Type 1} → statement M
-put-word-spec = tie.close (tie.spec put-hexadecimal-requires put-byte-requires same-length returns)
+put-word-spec = tie.close (tie.spec (λ c κs. search needs) put-byte-requires (λ c. search needs) returns)

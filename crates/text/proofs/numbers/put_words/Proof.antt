@@ -21,12 +21,6 @@ abbrev μ-loop : tie.MeasureT-loop
 loop-holds : tie.Need-loop-holds Inv-loop μ-loop
 loop-holds c = (put-same (put-none _ _) lines-none, omega arith, omega arith)
 
-mul-put-word : tie.Need-mul-put-word Inv-loop μ-loop
-mul-put-word c = search needs
-
-shared-slice-read-put-word : tie.Need-shared-slice-read-put-word Inv-loop μ-loop
-shared-slice-read-put-word c = search needs
-
 put-word-requires : tie.Need-put-word-requires Inv-loop μ-loop
 put-word-requires c κs =
     let at-test = c .before .before in
@@ -34,9 +28,6 @@ put-word-requires c κs =
     let start = at-loop .before .before .before in
     let i = at-loop .loop .inv in
     omega (arith, start .pre, at-test .loop-test .taken, i .2, i .0 .size)
-
-add-i : tie.Need-add-i Inv-loop μ-loop
-add-i c = search needs
 
 loop-less : tie.Need-loop-less Inv-loop μ-loop
 loop-less c = omega (arith, c .before .before .before .before .before .loop-test .taken)
@@ -65,10 +56,10 @@ put-words-spec =
     Inv-loop
     μ-loop
     loop-holds
-    mul-put-word
-    shared-slice-read-put-word
+    (λ c. search needs)
+    (λ c. search needs)
     put-word-requires
-    add-i
+    (λ c. search needs)
     loop-less
     loop-again
     same-length

@@ -20,9 +20,6 @@ abbrev μ-loop : tie.MeasureT-loop
 loop-holds : tie.Need-loop-holds Inv-loop μ-loop
 loop-holds c = (put-start _ _, omega arith)
 
-shared-slice-read-text : tie.Need-shared-slice-read-text Inv-loop μ-loop
-shared-slice-read-text c = search needs
-
 add-text : tie.Need-add-text Inv-loop μ-loop
 add-text c = omega (arith, c .before .before .before .pre, c .before .loop-test .taken)
 
@@ -32,9 +29,6 @@ slice-write-text c =
     let at-loop = at-test .before in
     let start = at-loop .before in
     omega (arith, start .pre, at-test .loop-test .taken, at-loop .loop .inv .0 .size)
-
-add-i : tie.Need-add-i Inv-loop μ-loop
-add-i c = search needs
 
 loop-less : tie.Need-loop-less Inv-loop μ-loop
 loop-less c = omega (arith, c .before .loop-test .taken)
@@ -63,10 +57,10 @@ put-bytes-spec =
     Inv-loop
     μ-loop
     loop-holds
-    shared-slice-read-text
+    (λ c. search needs)
     add-text
     slice-write-text
-    add-i
+    (λ c. search needs)
     loop-less
     loop-again
     add-result

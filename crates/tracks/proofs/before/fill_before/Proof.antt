@@ -33,26 +33,11 @@ put-cab-requires c κs = (c .before .before .before .before .before .before .pre
 loop-holds : tie.Need-loop-holds Inv-loop μ-loop
 loop-holds c = (search needs, λ at l. refl, λ p ts w h. let f = c .before .before .before .before .fresh-cab .ensures in filling-start w h (f .0) (f .1) (f .2) (f .3) (c .before .before .put-cab .ensures .0))
 
-mul-walk-task : tie.Need-mul-walk-task Inv-loop μ-loop
-mul-walk-task c = search needs
-
-shared-slice-read-walk-task : tie.Need-shared-slice-read-walk-task Inv-loop μ-loop
-shared-slice-read-walk-task c = search needs
-
 walk-task-requires : tie.Need-walk-task-requires Inv-loop μ-loop
 walk-task-requires c κs = let s = c .before .before .before .before .before .before .before .before .before .before .before .before .before .pre .2 in (c .before .before .before .before .before .before .before .before .before .before .before .before .before .pre .0, c .before .before .before .before .before .before .before .before .before .before .before .before .before .pre .1, filling-task (s .walks) (c .before .before .loop-test .taken) (c .before .before .before .loop .inv .2 _ (s .tasks) (wrote-put (wrote-none _) _ (omega (arith, s .walks .room))) (s .walks)))
 
-add-i : tie.Need-add-i Inv-loop μ-loop
-add-i c = search needs
-
-add-put-cab : tie.Need-add-put-cab Inv-loop μ-loop
-add-put-cab c = search needs
-
 put-cab-requires-2 : tie.Need-put-cab-requires-2 Inv-loop μ-loop
 put-cab-requires-2 c κs = let s = c .before .before .before .before .before .before .before .before .before .before .before .before .before .before .before .before .before .pre .2 in (c .before .before .before .before .before .before .before .loop .inv .0, omega (arith, c .before .before .before .before .before .before .before .before .before .before .before .before .before .before .before .before .before .pre .4, c .before .before .before .before .before .before .loop-test .taken), place-small (filling-stands (s .walks) (c .before .before .before .before .before .before .loop-test .taken) (c .before .before .before .before .before .before .before .loop .inv .2 _ (s .tasks) (wrote-put (wrote-none _) _ (omega (arith, s .walks .room))) (s .walks)) (c .before .before .before .walk-task .ensures)))
-
-loop-less : tie.Need-loop-less Inv-loop μ-loop
-loop-less c = search needs
 
 loop-again : tie.Need-loop-again Inv-loop μ-loop
 loop-again c = (search needs, λ at l. c .before .before .put-cab2 .ensures .1 at (omega (arith, l)) ∙ c .before .before .before .before .before .before .before .before .before .before .loop .inv .1 at l, λ p ts w h. filling-step h (c .before .before .before .before .before .before .before .before .before .loop-test .taken) (c .before .before .before .before .before .before .before .before .before .before .loop .inv .2 p ts w h) (c .before .before .before .before .before .before .walk-task .ensures) (c .before .before .put-cab2 .ensures .0) (c .before .before .put-cab2 .ensures .1))
@@ -76,13 +61,13 @@ fill-before-spec =
     fresh-cab-requires
     put-cab-requires
     loop-holds
-    mul-walk-task
-    shared-slice-read-walk-task
+    (λ c. search needs)
+    (λ c. search needs)
     walk-task-requires
-    add-i
-    add-put-cab
+    (λ c. search needs)
+    (λ c. search needs)
     put-cab-requires-2
-    loop-less
+    (λ c. search needs)
     loop-again
     same-length
     same-length-2

@@ -10,11 +10,8 @@ returns c = task-passed (c .if1 .taken)
 walk-word-requires : tie.Need-walk-word-requires
 walk-word-requires c κs = (c .before .before .before .before .pre .0, c .before .before .before .before .pre .1, task-word (c .before .if1 .left) (c .before .before .before .before .pre .2))
 
-same-length : tie.Need-same-length
-same-length c = search needs
-
 returns-2 : tie.Need-returns-2
 returns-2 c = task-walked (c .before .before .before .before .if1 .left) (c .before .before .walk-word .ensures)
 
 pub walk-task-spec : {M : Type 1} → statement M
-walk-task-spec = tie.close (tie.spec returns walk-word-requires same-length returns-2)
+walk-task-spec = tie.close (tie.spec returns walk-word-requires (λ c. search needs) returns-2)

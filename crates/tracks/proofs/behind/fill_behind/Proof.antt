@@ -19,9 +19,6 @@ put-row-requires c κs = let p = c .before .before .before .before .pre in omega
 loop-holds : tie.Need-loop-holds Inv-loop μ-loop
 loop-holds c = let p = c .before .before .before .before .before .before .before .pre in filling-start (p .2) (c .before .before .put-row .kept .0 ∙ p .3) (c .before .before .put-row .ensures)
 
-sub-at : tie.Need-sub-at Inv-loop μ-loop
-sub-at c = search needs
-
 mul-onward-before : tie.Need-mul-onward-before Inv-loop μ-loop
 mul-onward-before c = let p = c .before .before .before .before .before .before .before .before .before .pre in let l : c .before .loop .at ≤ 1200 = omega (arith, p .1, filling-inside (p .2) .1, c .before .loop .inv .high) in search needs
 
@@ -33,9 +30,6 @@ onward-before-requires c κs = let p = c .before .before .before .before .before
 
 put-row-requires-2 : tie.Need-put-row-requires-2 Inv-loop μ-loop
 put-row-requires-2 c κs = let p = c .before .before .before .before .before .before .before .before .before .before .before .before .pre in omega (arith, p .1, c .before .before .before .before .loop .inv .size, c .before .before .before .before .loop .inv .high, filling-inside (p .2) .1)
-
-loop-less : tie.Need-loop-less Inv-loop μ-loop
-loop-less c = search needs
 
 loop-again : tie.Need-loop-again Inv-loop μ-loop
 loop-again c = let p = c .before .before .before .before .before .before .before .before .before .before .before .before .before .before .before .pre in filling-next (p .2) (c .before .before .before .before .before .before .before .loop .inv) (c .before .before .before .before .before .before .before .loop .at - 1) _ (omega arith) (omega arith) (c .before .before .before .before .onward-before .ensures) (c .before .before .put-row2 .ensures) (c .before .before .put-row2 .kept .0)
@@ -54,12 +48,12 @@ fill-behind-spec =
     μ-loop
     put-row-requires
     loop-holds
-    sub-at
+    (λ c. search needs)
     mul-onward-before
     shared-slice-read-onward-before
     onward-before-requires
     put-row-requires-2
-    loop-less
+    (λ c. search needs)
     loop-again
     same-length
     returns)

@@ -9,17 +9,11 @@ use Rattle.tracks.proofs.behind.onward_before.Tie as tie
 sub-stop-first : tie.Need-sub-stop-first
 sub-stop-first c = stop-number _ _ (c .before .before .pre .1) (c .if1 .taken) .0
 
-cast-stop-first : tie.Need-cast-stop-first
-cast-stop-first c = search needs
-
 stop-first-requires : tie.Need-stop-first-requires
 stop-first-requires c κs = let p = c .before .before .pre in let n = stop-number _ _ (p .1) (c .if1 .taken) in (p .0, n .1, omega (arith, n .2, p .0 .stopsAre), p .2, p .3)
 
 returns : tie.Need-returns
 returns c = search puts-stop
-
-cast-tip-first : tie.Need-cast-tip-first
-cast-tip-first c = search needs
 
 tip-first-requires : tie.Need-tip-first-requires
 tip-first-requires c κs = let p = c .before .before .before .pre in (p .0, omega (arith, tip-number _ _ (p .1) (c .before .if1 .left) (c .if2 .taken), p .0 .tipsAre), p .2, p .3)
@@ -35,10 +29,10 @@ onward-before-spec =
     tie.close
     (tie.spec
     sub-stop-first
-    cast-stop-first
+    (λ c. search needs)
     stop-first-requires
     returns
-    cast-tip-first
+    (λ c. search needs)
     tip-first-requires
     returns-2
     returns-3)

@@ -13,11 +13,8 @@ returns c = cut-early (c .before .args .i) (c .before .args .last) (c .before .a
 returns-2 : tie.Need-returns-2
 returns-2 c = cut-waiting (c .before .before .args .i) (c .before .before .args .last) (c .before .before .args .waiting) (c .before .before .args .load) (c .before .before .args .o) (c .if2 .taken) (c .before .if1 .left)
 
-is-smooth-requires : tie.Need-is-smooth-requires
-is-smooth-requires c κs = search needs
-
 returns-3 : tie.Need-returns-3
 returns-3 c = cut-fits (c .before .before .before .args .i) (c .before .before .before .args .last) (c .before .before .before .args .waiting) (c .before .before .before .args .load) (c .before .before .before .args .o) (c .before .if2 .left) (c .before .before .if1 .left) (c .is-smooth .ensures)
 
 pub is-cut-spec : {M : Type 1} → statement M
-is-cut-spec = tie.close (tie.spec returns returns-2 is-smooth-requires returns-3)
+is-cut-spec = tie.close (tie.spec returns returns-2 (λ c κs. search needs) returns-3)

@@ -39,12 +39,6 @@ add-onward-at c = omega (arith, c .before .before .before .before .before .befor
 onward-at-requires : tie.Need-onward-at-requires Inv-loop μ-loop
 onward-at-requires c κs = omega (arith, c .before .before .before .before .before .before .pre .4, c .before .before .before .before .before .before .pre .5, c .loop-test .taken)
 
-is-cut-requires : tie.Need-is-cut-requires Inv-loop μ-loop
-is-cut-requires c κs = search needs
-
-failed-requires : tie.Need-failed-requires Inv-loop μ-loop
-failed-requires c κs = search needs
-
 same-length : tie.Need-same-length Inv-loop μ-loop
 same-length c = let s = c .before .before .before .before .before .before .before .before .before .before .before .pre .6 in stands-size (c .before .before .before .before .before .before .loop .inv .1 (s .tasks) (s .start) (s .p) (s .cuttable) (s .midway) .stands) ∙ sym (stands-size (s .midway .stands))
 
@@ -96,8 +90,8 @@ walk-span-spec =
     loop-holds
     add-onward-at
     onward-at-requires
-    is-cut-requires
-    failed-requires
+    (λ c κs. search needs)
+    (λ c κs. search needs)
     same-length
     returns
     drive-onward-requires

@@ -4,35 +4,14 @@ use borrow.Author.Needs.{needs}
 use Rattle.tracks.proofs.span.span_of.Statement.{statement}
 use Rattle.tracks.proofs.span.span_of.Tie as tie
 
-enum-known-e : tie.Need-enum-known-e
-enum-known-e c = search needs
-
 span-of-two-requires : tie.Need-span-of-two-requires
 span-of-two-requires c κs = let w = rw (c .before .e .given .1) at (c .before .before .before .before .before .pre .0) in (c .before .before .before .before .before .pre .1, w .0, w .1)
-
-enum-known-e-2 : tie.Need-enum-known-e-2
-enum-known-e-2 c = search needs
 
 span-of-two-requires-2 : tie.Need-span-of-two-requires-2
 span-of-two-requires-2 c κs = let w = rw (c .before .e2 .given .1) at (c .before .before .before .before .before .pre .0) in (c .before .before .before .before .before .pre .1, w .0, w .1)
 
-enum-known-e-3 : tie.Need-enum-known-e-3
-enum-known-e-3 c = search needs
-
 span-of-swap-requires : tie.Need-span-of-swap-requires
 span-of-swap-requires c κs = let w = rw (c .before .e3 .given .1) at (c .before .before .before .before .before .pre .0) in (c .before .before .before .before .before .pre .1, w .0, w .1)
-
-enum-known-e-4 : tie.Need-enum-known-e-4
-enum-known-e-4 c = search needs
-
-span-of-word-requires : tie.Need-span-of-word-requires
-span-of-word-requires c κs = search needs
-
-enum-known-e-5 : tie.Need-enum-known-e-5
-enum-known-e-5 c = search needs
-
-span-of-word-requires-2 : tie.Need-span-of-word-requires-2
-span-of-word-requires-2 c κs = search needs
 
 returns : tie.Need-returns
 returns c = λ tasks q s. let w = rw (c .before .before .e .given .1) at (c .before .before .before .before .before .before .pre .0) in let o = rw (c .before .before .e .given .1) at s in rw (c .before .before .e .given .1) (before-span _ _ tasks q (w .0) (w .1) _ o (c .span-of-two .ensures .0) (c .span-of-two .ensures .1))
@@ -53,16 +32,16 @@ pub span-of-spec : {M : Type 1} → statement M
 span-of-spec =
     tie.close
     (tie.spec
-    enum-known-e
+    (λ c. search needs)
     span-of-two-requires
-    enum-known-e-2
+    (λ c. search needs)
     span-of-two-requires-2
-    enum-known-e-3
+    (λ c. search needs)
     span-of-swap-requires
-    enum-known-e-4
-    span-of-word-requires
-    enum-known-e-5
-    span-of-word-requires-2
+    (λ c. search needs)
+    (λ c κs. search needs)
+    (λ c. search needs)
+    (λ c κs. search needs)
     returns
     returns-2
     returns-3

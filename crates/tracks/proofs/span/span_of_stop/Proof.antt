@@ -6,18 +6,12 @@ use borrow.Author.Needs.{needs}
 use Rattle.tracks.proofs.span.span_of_stop.Statement.{statement}
 use Rattle.tracks.proofs.span.span_of_stop.Tie as tie
 
-place-of-stop-requires : tie.Need-place-of-stop-requires
-place-of-stop-requires c κs = search needs
-
 returns : tie.Need-returns
 returns c = place-held (c .before .place-of-stop .ensures) (c .if1 .taken) (omega arith) (omega arith)
-
-whole-span-requires : tie.Need-whole-span-requires
-whole-span-requires c κs = search needs
 
 returns-2 : tie.Need-returns-2
 returns-2 c = whole (c .whole-span .ensures .0) (c .whole-span .ensures .1)
 
 pub span-of-stop-spec : {M : Type 1} → statement M
 span-of-stop-spec =
-    tie.close (tie.spec place-of-stop-requires returns whole-span-requires returns-2)
+    tie.close (tie.spec (λ c κs. search needs) returns (λ c κs. search needs) returns-2)

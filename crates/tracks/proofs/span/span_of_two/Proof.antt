@@ -6,20 +6,8 @@ use borrow.Author.Needs.{needs}
 use Rattle.tracks.proofs.span.span_of_two.Statement.{statement}
 use Rattle.tracks.proofs.span.span_of_two.Tie as tie
 
-place-of-stop-requires : tie.Need-place-of-stop-requires
-place-of-stop-requires c κs = search needs
-
-place-of-stop-requires-2 : tie.Need-place-of-stop-requires-2
-place-of-stop-requires-2 c κs = search needs
-
-whole-span-requires : tie.Need-whole-span-requires
-whole-span-requires c κs = search needs
-
 returns : tie.Need-returns
 returns c = (whole (c .whole-span .ensures .0) (c .whole-span .ensures .1), whole (c .whole-span .ensures .0) (c .whole-span .ensures .1))
-
-whole-span-requires-2 : tie.Need-whole-span-requires-2
-whole-span-requires-2 c κs = search needs
 
 returns-2 : tie.Need-returns-2
 returns-2 c = (whole (c .whole-span2 .ensures .0) (c .whole-span2 .ensures .1), whole (c .whole-span2 .ensures .0) (c .whole-span2 .ensures .1))
@@ -34,11 +22,11 @@ pub span-of-two-spec : {M : Type 1} → statement M
 span-of-two-spec =
     tie.close
     (tie.spec
-    place-of-stop-requires
-    place-of-stop-requires-2
-    whole-span-requires
+    (λ c κs. search needs)
+    (λ c κs. search needs)
+    (λ c κs. search needs)
     returns
-    whole-span-requires-2
+    (λ c κs. search needs)
     returns-2
     returns-3
     returns-4)

@@ -37,9 +37,6 @@ loop-again c = c .before .before .put-spot .kept .1 .1 .0 ∙ c .before .before 
 same-length : tie.Need-same-length Inv-loop μ-loop
 same-length c = c .before .loop .inv ∙ sym (c .before .before .before .before .pre .0)
 
-returns : tie.Need-returns Inv-loop μ-loop
-returns c = search needs
-
 pub fill-spots-spec : {M : Type 1} → statement M
 fill-spots-spec =
     tie.close
@@ -54,4 +51,4 @@ fill-spots-spec =
     loop-less
     loop-again
     same-length
-    returns)
+    (λ c. search needs))

@@ -9,26 +9,11 @@ use borrow.Author.Needs.{needs}
 use Rattle.tracks.proofs.tables.track_vehicle.Statement.{statement}
 use Rattle.tracks.proofs.tables.track_vehicle.Tie as tie
 
-mul-from : tie.Need-mul-from
-mul-from c = search needs
-
-shared-slice-read-from : tie.Need-shared-slice-read-from
-shared-slice-read-from c = search needs
-
 cast-from : tie.Need-cast-from
 cast-from c = let s = c .before .before .before .before .before .before .pre .0 .2 in omega (arith, vehicle-inside (trackable-laid (s .trackable)) (s .inside), start-next (trackable-laid (s .trackable)) (s .inside), s .trackable .short)
 
 add-from : tie.Need-add-from
 add-from c = let s = c .before .before .before .before .before .before .pre .0 .2 in omega (arith, vehicle-inside (trackable-laid (s .trackable)) (s .inside), start-next (trackable-laid (s .trackable)) (s .inside), s .trackable .short)
-
-add-end : tie.Need-add-end
-add-end c = search needs
-
-mul-end : tie.Need-mul-end
-mul-end c = search needs
-
-shared-slice-read-end : tie.Need-shared-slice-read-end
-shared-slice-read-end c = search needs
 
 cast-end : tie.Need-cast-end
 cast-end c = let s = c .before .before .before .before .before .before .before .pre .0 .2 in omega (arith, vehicle-inside (trackable-laid (s .trackable)) (s .inside), s .trackable .short)
@@ -48,35 +33,11 @@ part-fill-before-start c = let s = c .before .before .before .before .before .be
 part-fill-before-end : tie.Need-part-fill-before-end
 part-fill-before-end c = let s = c .before .before .before .before .before .before .before .pre .0 .2 in omega (arith, vehicle-inside (trackable-laid (s .trackable)) (s .inside), start-next (trackable-laid (s .trackable)) (s .inside))
 
-sub-fill-before-2 : tie.Need-sub-fill-before-2
-sub-fill-before-2 c = search needs
-
-part-fill-before-start-2 : tie.Need-part-fill-before-start-2
-part-fill-before-start-2 c = search needs
-
-part-fill-before-end-2 : tie.Need-part-fill-before-end-2
-part-fill-before-end-2 c = search needs
-
 fill-before-requires : tie.Need-fill-before-requires
 fill-before-requires c κs = let s = c .before .before .before .before .before .before .before .before .before .before .pre .0 .2 in (c .before .before .before .before .before .before .before .before .before .before .pre .0 .0, c .before .before .before .before .before .before .before .before .before .before .pre .0 .1, record { tasks = _; walks = vehicle-walks (s .trackable) (s .inside) refl }, before-size (c .before .before .before .before .before .before .before .before .before .before .args .tracks .now) (c .before .before .before .before .before .before .before .before .before .before .pre .1), vehicle-short (s .trackable) (s .inside))
 
-sub-fill-behind : tie.Need-sub-fill-behind
-sub-fill-behind c = search needs
-
-part-fill-behind-start : tie.Need-part-fill-behind-start
-part-fill-behind-start c = search needs
-
-part-fill-behind-end : tie.Need-part-fill-behind-end
-part-fill-behind-end c = search needs
-
 fill-behind-requires : tie.Need-fill-behind-requires
 fill-behind-requires c κs = let s = c .before .before .before .before .before .before .before .before .before .before .before .before .before .before .before .before .pre .0 .2 in (c .before .before .before .before .before .before .before .before .before .before .before .before .before .before .before .before .pre .0 .0, s .trackable .short, vehicle-placed (s .trackable) (s .inside), behind-size (firstBack (c .before .before .before .before .before .before .before .before .before .before .before .before .before .before .before .before .args .tracks .now) (c .before .before .before .before .before .fill-before .last .1 .1 .1 .1 .0)) (first-size (c .before .before .before .before .before .before .before .before .before .before .before .before .before .before .before .before .args .tracks .now) (c .before .before .before .before .before .fill-before .last .1 .1 .1 .1 .0) (c .before .before .before .before .before .before .before .before .before .before .before .before .before .before .before .before .pre .1) (c .before .before .before .before .before .fill-before .kept .1 .1 .1 .1 .0)))
-
-sub-fill-spots : tie.Need-sub-fill-spots
-sub-fill-spots c = search needs
-
-part-fill-spots-start : tie.Need-part-fill-spots-start
-part-fill-spots-start c = search needs
 
 part-fill-spots-end : tie.Need-part-fill-spots-end
 part-fill-spots-end c = omega (arith, second-size (c .before .before .before .before .before .before .before .before .before .before .before .before .before .before .before .before .before .before .before .args .tracks .now) (c .before .before .before .before .before .before .before .before .fill-before .last .1 .1 .1 .1 .0) (c .before .before .before .before .before .before .before .before .before .before .before .before .before .before .before .before .before .before .before .pre .1) (c .before .before .before .before .before .before .before .before .fill-before .kept .1 .1 .1 .1 .0) (c .before .before .fill-behind .last .1 .1 .1 .1 .1 .0) (c .before .before .fill-behind .kept .1 .1 .1 .1 .1 .0))
@@ -87,9 +48,6 @@ fill-spots-requires c κs = let s = c .before .before .before .before .before .b
 same-length : tie.Need-same-length
 same-length c = all-size (c .before .before .before .before .before .before .before .before .before .before .before .before .before .before .before .before .before .before .before .before .before .before .before .args .tracks .now) (c .before .before .before .before .before .before .before .before .before .before .before .before .fill-before .last .1 .1 .1 .1 .0) (c .before .before .before .before .before .before .before .before .before .before .before .before .before .before .before .before .before .before .before .before .before .before .before .pre .1) (c .before .before .before .before .before .before .before .before .before .before .before .before .fill-before .kept .1 .1 .1 .1 .0) (c .before .before .before .before .before .before .fill-behind .last .1 .1 .1 .1 .1 .0) (c .before .before .before .before .before .before .fill-behind .kept .1 .1 .1 .1 .1 .0) (c .before .before .fill-spots .last .1 .1 .1 .0) (c .before .before .fill-spots .kept .1 .1 .1 .0) ∙ sym (c .before .before .before .before .before .before .before .before .before .before .before .before .before .before .before .before .before .before .before .before .before .before .before .pre .1)
 
-same-length-2 : tie.Need-same-length-2
-same-length-2 c = search needs
-
 returns : tie.Need-returns
 returns c = λ rounds lefts t l. tracked-back (c .before .before .before .before .before .before .before .before .before .before .before .before .before .before .before .before .before .before .before .before .before .before .before .args .tracks .now) (c .before .before .before .before .before .before .before .before .before .before .before .before .fill-before .last .1 .1 .1 .1 .0) (c .before .before .before .before .before .before .before .before .before .before .before .before .before .before .before .before .before .before .before .before .before .before .before .pre .1) (c .before .before .before .before .before .before .before .before .before .before .before .before .fill-before .kept .1 .1 .1 .1 .0) (c .before .before .before .before .before .before .fill-behind .last .1 .1 .1 .1 .1 .0) (c .before .before .before .before .before .before .fill-behind .kept .1 .1 .1 .1 .1 .0) (c .before .before .fill-spots .last .1 .1 .1 .0) (c .before .before .fill-spots .kept .1 .1 .1 .0) (vehicle-tracked t l refl (c .before .before .before .before .before .before .before .before .before .before .before .before .fill-before .ensures) (c .before .before .before .before .before .before .fill-behind .ensures))
 
@@ -97,31 +55,31 @@ pub track-vehicle-spec : {M : Type 1} → statement M
 track-vehicle-spec =
     tie.close
     (tie.spec
-    mul-from
-    shared-slice-read-from
+    (λ c. search needs)
+    (λ c. search needs)
     cast-from
     add-from
-    add-end
-    mul-end
-    shared-slice-read-end
+    (λ c. search needs)
+    (λ c. search needs)
+    (λ c. search needs)
     cast-end
     sub-end
     mul-fill-before
     sub-fill-before
     part-fill-before-start
     part-fill-before-end
-    sub-fill-before-2
-    part-fill-before-start-2
-    part-fill-before-end-2
+    (λ c. search needs)
+    (λ c. search needs)
+    (λ c. search needs)
     fill-before-requires
-    sub-fill-behind
-    part-fill-behind-start
-    part-fill-behind-end
+    (λ c. search needs)
+    (λ c. search needs)
+    (λ c. search needs)
     fill-behind-requires
-    sub-fill-spots
-    part-fill-spots-start
+    (λ c. search needs)
+    (λ c. search needs)
     part-fill-spots-end
     fill-spots-requires
     same-length
-    same-length-2
+    (λ c. search needs)
     returns)

@@ -16,9 +16,6 @@ abbrev μ-loop : tie.MeasureT-loop
 loop-holds : tie.Need-loop-holds Inv-loop μ-loop
 loop-holds c = (search needs, λ s. refl)
 
-pair-at-requires : tie.Need-pair-at-requires Inv-loop μ-loop
-pair-at-requires c κs = search needs
-
 returns : tie.Need-returns Inv-loop μ-loop
 returns c = pair-found _ _ _ _ _ _ _ (c .before .before .before .before .loop .inv .1) (c .before .pair-at .ensures) (c .if2 .taken)
 
@@ -27,9 +24,6 @@ loop-less c = c .before .before .pair-at .ensures .falls (c .before .if2 .left)
 
 loop-again : tie.Need-loop-again Inv-loop μ-loop
 loop-again c = (c .before .before .pair-at .ensures .first, pass-on _ _ _ _ _ _ _ (c .before .before .before .before .before .loop .inv .1) (c .before .before .pair-at .ensures) (c .before .if2 .left))
-
-no-pair-requires : tie.Need-no-pair-requires Inv-loop μ-loop
-no-pair-requires c κs = search needs
 
 returns-2 : tie.Need-returns-2 Inv-loop μ-loop
 returns-2 c = pairs-end _ _ _ _ _ _ _ (c .before .before .before .loop .inv .1) (c .before .before .before .loop .inv .0) (c .before .if1 .left) (c .no-pair .ensures)
@@ -41,9 +35,9 @@ next-pair-spec =
     Inv-loop
     μ-loop
     loop-holds
-    pair-at-requires
+    (λ c κs. search needs)
     returns
     loop-less
     loop-again
-    no-pair-requires
+    (λ c κs. search needs)
     returns-2)

@@ -27,9 +27,6 @@ loop-less c = c .before .before .tip-at .ensures _ (c .before .before .before .b
 loop-again : tie.Need-loop-again Inv-loop μ-loop
 loop-again c = let step = c .before .before .tip-at .ensures _ (c .before .before .before .before .before .before .before .before .pre .0) (c .before .before .before .if1 .taken) (c .before .before .before .before .before .loop .inv .0) in (step .fits, pass-on _ _ _ _ _ _ _ (c .before .before .before .before .before .loop .inv .1) step (c .before .if2 .left))
 
-no-tip-requires : tie.Need-no-tip-requires Inv-loop μ-loop
-no-tip-requires c κs = search needs
-
 returns-2 : tie.Need-returns-2 Inv-loop μ-loop
 returns-2 c = tips-end _ _ _ _ _ _ _ (c .before .before .before .loop .inv .1) (c .before .if1 .left) (c .no-tip .ensures)
 
@@ -44,5 +41,5 @@ next-tip-spec =
     returns
     loop-less
     loop-again
-    no-tip-requires
+    (λ c κs. search needs)
     returns-2)

@@ -5,35 +5,11 @@ use borrow.Author.Needs.{needs}
 use Rattle.trial_list.proofs.listing.tip_trial.Statement.{statement}
 use Rattle.trial_list.proofs.listing.tip_trial.Tie as tie
 
-add-number : tie.Need-add-number
-add-number c = search needs
-
-found-tip-requires : tie.Need-found-tip-requires
-found-tip-requires c κs = search needs
-
 returns : tie.Need-returns
 returns c = let h = c .found-tip .ensures in tells-removal _ _ _ _ (c .before .if1 .taken) (h .0) (h .1) (h .2)
 
-other-tip-requires : tie.Need-other-tip-requires
-other-tip-requires c κs = search needs
-
-add-t12 : tie.Need-add-t12
-add-t12 c = search needs
-
-cast-t13 : tie.Need-cast-t13
-cast-t13 c = search needs
-
-found-tip-requires-2 : tie.Need-found-tip-requires-2
-found-tip-requires-2 c κs = search needs
-
 returns-2 : tie.Need-returns-2
 returns-2 c = let h = c .found-tip2 .ensures in tells-other _ _ _ _ _ (c .before .before .before .if1 .left) (c .before .before .other-tip .ensures) (c .before .if2 .taken) (h .0) (h .1) (h .2)
-
-next-task-requires : tie.Need-next-task-requires
-next-task-requires c κs = search needs
-
-no-tip-requires : tie.Need-no-tip-requires
-no-tip-requires c κs = search needs
 
 returns-3 : tie.Need-returns-3
 returns-3 c = tells-none _ _ _ _ _ (c .before .before .before .before .if1 .left) (c .before .before .before .other-tip .ensures) (c .before .before .if2 .left) (c .no-tip .ensures .0, c .no-tip .ensures .1 ∙ c .before .next-task .ensures)
@@ -42,14 +18,14 @@ pub tip-trial-spec : {M : Type 1} → statement M
 tip-trial-spec =
     tie.close
     (tie.spec
-    add-number
-    found-tip-requires
+    (λ c. search needs)
+    (λ c κs. search needs)
     returns
-    other-tip-requires
-    add-t12
-    cast-t13
-    found-tip-requires-2
+    (λ c κs. search needs)
+    (λ c. search needs)
+    (λ c. search needs)
+    (λ c κs. search needs)
     returns-2
-    next-task-requires
-    no-tip-requires
+    (λ c κs. search needs)
+    (λ c κs. search needs)
     returns-3)

@@ -7,16 +7,10 @@ use Rattle.trial_list.proofs.survey.drive_on.Tie as tie
 returns : tie.Need-returns
 returns c = (search place-rests, search distance-rests)
 
-place-of-requires : tie.Need-place-of-requires
-place-of-requires c κs = search needs
-
 leg-between-requires : tie.Need-leg-between-requires
 leg-between-requires c κs =
     let p = c .before .before .before .pre in
     (p .0, p .2, ride-inside _ _ _ _ (p .0) (c .place-of .ensures) (c .before .if1 .left) (p .1))
-
-add-t9 : tie.Need-add-t9
-add-t9 c = search needs
 
 returns-2 : tie.Need-returns-2
 returns-2 c =
@@ -25,4 +19,4 @@ returns-2 c =
 
 pub drive-on-spec : {M : Type 1} → statement M
 drive-on-spec =
-    tie.close (tie.spec returns place-of-requires leg-between-requires add-t9 returns-2)
+    tie.close (tie.spec returns (λ c κs. search needs) leg-between-requires (λ c. search needs) returns-2)

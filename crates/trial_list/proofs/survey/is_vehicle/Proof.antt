@@ -6,12 +6,6 @@ use Rattle.trial_list.specs.Survey.{isVehicle}
 use Rattle.trial_list.proofs.survey.is_vehicle.Statement.{statement}
 use Rattle.trial_list.proofs.survey.is_vehicle.Tie as tie
 
-mul-result : tie.Need-mul-result
-mul-result c = search needs
-
-shared-slice-read-result : tie.Need-shared-slice-read-result
-shared-slice-read-result c = search needs
-
 returns : tie.Need-returns
 unfolding isVehicle
 returns c = rw (lt-ltb _ _ (c .before .if1 .taken)) refl
@@ -21,4 +15,4 @@ unfolding isVehicle
 returns-2 c = rw (le-ltb _ _ (c .if1 .left)) refl
 
 pub is-vehicle-spec : {M : Type 1} → statement M
-is-vehicle-spec = tie.close (tie.spec mul-result shared-slice-read-result returns returns-2)
+is-vehicle-spec = tie.close (tie.spec (λ c. search needs) (λ c. search needs) returns returns-2)

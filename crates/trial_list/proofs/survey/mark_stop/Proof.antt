@@ -5,20 +5,11 @@ use Rattle.trial_list.proofs.RideLaws.{vehicles-first, vehicles-later, 
 use Rattle.trial_list.proofs.survey.mark_stop.Statement.{statement}
 use Rattle.trial_list.proofs.survey.mark_stop.Tie as tie
 
-sub-k : tie.Need-sub-k
-sub-k c = search needs
-
-cast-k : tie.Need-cast-k
-cast-k c = search needs
-
 slice-read-if2 : tie.Need-slice-read-if2
 slice-read-if2 c = let p = c .before .before .pre in omega (arith, p .0, p .2 (c .before .if1 .taken))
 
 slice-write-vehicles : tie.Need-slice-write-vehicles
 slice-write-vehicles c = let p = c .before .before .before .pre in omega (arith, p .0, p .2 (c .before .before .if1 .taken))
-
-same-length : tie.Need-same-length
-same-length c = search needs
 
 returns : tie.Need-returns
 returns c = search vehicles-first
@@ -33,11 +24,11 @@ pub mark-stop-spec : {M : Type 1} → statement M
 mark-stop-spec =
     tie.close
     (tie.spec
-    sub-k
-    cast-k
+    (λ c. search needs)
+    (λ c. search needs)
     slice-read-if2
     slice-write-vehicles
-    same-length
+    (λ c. search needs)
     returns
     returns-2
     returns-3)

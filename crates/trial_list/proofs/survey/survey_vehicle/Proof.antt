@@ -17,18 +17,6 @@ abbrev μ-loop : tie.MeasureT-loop
 loop-holds : tie.Need-loop-holds Inv-loop μ-loop
 loop-holds c = let p = c .before .before .before .pre in rides-start (p .2) _ _ (p .4)
 
-mul-if1 : tie.Need-mul-if1 Inv-loop μ-loop
-mul-if1 c = search needs
-
-shared-slice-read-if1 : tie.Need-shared-slice-read-if1 Inv-loop μ-loop
-shared-slice-read-if1 c = search needs
-
-mul-w : tie.Need-mul-w Inv-loop μ-loop
-mul-w c = search needs
-
-shared-slice-read-w : tie.Need-shared-slice-read-w Inv-loop μ-loop
-shared-slice-read-w c = search needs
-
 mark-stop-requires : tie.Need-mark-stop-requires Inv-loop μ-loop
 mark-stop-requires c κs =
     let l = c .before .before .before .before .loop in
@@ -42,30 +30,15 @@ drive-on-requires c κs =
     let o = l .inv .onward in
     (p .0, rides-word (p .2) (l .inv) (c .before .before .before .before .before .if1 .taken), omega (arith, o .inside, p .0 .placesAre), omega (arith, o .few, o .within, p .1))
 
-add-at : tie.Need-add-at Inv-loop μ-loop
-add-at c = search needs
-
-loop-less : tie.Need-loop-less Inv-loop μ-loop
-loop-less c = search needs
-
 loop-again : tie.Need-loop-again Inv-loop μ-loop
 loop-again c =
     let p = c .before .before .before .before .before .before .before .before .before .before .before .before .pre in
     rides-next (p .2) (c .before .before .before .before .before .before .before .before .loop .inv) _ _ _ (c .before .before .before .before .before .before .if1 .taken) (p .3) (c .before .before .before .mark-stop .ensures) (c .drive-on .ensures .0) (c .drive-on .ensures .1)
 
-leg-between-requires : tie.Need-leg-between-requires Inv-loop μ-loop
-leg-between-requires c κs = search needs
-
-add-t21 : tie.Need-add-t21 Inv-loop μ-loop
-add-t21 c = search needs
-
 add-t22 : tie.Need-add-t22 Inv-loop μ-loop
 add-t22 c =
     let o = c .before .before .before .before .loop .inv .onward in
     omega (arith, o .few, o .within, c .before .before .before .before .before .before .before .before .pre .1, c .before .leg-between .ensures .spans)
-
-same-length : tie.Need-same-length Inv-loop μ-loop
-same-length c = search needs
 
 returns : tie.Need-returns Inv-loop μ-loop
 returns c = rides-end (c .before .before .before .before .before .before .before .before .pre .2) (c .before .before .before .before .loop .inv) _ _ (c .before .before .if1 .left) (c .before .leg-between .ensures) refl refl
@@ -77,17 +50,17 @@ survey-vehicle-spec =
     Inv-loop
     μ-loop
     loop-holds
-    mul-if1
-    shared-slice-read-if1
-    mul-w
-    shared-slice-read-w
+    (λ c. search needs)
+    (λ c. search needs)
+    (λ c. search needs)
+    (λ c. search needs)
     mark-stop-requires
     drive-on-requires
-    add-at
-    loop-less
+    (λ c. search needs)
+    (λ c. search needs)
     loop-again
-    leg-between-requires
-    add-t21
+    (λ c κs. search needs)
+    (λ c. search needs)
     add-t22
-    same-length
+    (λ c. search needs)
     returns)

@@ -16,21 +16,6 @@ survey-requires c κs = let p = c .before .before .before .before .before .befor
 track-requires : tie.Need-track-requires
 track-requires c κs = let p = c .before .before .before .before .before .before .before .before .before .before .before .before .before .before .before .before .before .before .before .before .pre .0 in let s = p .2 in ((p .0, p .1, some-trackable (p .1) (s .shaped) (held-survey (p .1) s (c .before .before .before .before .before .before .before .before .before .survey .ensures)) (s .text) (room-is (p .0) (p .3))), c .before .before .before .before .before .before .before .before .before .before .before .before .before .before .before .before .before .before .before .before .pre .1 .3)
 
-same-length : tie.Need-same-length
-same-length c = search needs
-
-same-length-2 : tie.Need-same-length-2
-same-length-2 c = search needs
-
-same-length-3 : tie.Need-same-length-3
-same-length-3 c = search needs
-
-same-length-4 : tie.Need-same-length-4
-same-length-4 c = search needs
-
-same-length-5 : tie.Need-same-length-5
-same-length-5 c = search needs
-
 returns : tie.Need-returns
 returns c = tables-made (c .before .before .before .before .before .before .before .before .before .before .before .before .before .before .before .before .before .before .before .before .before .before .before .before .before .pre .0 .1) (room-is (c .before .before .before .before .before .before .before .before .before .before .before .before .before .before .before .before .before .before .before .before .before .before .before .before .before .pre .0 .0) (c .before .before .before .before .before .before .before .before .before .before .before .before .before .before .before .before .before .before .before .before .before .before .before .before .before .pre .0 .3)) (c .before .before .before .before .before .before .before .before .before .before .before .before .before .before .survey .ensures) (c .before .before .before .before .track .ensures)
 
@@ -40,9 +25,9 @@ make-tables-spec =
     (tie.spec
     survey-requires
     track-requires
-    same-length
-    same-length-2
-    same-length-3
-    same-length-4
-    same-length-5
+    (λ c. search needs)
+    (λ c. search needs)
+    (λ c. search needs)
+    (λ c. search needs)
+    (λ c. search needs)
     returns)

@@ -17,38 +17,11 @@ take-over-requires c κs = let h = c .before .before .before .before .before .be
 add-going : tie.Need-add-going
 add-going c = omega (arith, c .before .before .before .before .before .before .before .before .before .before .before .before .before .before .before .before .before .before .before .before .before .before .before .before .before .before .before .before .pre .4 .left, c .before .before .before .before .before .before .before .before .before .before .before .before .before .before .before .before .before .before .before .before .before .before .before .before .before .before .before .before .good, c .struct-known .given)
 
-first-trial-requires : tie.Need-first-trial-requires
-first-trial-requires c κs = search needs
-
-going-requires : tie.Need-going-requires
-going-requires c κs = search needs
-
 same-length : tie.Need-same-length
 same-length c = c .before .before .before .before .before .before .before .before .before .before .before .before .before .before .before .take-over .kept .1 .1 .0
 
-same-length-2 : tie.Need-same-length-2
-same-length-2 c = search needs
-
-same-length-3 : tie.Need-same-length-3
-same-length-3 c = search needs
-
-same-length-4 : tie.Need-same-length-4
-same-length-4 c = search needs
-
-same-length-5 : tie.Need-same-length-5
-same-length-5 c = search needs
-
-same-length-6 : tie.Need-same-length-6
-same-length-6 c = search needs
-
 returns : tie.Need-returns
 returns c = let e = c .going .ensures in (keeps-plan (c .before .before .before .before .before .before .before .before .before .before .before .before .before .before .before .before .before .before .before .before .before .before .before .before .before .before .before .before .before .before .pre .4) _ (c .before .before .before .before .before .before .before .before .before .before .before .before .before .before .before .before .before .before .before .before .before .before .if1 .taken) (c .before .before .before .before .before .before .before .before .before .before .before .before .before .before .before .take-over .ensures) (e .0) (e .1) (e .2) (e .3) (e .4 ∙ c .before .first-trial .ensures) (e .5), omega (arith, e .3))
-
-add-going-2 : tie.Need-add-going-2
-add-going-2 c = search needs
-
-going-requires-2 : tie.Need-going-requires-2
-going-requires-2 c κs = search needs
 
 returns-2 : tie.Need-returns-2
 returns-2 c = let e = c .going2 .ensures in (goes-on (c .before .before .before .before .before .before .before .before .before .before .pre .4) _ (c .before .before .if1 .left) (e .0) (e .1) (e .2) (e .3) (e .4) (e .5), omega (arith, e .3))
@@ -59,15 +32,15 @@ after-trial-spec =
     (tie.spec
     take-over-requires
     add-going
-    first-trial-requires
-    going-requires
+    (λ c κs. search needs)
+    (λ c κs. search needs)
     same-length
-    same-length-2
-    same-length-3
-    same-length-4
-    same-length-5
-    same-length-6
+    (λ c. search needs)
+    (λ c. search needs)
+    (λ c. search needs)
+    (λ c. search needs)
+    (λ c. search needs)
     returns
-    add-going-2
-    going-requires-2
+    (λ c. search needs)
+    (λ c κs. search needs)
     returns-2)

@@ -10,47 +10,14 @@ use Rattle.trials.proofs.search.take_over.Lts as lts
 use Rattle.attempts.proofs.candidate.copy_words.Reads as copy-words-reads
 use Rattle.trials.proofs.held.make_tables.Reads as make-tables-reads
 
-sub-copy-words : tie.Need-sub-copy-words
-sub-copy-words c = search needs
-
-part-copy-words-start : tie.Need-part-copy-words-start
-part-copy-words-start c = search needs
-
-part-copy-words-end : tie.Need-part-copy-words-end
-part-copy-words-end c = search needs
-
 copy-words-requires : tie.Need-copy-words-requires
 copy-words-requires c κs = let s = c .before .before .before .before .before .before .before .before .before .before .pre .0 .2 in omega (arith, slice-size (s .planAt), words-most (s .planAt), room-is (c .before .before .before .before .before .before .before .before .before .before .pre .0 .0) (c .before .before .before .before .before .before .before .before .before .before .pre .0 .3))
-
-sub-make-tables : tie.Need-sub-make-tables
-sub-make-tables c = search needs
-
-part-make-tables-start : tie.Need-part-make-tables-start
-part-make-tables-start c = search needs
 
 part-make-tables-end : tie.Need-part-make-tables-end
 part-make-tables-end c = let s = c .before .before .before .before .before .before .before .before .before .before .before .before .before .before .pre .0 .2 in omega (arith, words-most (s .planAt), room-is (c .before .before .before .before .before .before .before .before .before .before .before .before .before .before .pre .0 .0) (c .before .before .before .before .before .before .before .before .before .before .before .before .before .before .pre .0 .3), c .before .before .before .copy-words .ensures .size)
 
 make-tables-requires : tie.Need-make-tables-requires
 make-tables-requires c κs = let s = c .before .before .before .before .before .before .before .before .before .before .before .before .before .before .before .before .before .before .before .before .pre .0 .2 in let h = copied (s .planAt) (c .before .before .before .before .before .before .before .before .before .copy-words .ensures) (omega (arith, words-most (s .planAt), room-is (c .before .before .before .before .before .before .before .before .before .before .before .before .before .before .before .before .before .before .before .before .pre .0 .0) (c .before .before .before .before .before .before .before .before .before .before .before .before .before .before .before .before .before .before .before .before .pre .0 .3), c .before .before .before .before .before .before .before .before .before .copy-words .ensures .size)) in ((c .before .before .before .before .before .before .before .before .before .before .before .before .before .before .before .before .before .before .before .before .pre .0 .0, c .before .before .before .before .before .before .before .before .before .before .before .before .before .before .before .before .before .before .before .before .pre .0 .1, some-held (record { rounds = s .rounds; planAt = h }), c .before .before .before .before .before .before .before .before .before .before .before .before .before .before .before .before .before .before .before .before .pre .0 .4), c .before .before .before .before .before .before .before .before .before .before .before .before .before .before .before .before .before .before .before .before .pre .1)
-
-same-length : tie.Need-same-length
-same-length c = search needs
-
-same-length-2 : tie.Need-same-length-2
-same-length-2 c = search needs
-
-same-length-3 : tie.Need-same-length-3
-same-length-3 c = search needs
-
-same-length-4 : tie.Need-same-length-4
-same-length-4 c = search needs
-
-same-length-5 : tie.Need-same-length-5
-same-length-5 c = search needs
-
-same-length-6 : tie.Need-same-length-6
-same-length-6 c = search needs
 
 returns : tie.Need-returns
 returns c = λ rounds h. taken-over (copied h (c .before .before .before .before .before .before .before .before .before .before .before .before .before .before .before .before .before .before .before .before .copy-words .ensures) (omega (arith, words-most h, room-is (c .before .before .before .before .before .before .before .before .before .before .before .before .before .before .before .before .before .before .before .before .before .before .before .before .before .before .before .before .before .before .before .pre .0 .0) (c .before .before .before .before .before .before .before .before .before .before .before .before .before .before .before .before .before .before .before .before .before .before .before .before .before .before .before .before .before .before .before .pre .0 .3), c .before .before .before .before .before .before .before .before .before .before .before .before .before .before .before .before .before .before .before .before .copy-words .ensures .size))) (c .before .before .before .before .before .before .before .before .before .before .make-tables .ensures)
@@ -59,18 +26,18 @@ pub take-over-spec : {M : Type 1} → statement M
 take-over-spec =
     tie.close
     (tie.spec
-    sub-copy-words
-    part-copy-words-start
-    part-copy-words-end
+    (λ c. search needs)
+    (λ c. search needs)
+    (λ c. search needs)
     copy-words-requires
-    sub-make-tables
-    part-make-tables-start
+    (λ c. search needs)
+    (λ c. search needs)
     part-make-tables-end
     make-tables-requires
-    same-length
-    same-length-2
-    same-length-3
-    same-length-4
-    same-length-5
-    same-length-6
+    (λ c. search needs)
+    (λ c. search needs)
+    (λ c. search needs)
+    (λ c. search needs)
+    (λ c. search needs)
+    (λ c. search needs)
     returns)

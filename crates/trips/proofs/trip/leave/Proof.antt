@@ -4,11 +4,8 @@ use Rattle.trips.proofs.Driving.{leaves}
 use Rattle.trips.proofs.trip.leave.Statement.{statement}
 use Rattle.trips.proofs.trip.leave.Tie as tie
 
-depot-window-requires : tie.Need-depot-window-requires
-depot-window-requires c κs = search needs
-
 returns : tie.Need-returns
 returns c = search leaves
 
 pub leave-spec : {M : Type 1} → statement M
-leave-spec = tie.close (tie.spec depot-window-requires returns)
+leave-spec = tie.close (tie.spec (λ c κs. search needs) returns)

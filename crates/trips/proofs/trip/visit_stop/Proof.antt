@@ -4,15 +4,6 @@ use Rattle.trips.proofs.Driving.{stop-window, stop-minutes, stop-visite
 use Rattle.trips.proofs.trip.visit_stop.Statement.{statement}
 use Rattle.trips.proofs.trip.visit_stop.Tie as tie
 
-stop-window-requires : tie.Need-stop-window-requires
-stop-window-requires c κs = search needs
-
-stop-service-requires : tie.Need-stop-service-requires
-stop-service-requires c κs = search needs
-
-add-visit : tie.Need-add-visit
-add-visit c = search needs
-
 visit-requires : tie.Need-visit-requires
 visit-requires c κs = (search needs, search needs, search stop-place, search stop-window, search stop-minutes)
 
@@ -22,4 +13,4 @@ returns c = search stop-visited
 pub visit-stop-spec : {M : Type 1} → statement M
 visit-stop-spec =
     tie.close
-    (tie.spec stop-window-requires stop-service-requires add-visit visit-requires returns)
+    (tie.spec (λ c κs. search needs) (λ c κs. search needs) (λ c. search needs) visit-requires returns)

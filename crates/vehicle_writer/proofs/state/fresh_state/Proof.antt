@@ -7,13 +7,10 @@ use Rattle.rules.specs.declared.walk.Trip.{Trip}
 use Rattle.vehicle_writer.proofs.state.fresh_state.Statement.{statement}
 use Rattle.vehicle_writer.proofs.state.fresh_state.Tie as tie
 
-depot-window-requires : tie.Need-depot-window-requires
-depot-window-requires c κs = search needs
-
 returns : tie.Need-returns
 returns c =
     let at : ℕ → Trip = λ m. record { minute = m; place = 0; rested = false; distance = 0 } in
     (ap at (c .depot-window .ensures .opens), refl, refl)
 
 pub fresh-state-spec : {M : Type 1} → statement M
-fresh-state-spec = tie.close (tie.spec depot-window-requires returns)
+fresh-state-spec = tie.close (tie.spec (λ c κs. search needs) returns)

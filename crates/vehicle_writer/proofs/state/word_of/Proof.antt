@@ -5,17 +5,11 @@ use native.Mathlib.Omega.{arith}
 use Rattle.vehicle_writer.proofs.state.word_of.Statement.{statement}
 use Rattle.vehicle_writer.proofs.state.word_of.Tie as tie
 
-enum-known-next : tie.Need-enum-known-next
-enum-known-next c = search needs
-
 cast-result : tie.Need-cast-result
 cast-result c = let p = c .before .before .before .pre in let w = rw (c .before .next .given .1) at (p .0) in omega (arith, w .1, p .1)
 
 add-result : tie.Need-add-result
 add-result c = let p = c .before .before .before .pre in let w = rw (c .before .next .given .1) at (p .0) in omega (arith, w .1, p .1)
-
-enum-known-next-2 : tie.Need-enum-known-next-2
-enum-known-next-2 c = search needs
 
 cast-result-2 : tie.Need-cast-result-2
 cast-result-2 c = let p = c .before .before .before .pre in let w = rw (c .before .next2 .given .1) at (p .0) in omega (arith, w .1, p .2)
@@ -23,29 +17,23 @@ cast-result-2 c = let p = c .before .before .before .pre in let w = rw (c .befor
 add-result-2 : tie.Need-add-result-2
 add-result-2 c = let p = c .before .before .before .pre in let w = rw (c .before .next2 .given .1) at (p .0) in omega (arith, w .1, p .2)
 
-enum-told : tie.Need-enum-told
-enum-told c = search needs
-
 returns : tie.Need-returns
 returns c = rw (c .before .next .given .1) refl
 
 returns-2 : tie.Need-returns-2
 returns-2 c = rw (c .before .next2 .given .1) refl
 
-returns-3 : tie.Need-returns-3
-returns-3 c = search needs
-
 pub word-of-spec : {M : Type 1} → statement M
 word-of-spec =
     tie.close
     (tie.spec
-    enum-known-next
+    (λ c. search needs)
     cast-result
     add-result
-    enum-known-next-2
+    (λ c. search needs)
     cast-result-2
     add-result-2
-    enum-told
+    (λ c. search needs)
     returns
     returns-2
-    returns-3)
+    (λ c. search needs))

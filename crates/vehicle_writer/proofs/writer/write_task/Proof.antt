@@ -10,9 +10,6 @@ use Rattle.vehicle_writer.proofs.GoingLaws.{going-small, going-cargo, g
 use Rattle.vehicle_writer.proofs.writer.write_task.Statement.{statement}
 use Rattle.vehicle_writer.proofs.writer.write_task.Tie as tie
 
-word-of-requires : tie.Need-word-of-requires
-word-of-requires c κs = search needs
-
 mul-part : tie.Need-mul-part
 mul-part c = let p = c .before .before .before .pre in omega (arith, some-few (p .1) (p .2))
 
@@ -55,7 +52,7 @@ pub write-task-spec : {M : Type 1} → statement M
 write-task-spec =
     tie.close
     (tie.spec
-    word-of-requires
+    (λ c κs. search needs)
     mul-part
     slice-write-part
     do-task-requires

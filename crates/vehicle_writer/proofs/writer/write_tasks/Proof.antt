@@ -18,9 +18,6 @@ abbrev μ-loop : tie.MeasureT-loop
 loop-holds : tie.Need-loop-holds Inv-loop μ-loop
 loop-holds c = λ before number p g. g
 
-is-task-requires : tie.Need-is-task-requires Inv-loop μ-loop
-is-task-requires c κs = search needs
-
 write-task-requires : tie.Need-write-task-requires Inv-loop μ-loop
 write-task-requires c κs = (c .before .before .before .before .before .before .pre .0, still-going (c .before .before .before .before .before .before .pre .1) (c .before .before .before .loop .inv), sym (c .before .before .is-task .ensures) ∙ c .before .if1 .taken)
 
@@ -55,7 +52,7 @@ write-tasks-spec =
     Inv-loop
     μ-loop
     loop-holds
-    is-task-requires
+    (λ c κs. search needs)
     write-task-requires
     loop-less
     loop-again

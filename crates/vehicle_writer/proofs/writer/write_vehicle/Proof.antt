@@ -8,18 +8,6 @@ use Rattle.vehicle_writer.proofs.SettingOut.{out-first, out-space, out-
 use Rattle.vehicle_writer.proofs.writer.write_vehicle.Statement.{statement}
 use Rattle.vehicle_writer.proofs.writer.write_vehicle.Tie as tie
 
-fresh-state-requires : tie.Need-fresh-state-requires
-fresh-state-requires c κs = search needs
-
-set-out-requires : tie.Need-set-out-requires
-set-out-requires c κs = search needs
-
-is-task-requires : tie.Need-is-task-requires
-is-task-requires c κs = search needs
-
-add-part : tie.Need-add-part
-add-part c = search needs
-
 slice-write-part : tie.Need-slice-write-part
 slice-write-part c = let some = c .before .before .before .before .before .before .before .before .pre .2 in omega (arith, out-space (out-first (c .before .before .before .set-out .ensures) (c .before .before .before .before .before .fresh-state .ensures .2)) some (sym (c .before .before .is-task .ensures) ∙ c .before .if1 .taken))
 
@@ -59,10 +47,10 @@ pub write-vehicle-spec : {M : Type 1} → statement M
 write-vehicle-spec =
     tie.close
     (tie.spec
-    fresh-state-requires
-    set-out-requires
-    is-task-requires
-    add-part
+    (λ c κs. search needs)
+    (λ c κs. search needs)
+    (λ c κs. search needs)
+    (λ c. search needs)
     slice-write-part
     write-rest-requires
     write-tasks-requires

@@ -7,18 +7,6 @@ use borrow.Author.Needs.{needs}
 use Rattle.walks.proofs.cabs.empty_cab.Statement.{statement}
 use Rattle.walks.proofs.cabs.empty_cab.Tie as tie
 
-tip-window-requires : tie.Need-tip-window-requires
-tip-window-requires c κs = search needs
-
-tip-service-requires : tie.Need-tip-service-requires
-tip-service-requires c κs = search needs
-
-cast-part : tie.Need-cast-part
-cast-part c = search needs
-
-add-part : tie.Need-add-part
-add-part c = search needs
-
 mul-part : tie.Need-mul-part
 mul-part c = omega (arith, standing-space (c .before .before .before .before .before .pre .2 .standing) .few)
 
@@ -31,9 +19,6 @@ visit-requires c κs = (c .before .before .before .before .before .pre .0, weake
 add-t12 : tie.Need-add-t12
 add-t12 c = omega (arith, standing-space (c .before .before .before .before .before .before .pre .2 .standing) .few)
 
-same-length : tie.Need-same-length
-same-length c = search needs
-
 returns : tie.Need-returns
 returns c = empty-drives _ _ _ (c .before .before .before .before .before .before .pre .1) (c .before .before .before .before .before .before .pre .3) (c .before .before .before .before .before .before .pre .4) (omega (arith, c .before .before .before .before .before .before .pre .5, c .before .before .before .before .before .before .pre .0 .tipsAre)) refl (c .visit .ensures) refl refl refl refl
 
@@ -41,13 +26,13 @@ pub empty-cab-spec : {M : Type 1} → statement M
 empty-cab-spec =
     tie.close
     (tie.spec
-    tip-window-requires
-    tip-service-requires
-    cast-part
-    add-part
+    (λ c κs. search needs)
+    (λ c κs. search needs)
+    (λ c. search needs)
+    (λ c. search needs)
     mul-part
     slice-write-part
     visit-requires
     add-t12
-    same-length
+    (λ c. search needs)
     returns)

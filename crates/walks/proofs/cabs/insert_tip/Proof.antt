@@ -12,14 +12,8 @@ nearest-tip-requires c κs = let t = standing-trip (c .before .before .before .p
 returns : tie.Need-returns
 returns c = insert-fails _ _ (c .before .nearest-tip .ensures .0) (c .if1 .taken) refl
 
-empty-cab-requires : tie.Need-empty-cab-requires
-empty-cab-requires c κs = search needs
-
 rest-cab-requires : tie.Need-rest-cab-requires
 rest-cab-requires c κs = (c .before .before .before .before .before .before .before .before .before .before .pre .0, c .before .before .before .before .before .before .before .before .before .before .pre .1, some-still _ (c .before .before .before .before .before .before .before .before .before .before .pre .2) (c .before .before .before .empty-cab .ensures))
-
-same-length : tie.Need-same-length
-same-length c = search needs
 
 returns-2 : tie.Need-returns-2
 returns-2 c = insert-drives _ _ _ (c .before .before .before .before .before .before .before .before .before .nearest-tip .ensures .0) (c .before .before .before .before .before .before .before .before .if1 .left) (c .before .before .before .before .before .before .empty-cab .ensures) (c .before .before .rest-cab .ensures)
@@ -30,7 +24,7 @@ insert-tip-spec =
     (tie.spec
     nearest-tip-requires
     returns
-    empty-cab-requires
+    (λ c κs. search needs)
     rest-cab-requires
-    same-length
+    (λ c. search needs)
     returns-2)

@@ -7,14 +7,8 @@ use Rattle.walks.proofs.cabs.is_full.Tie as tie
 returns : tie.Need-returns
 returns c = search not-full
 
-load-limit-requires : tie.Need-load-limit-requires
-load-limit-requires c κs = search needs
-
-add-result : tie.Need-add-result
-add-result c = search needs
-
 returns-2 : tie.Need-returns-2
 returns-2 c = search is-full
 
 pub is-full-spec : {M : Type 1} → statement M
-is-full-spec = tie.close (tie.spec returns load-limit-requires add-result returns-2)
+is-full-spec = tie.close (tie.spec returns (λ c κs. search needs) (λ c. search needs) returns-2)

@@ -6,9 +6,6 @@ use borrow.Author.Needs.{needs}
 use Rattle.walks.proofs.cabs.rest_cab.Statement.{statement}
 use Rattle.walks.proofs.cabs.rest_cab.Tie as tie
 
-is-due-requires : tie.Need-is-due-requires
-is-due-requires c κs = search needs
-
 mul-part : tie.Need-mul-part
 mul-part c = omega (arith, standing-space (c .before .before .before .before .before .pre .2 .standing) .few)
 
@@ -21,9 +18,6 @@ rest-if-due-requires c κs = (c .before .before .before .before .before .pre .0,
 add-t8 : tie.Need-add-t8
 add-t8 c = omega (arith, standing-space (c .before .before .before .before .before .before .pre .2 .standing) .few)
 
-same-length : tie.Need-same-length
-same-length c = search needs
-
 returns : tie.Need-returns
 returns c = rest-drives _ _ (c .before .before .before .before .before .before .pre .1) (sym (c .before .before .is-due .ensures) ∙ c .before .if1 .taken) refl (c .rest-if-due .ensures) refl refl refl
 
@@ -34,11 +28,11 @@ pub rest-cab-spec : {M : Type 1} → statement M
 rest-cab-spec =
     tie.close
     (tie.spec
-    is-due-requires
+    (λ c κs. search needs)
     mul-part
     slice-write-part
     rest-if-due-requires
     add-t8
-    same-length
+    (λ c. search needs)
     returns
     returns-2)

@@ -7,12 +7,6 @@ use borrow.Author.Needs.{needs}
 use Rattle.walks.proofs.cabs.serve_cab.Statement.{statement}
 use Rattle.walks.proofs.cabs.serve_cab.Tie as tie
 
-cast-part : tie.Need-cast-part
-cast-part c = search needs
-
-add-part : tie.Need-add-part
-add-part c = search needs
-
 mul-part : tie.Need-mul-part
 mul-part c = omega (arith, standing-space (c .before .before .before .pre .2 .standing) .few)
 
@@ -22,17 +16,11 @@ slice-write-part c = standing-space (c .before .before .before .pre .2 .standing
 visit-stop-requires : tie.Need-visit-stop-requires
 visit-stop-requires c κs = (c .before .before .before .pre .0, weaker-trip _ _ _ _ (omega arith) (standing-trip (c .before .before .before .pre .2 .standing)), c .before .before .before .pre .3, c .before .before .before .pre .4)
 
-stop-quantity-requires : tie.Need-stop-quantity-requires
-stop-quantity-requires c κs = search needs
-
 add-t9 : tie.Need-add-t9
 add-t9 c = omega (arith, standing-load (c .before .before .before .before .before .before .pre .2 .standing), c .before .stop-quantity .ensures)
 
 add-t10 : tie.Need-add-t10
 add-t10 c = omega (arith, standing-space (c .before .before .before .before .before .before .pre .2 .standing) .few)
-
-same-length : tie.Need-same-length
-same-length c = search needs
 
 returns : tie.Need-returns
 returns c = serve-drives _ _ _ (c .before .before .before .before .before .before .pre .1) (c .before .before .before .before .before .before .pre .3) (omega (arith, c .before .before .before .before .before .before .pre .4, c .before .before .before .before .before .before .pre .0 .stopsAre)) refl (c .before .before .visit-stop .ensures) (c .before .stop-quantity .ensures) refl refl refl refl
@@ -41,13 +29,13 @@ pub serve-cab-spec : {M : Type 1} → statement M
 serve-cab-spec =
     tie.close
     (tie.spec
-    cast-part
-    add-part
+    (λ c. search needs)
+    (λ c. search needs)
     mul-part
     slice-write-part
     visit-stop-requires
-    stop-quantity-requires
+    (λ c κs. search needs)
     add-t9
     add-t10
-    same-length
+    (λ c. search needs)
     returns)

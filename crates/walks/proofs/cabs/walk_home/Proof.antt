@@ -6,20 +6,11 @@ use borrow.Author.Needs.{needs}
 use Rattle.walks.proofs.cabs.walk_home.Statement.{statement}
 use Rattle.walks.proofs.cabs.walk_home.Tie as tie
 
-rest-cab-requires : tie.Need-rest-cab-requires
-rest-cab-requires c κs = search needs
-
-same-length : tie.Need-same-length
-same-length c = search needs
-
 returns : tie.Need-returns
 returns c = home-empty (c .before .before .before .before .rest-cab .ensures) (c .if1 .taken)
 
 insert-tip-requires : tie.Need-insert-tip-requires
 insert-tip-requires c κs = (c .before .before .before .before .before .before .before .before .before .pre .0, c .before .before .before .before .before .before .before .before .before .pre .1, some-still _ (c .before .before .before .before .before .before .before .before .before .pre .2) (c .before .before .before .before .before .rest-cab .ensures), omega (arith, c .before .if1 .left))
-
-same-length-2 : tie.Need-same-length-2
-same-length-2 c = search needs
 
 returns-2 : tie.Need-returns-2
 returns-2 c = home-loaded (c .before .before .before .before .before .before .before .before .rest-cab .ensures) (c .before .before .before .before .if1 .left) (c .before .before .insert-tip .ensures)
@@ -27,4 +18,4 @@ returns-2 c = home-loaded (c .before .before .before .before .before .before .be
 pub walk-home-spec : {M : Type 1} → statement M
 walk-home-spec =
     tie.close
-    (tie.spec rest-cab-requires same-length returns insert-tip-requires same-length-2 returns-2)
+    (tie.spec (λ c κs. search needs) (λ c. search needs) returns insert-tip-requires (λ c. search needs) returns-2)

@@ -13,20 +13,11 @@ use Rattle.day.proofs.fields.leg_between.Reads as leg-between-reads
 use Rattle.walks.proofs.cabs.walk_home.Reads as walk-home-reads
 use Rattle.walks.proofs.vehicle.failed.Reads as failed-reads
 
-failed-requires : tie.Need-failed-requires
-failed-requires c κs = search needs
-
 returns : tie.Need-returns
 returns c = back-failed _ (c .before .if1 .taken) (c .failed .ensures)
 
 walk-home-requires : tie.Need-walk-home-requires
 walk-home-requires c κs = (c .before .before .before .before .pre .0, c .before .before .before .before .pre .1, done-standing (c .before .before .before .before .pre .2) (c .before .if1 .left))
-
-failed-requires-2 : tie.Need-failed-requires-2
-failed-requires-2 c κs = search needs
-
-same-length : tie.Need-same-length
-same-length c = search needs
 
 returns-2 : tie.Need-returns-2
 returns-2 c = back-fails _ (c .before .before .before .before .before .before .if1 .left) (c .before .before .before .before .walk-home .ensures) (c .before .if2 .taken) (c .failed2 .ensures)
@@ -40,9 +31,6 @@ add-t11 c = omega (arith, standing-space (some-served _ (done-standing (c .befor
 add-t12 : tie.Need-add-t12
 add-t12 c = let t = standing-trip (some-served _ (done-standing (c .before .before .before .before .before .before .before .before .before .before .before .before .before .pre .2) (c .before .before .before .before .before .before .before .before .before .before .if1 .left)) (c .before .before .before .before .before .before .before .before .walk-home .ensures) (c .before .before .before .before .before .if2 .left) .standing) in omega (arith, t .distance, c .before .before .before .leg-between .ensures .spans)
 
-same-length-2 : tie.Need-same-length-2
-same-length-2 c = search needs
-
 returns-3 : tie.Need-returns-3
 returns-3 c = back-comes _ (c .before .before .before .before .before .before .before .before .before .before .if1 .left) (c .before .before .before .before .before .before .before .before .walk-home .ensures) (c .before .before .before .before .before .if2 .left) (c .before .before .before .leg-between .ensures .spans) refl refl refl
 
@@ -50,14 +38,14 @@ pub come-back-spec : {M : Type 1} → statement M
 come-back-spec =
     tie.close
     (tie.spec
-    failed-requires
+    (λ c κs. search needs)
     returns
     walk-home-requires
-    failed-requires-2
-    same-length
+    (λ c κs. search needs)
+    (λ c. search needs)
     returns-2
     leg-between-requires
     add-t11
     add-t12
-    same-length-2
+    (λ c. search needs)
     returns-3)

@@ -7,11 +7,8 @@ use borrow.Author.Needs.{needs}
 use Rattle.walks.proofs.vehicle.fresh_cab.Statement.{statement}
 use Rattle.walks.proofs.vehicle.fresh_cab.Tie as tie
 
-depot-window-requires : tie.Need-depot-window-requires
-depot-window-requires c κs = search needs
-
 returns : tie.Need-returns
 returns c = let at : ℕ → Trip = λ m. record { minute = m; place = 0; rested = false; distance = 0 } in (refl, ap at (c .depot-window .ensures .opens), refl, refl)
 
 pub fresh-cab-spec : {M : Type 1} → statement M
-fresh-cab-spec = tie.close (tie.spec depot-window-requires returns)
+fresh-cab-spec = tie.close (tie.spec (λ c κs. search needs) returns)

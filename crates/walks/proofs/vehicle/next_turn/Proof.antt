@@ -7,17 +7,8 @@ use borrow.Author.Needs.{needs}
 use Rattle.walks.proofs.vehicle.next_turn.Statement.{statement}
 use Rattle.walks.proofs.vehicle.next_turn.Tie as tie
 
-add-t7 : tie.Need-add-t7
-add-t7 c = search needs
-
 returns : tie.Need-returns
 returns c = (λ day tasks rest k n l q h. turn-waiting _ h (c .if1 .taken) refl refl refl, step-waiting (c .before .args .t) (c .if1 .taken))
-
-change-word-requires : tie.Need-change-word-requires
-change-word-requires c κs = search needs
-
-add-t8 : tie.Need-add-t8
-add-t8 c = search needs
 
 returns-2 : tie.Need-returns-2
 returns-2 c = (λ day tasks rest k n l q h. turn-single day _ tasks _ l _ (rw (c .before .before .before .if1 .left) at h) (c .before .before .change-word .ensures day _ k q (every-at (Known day) tasks _ lunch n l)) (c .if2 .taken) refl refl refl, step-single (c .before .before .before .before .args .t) (c .before .before .before .if1 .left))
@@ -27,4 +18,4 @@ returns-3 c = (λ day tasks rest k n l q h. turn-double day _ tasks _ l _ (rw (c
 
 pub next-turn-spec : {M : Type 1} → statement M
 next-turn-spec =
-    tie.close (tie.spec add-t7 returns change-word-requires add-t8 returns-2 returns-3)
+    tie.close (tie.spec (λ c. search needs) returns (λ c κs. search needs) (λ c. search needs) returns-2 returns-3)

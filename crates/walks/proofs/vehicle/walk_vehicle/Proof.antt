@@ -10,14 +10,8 @@ use Rattle.walks.proofs.vehicle.walk_vehicle.Lts as lts
 use Rattle.walks.proofs.vehicle.come_back.Reads as come-back-reads
 use Rattle.walks.proofs.vehicle.walk_tasks.Reads as walk-tasks-reads
 
-walk-tasks-requires : tie.Need-walk-tasks-requires
-walk-tasks-requires c κs = search needs
-
 come-back-requires : tie.Need-come-back-requires
 come-back-requires c κs = let s = c .before .before .before .before .before .before .before .before .pre .5 in (c .before .before .before .before .before .before .before .before .pre .0, c .before .before .before .before .before .before .before .before .pre .1, record { start = _; most = _; p = _; o = _; stands = c .before .before .before .walk-tasks .ensures (s .tasks) (s .walkable) .stands })
-
-same-length : tie.Need-same-length
-same-length c = search needs
 
 returns : tie.Need-returns
 returns c = λ ts h. walked-failed h (c .before .before .before .before .before .before .before .walk-tasks .ensures ts h) (c .before .before .before .come-back .ensures) (c .if1 .taken)
@@ -41,9 +35,9 @@ pub walk-vehicle-spec : {M : Type 1} → statement M
 walk-vehicle-spec =
     tie.close
     (tie.spec
-    walk-tasks-requires
+    (λ c κs. search needs)
     come-back-requires
-    same-length
+    (λ c. search needs)
     returns
     sub-end
     mul-part

@@ -19,26 +19,14 @@ rest-cab-requires c κs = (c .before .before .before .before .before .pre .0, c 
 sub-walk-stop : tie.Need-sub-walk-stop
 sub-walk-stop c = means-stop (c .before .before .before .before .before .before .before .before .before .pre .2 .means) (c .before .before .before .before .before .before .if1 .left) (c .if3 .taken) .least
 
-cast-walk-stop : tie.Need-cast-walk-stop
-cast-walk-stop c = search needs
-
 walk-stop-requires : tie.Need-walk-stop-requires
 walk-stop-requires c κs = let t = means-stop (c .before .before .before .before .before .before .before .before .before .before .pre .2 .means) (c .before .before .before .before .before .before .before .if1 .left) (c .before .if3 .taken) in (c .before .before .before .before .before .before .before .before .before .before .pre .0, c .before .before .before .before .before .before .before .before .before .before .pre .1, some-still _ (stop-standing t (word-standing (c .before .before .before .before .before .before .before .before .before .before .pre .2) (c .before .before .before .before .before .before .if2 .left))) (c .before .before .before .before .rest-cab .ensures), t .first, omega (arith, t .within, c .before .before .before .before .before .before .before .before .before .before .pre .0 .stopsAre))
-
-same-length : tie.Need-same-length
-same-length c = search needs
 
 returns-3 : tie.Need-returns-3
 returns-3 c = word-stop (c .before .before .before .before .before .before .before .before .before .before .if1 .left) (c .before .before .before .before .before .before .before .before .before .if2 .left) (c .before .before .before .before .before .before .before .rest-cab .ensures) (c .before .before .before .before .if3 .taken) (c .before .before .walk-stop .ensures)
 
-cast-walk-tip : tie.Need-cast-walk-tip
-cast-walk-tip c = search needs
-
 walk-tip-requires : tie.Need-walk-tip-requires
 walk-tip-requires c κs = let t = means-tip (c .before .before .before .before .before .before .before .before .before .before .pre .2 .means) (c .before .before .before .before .before .before .before .if1 .left) (c .before .if3 .left) in (c .before .before .before .before .before .before .before .before .before .before .pre .0, c .before .before .before .before .before .before .before .before .before .before .pre .1, some-still _ (some-fewer (word-standing (c .before .before .before .before .before .before .before .before .before .before .pre .2) (c .before .before .before .before .before .before .if2 .left))) (c .before .before .before .before .rest-cab .ensures), t .first, omega (arith, t .within, c .before .before .before .before .before .before .before .before .before .before .pre .0 .tipsAre))
-
-same-length-2 : tie.Need-same-length-2
-same-length-2 c = search needs
 
 returns-4 : tie.Need-returns-4
 returns-4 c = word-tip (c .before .before .before .before .before .before .before .before .before .before .if1 .left) (c .before .before .before .before .before .before .before .before .before .if2 .left) (c .before .before .before .before .before .before .before .rest-cab .ensures) (c .before .before .before .before .if3 .left) (c .before .before .walk-tip .ensures)
@@ -51,11 +39,11 @@ walk-word-spec =
     returns-2
     rest-cab-requires
     sub-walk-stop
-    cast-walk-stop
+    (λ c. search needs)
     walk-stop-requires
-    same-length
+    (λ c. search needs)
     returns-3
-    cast-walk-tip
+    (λ c. search needs)
     walk-tip-requires
-    same-length-2
+    (λ c. search needs)
     returns-4)

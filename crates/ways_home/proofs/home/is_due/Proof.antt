@@ -7,9 +7,6 @@ use Rattle.ways_home.proofs.home.is_due.Tie as tie
 returns : tie.Need-returns
 returns c = search due-done
 
-rest-window-requires : tie.Need-rest-window-requires
-rest-window-requires c κs = search needs
-
 returns-2 : tie.Need-returns-2
 returns-2 c = search due-early
 
@@ -17,4 +14,4 @@ returns-3 : tie.Need-returns-3
 returns-3 c = search due-by
 
 pub is-due-spec : {M : Type 1} → statement M
-is-due-spec = tie.close (tie.spec returns rest-window-requires returns-2 returns-3)
+is-due-spec = tie.close (tie.spec returns (λ c κs. search needs) returns-2 returns-3)

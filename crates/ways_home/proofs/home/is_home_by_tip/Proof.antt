@@ -8,15 +8,6 @@ use Rattle.ways_home.proofs.home.is_home_by_tip.Tie as tie
 returns : tie.Need-returns
 returns c = search tip-none
 
-tip-window-requires : tie.Need-tip-window-requires
-tip-window-requires c κs = search needs
-
-tip-service-requires : tie.Need-tip-service-requires
-tip-service-requires c κs = search needs
-
-visit-requires : tie.Need-visit-requires
-visit-requires c κs = search needs
-
 rest-if-due-requires : tie.Need-rest-if-due-requires
 rest-if-due-requires c κs = (search needs, omega (arith, visit-minute _ _ _ _ _ (c .before .before .before .before .before .pre .1) (c .visit .ensures)))
 
@@ -33,9 +24,9 @@ is-home-by-tip-spec =
     tie.close
     (tie.spec
     returns
-    tip-window-requires
-    tip-service-requires
-    visit-requires
+    (λ c κs. search needs)
+    (λ c κs. search needs)
+    (λ c κs. search needs)
     rest-if-due-requires
     is-home-direct-requires
     returns-2)

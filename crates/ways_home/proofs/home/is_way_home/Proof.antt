@@ -5,9 +5,6 @@ use Rattle.ways_home.proofs.HomeLaws.{empty-home, loaded-home, rest-sma
 use Rattle.ways_home.proofs.home.is_way_home.Statement.{statement}
 use Rattle.ways_home.proofs.home.is_way_home.Tie as tie
 
-rest-if-due-requires : tie.Need-rest-if-due-requires
-rest-if-due-requires c κs = search needs
-
 is-home-direct-requires : tie.Need-is-home-direct-requires
 is-home-direct-requires c κs =
     let t = c .before .before .before .pre .1 in
@@ -30,7 +27,7 @@ pub is-way-home-spec : {M : Type 1} → statement M
 is-way-home-spec =
     tie.close
     (tie.spec
-    rest-if-due-requires
+    (λ c κs. search needs)
     is-home-direct-requires
     returns
     nearest-tip-requires

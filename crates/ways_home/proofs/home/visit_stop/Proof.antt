@@ -4,15 +4,6 @@ use Rattle.ways_home.proofs.HomeLaws.{stop-inside, stop-hours, stop-min
 use Rattle.ways_home.proofs.home.visit_stop.Statement.{statement}
 use Rattle.ways_home.proofs.home.visit_stop.Tie as tie
 
-stop-window-requires : tie.Need-stop-window-requires
-stop-window-requires c κs = search needs
-
-stop-service-requires : tie.Need-stop-service-requires
-stop-service-requires c κs = search needs
-
-add-visit : tie.Need-add-visit
-add-visit c = search needs
-
 visit-requires : tie.Need-visit-requires
 visit-requires c κs = (search needs, search needs, search stop-inside, search stop-hours, search stop-minutes)
 
@@ -22,4 +13,4 @@ returns c = search stop-visited
 pub visit-stop-spec : {M : Type 1} → statement M
 visit-stop-spec =
     tie.close
-    (tie.spec stop-window-requires stop-service-requires add-visit visit-requires returns)
+    (tie.spec (λ c κs. search needs) (λ c κs. search needs) (λ c. search needs) visit-requires returns)

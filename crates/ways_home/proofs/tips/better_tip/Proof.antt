@@ -4,15 +4,6 @@ use Rattle.ways_home.proofs.TipLaws.{tip-early, tip-late, tip-first, ti
 use Rattle.ways_home.proofs.tips.better_tip.Statement.{statement}
 use Rattle.ways_home.proofs.tips.better_tip.Tie as tie
 
-tip-window-requires : tie.Need-tip-window-requires
-tip-window-requires c κs = search needs
-
-leg-between-requires : tie.Need-leg-between-requires
-leg-between-requires c κs = search needs
-
-add-at : tie.Need-add-at
-add-at c = search needs
-
 returns : tie.Need-returns
 returns c = search tip-early
 
@@ -21,9 +12,6 @@ returns-2 c = search tip-late
 
 returns-3 : tie.Need-returns-3
 returns-3 c = search tip-first
-
-leg-between-requires-2 : tie.Need-leg-between-requires-2
-leg-between-requires-2 c κs = search needs
 
 returns-4 : tie.Need-returns-4
 returns-4 c = search tip-nearer
@@ -41,12 +29,12 @@ pub better-tip-spec : {M : Type 1} → statement M
 better-tip-spec =
     tie.close
     (tie.spec
-    tip-window-requires
-    leg-between-requires
-    add-at
+    (λ c κs. search needs)
+    (λ c κs. search needs)
+    (λ c. search needs)
     returns
     returns-2
     returns-3
-    leg-between-requires-2
+    (λ c κs. search needs)
     returns-4
     returns-5)

@@ -18,18 +18,6 @@ abbrev μ-loop : tie.MeasureT-loop
 loop-holds : tie.Need-loop-holds Inv-loop μ-loop
 loop-holds c = (search needs, search needs, tips-none _ _ _)
 
-add-better-tip : tie.Need-add-better-tip Inv-loop μ-loop
-add-better-tip c = search needs
-
-better-tip-requires : tie.Need-better-tip-requires Inv-loop μ-loop
-better-tip-requires c κs = search needs
-
-add-k : tie.Need-add-k Inv-loop μ-loop
-add-k c = search needs
-
-loop-less : tie.Need-loop-less Inv-loop μ-loop
-loop-less c = search needs
-
 loop-again : tie.Need-loop-again Inv-loop μ-loop
 loop-again c = let e = tips-next _ _ _ _ _ (c .before .before .loop .inv .2) (c .better-tip .ensures) in (search needs, tips-few _ _ _ _ _ e, e)
 
@@ -43,9 +31,9 @@ nearest-tip-spec =
     Inv-loop
     μ-loop
     loop-holds
-    add-better-tip
-    better-tip-requires
-    add-k
-    loop-less
+    (λ c. search needs)
+    (λ c κs. search needs)
+    (λ c. search needs)
+    (λ c. search needs)
     loop-again
     returns)

@@ -5,12 +5,6 @@ use Rattle.word_steps.specs.Steps.{isMetIn}
 use Rattle.word_steps.proofs.words.back_word.Statement.{statement}
 use Rattle.word_steps.proofs.words.back_word.Tie as tie
 
-both-requires : tie.Need-both-requires
-both-requires c κs = search needs
-
-at-fault-requires : tie.Need-at-fault-requires
-at-fault-requires c κs = search needs
-
 returns : tie.Need-returns
 returns c = search (misformed, back-formed)
 
@@ -23,4 +17,4 @@ returns-2 c = search (goes-on, back-formed)
 
 pub back-word-spec : {M : Type 1} → statement M
 back-word-spec =
-    tie.close (tie.spec both-requires at-fault-requires returns come-back-requires returns-2)
+    tie.close (tie.spec (λ c κs. search needs) (λ c κs. search needs) returns come-back-requires returns-2)

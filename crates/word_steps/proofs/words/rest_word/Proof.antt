@@ -5,18 +5,12 @@ use Rattle.word_steps.specs.Steps.{isMetIn}
 use Rattle.word_steps.proofs.words.rest_word.Statement.{statement}
 use Rattle.word_steps.proofs.words.rest_word.Tie as tie
 
-at-fault-requires : tie.Need-at-fault-requires
-at-fault-requires c κs = search needs
-
 returns : tie.Need-returns
 returns c = search (misformed, rest-formed)
-
-take-rest-requires : tie.Need-take-rest-requires
-take-rest-requires c κs = search needs
 
 returns-2 : tie.Need-returns-2
 unfolding isMetIn
 returns-2 c = search (goes-on, rest-formed)
 
 pub rest-word-spec : {M : Type 1} → statement M
-rest-word-spec = tie.close (tie.spec at-fault-requires returns take-rest-requires returns-2)
+rest-word-spec = tie.close (tie.spec (λ c κs. search needs) returns (λ c κs. search needs) returns-2)

@@ -4,23 +4,11 @@ use Rattle.word_steps.proofs.Forming.{stop-formed, stop-below, known-so
 use Rattle.word_steps.proofs.words.stop_word.Statement.{statement}
 use Rattle.word_steps.proofs.words.stop_word.Tie as tie
 
-is-within-requires : tie.Need-is-within-requires
-is-within-requires c κs = search needs
-
-both-requires : tie.Need-both-requires
-both-requires c κs = search needs
-
-at-fault-requires : tie.Need-at-fault-requires
-at-fault-requires c κs = search needs
-
 returns : tie.Need-returns
 returns c = search (misformed, stop-formed)
 
 element-copy-out-if2 : tie.Need-element-copy-out-if2
 element-copy-out-if2 c = search stop-below
-
-at-fault-requires-2 : tie.Need-at-fault-requires-2
-at-fault-requires-2 c κs = search needs
 
 returns-2 : tie.Need-returns-2
 returns-2 c = search (met-again, stop-formed, stop-met)
@@ -35,12 +23,12 @@ pub stop-word-spec : {M : Type 1} → statement M
 stop-word-spec =
     tie.close
     (tie.spec
-    is-within-requires
-    both-requires
-    at-fault-requires
+    (λ c κs. search needs)
+    (λ c κs. search needs)
+    (λ c κs. search needs)
     returns
     element-copy-out-if2
-    at-fault-requires-2
+    (λ c κs. search needs)
     returns-2
     serve-requires
     returns-3)

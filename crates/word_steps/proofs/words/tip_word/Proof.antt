@@ -5,15 +5,6 @@ use Rattle.word_steps.specs.Steps.{isMetIn}
 use Rattle.word_steps.proofs.words.tip_word.Statement.{statement}
 use Rattle.word_steps.proofs.words.tip_word.Tie as tie
 
-is-within-requires : tie.Need-is-within-requires
-is-within-requires c κs = search needs
-
-both-requires : tie.Need-both-requires
-both-requires c κs = search needs
-
-at-fault-requires : tie.Need-at-fault-requires
-at-fault-requires c κs = search needs
-
 returns : tie.Need-returns
 returns c = search (misformed, tip-formed)
 
@@ -28,9 +19,9 @@ pub tip-word-spec : {M : Type 1} → statement M
 tip-word-spec =
     tie.close
     (tie.spec
-    is-within-requires
-    both-requires
-    at-fault-requires
+    (λ c κs. search needs)
+    (λ c κs. search needs)
+    (λ c κs. search needs)
     returns
     empty-out-requires
     returns-2)

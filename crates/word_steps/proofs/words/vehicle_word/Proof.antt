@@ -5,23 +5,8 @@ use Rattle.word_steps.specs.Steps.{isMetIn}
 use Rattle.word_steps.proofs.words.vehicle_word.Statement.{statement}
 use Rattle.word_steps.proofs.words.vehicle_word.Tie as tie
 
-both-requires : tie.Need-both-requires
-both-requires c κs = search needs
-
-add-both : tie.Need-add-both
-add-both c = search needs
-
-both-requires-2 : tie.Need-both-requires-2
-both-requires-2 c κs = search needs
-
-at-fault-requires : tie.Need-at-fault-requires
-at-fault-requires c κs = search needs
-
 returns : tie.Need-returns
 returns c = search (misformed, vehicle-formed)
-
-set-out-requires : tie.Need-set-out-requires
-set-out-requires c κs = search needs
 
 returns-2 : tie.Need-returns-2
 unfolding isMetIn
@@ -31,10 +16,10 @@ pub vehicle-word-spec : {M : Type 1} → statement M
 vehicle-word-spec =
     tie.close
     (tie.spec
-    both-requires
-    add-both
-    both-requires-2
-    at-fault-requires
+    (λ c κs. search needs)
+    (λ c. search needs)
+    (λ c κs. search needs)
+    (λ c κs. search needs)
     returns
-    set-out-requires
+    (λ c κs. search needs)
     returns-2)
