@@ -15,7 +15,7 @@ use Rattle.rules.specs.Plan.{Round}
 use Rattle.rules.specs.Lawful.{distanceFrom}
 use Rattle.rules.specs.Edits.{Trial, touches}
 use Rattle.rules.specs.Attempts.{retried, joined, triedFrom, distanceOf}
-use Rattle.greedy_laws.proofs.Decided.{known}
+use Rattle.laws.proofs.Decided.{known}
 
 -- the vehicles' numbers that pass a test, their distances summed
 unfoldable pub drivenBy : List ℕ → (ℕ → Bool) → ℕ → List Round → ℕ

@@ -12,7 +12,7 @@ use borrow.Author.Tests.{le-ltb, lt-ltb}
 use Rattle.rules.specs.Tests.{if_then_else_}
 use Rattle.rules.specs.Answers.{given, refused, isGiven}
 use Rattle.rules.specs.Buffer.{over}
-use Rattle.rules.specs.Accepted.{IsAccepted}
+use Rattle.rules.specs.Fields.{IsAccepted}
 use Rattle.rules.specs.Plan.{Round, planWords}
 use Rattle.rules.specs.Lawful.{totals}
 use Rattle.rules.specs.Check.{checkWords, checkPlan}
@@ -21,14 +21,14 @@ use Rattle.rules.specs.Edits.{Trial}
 use Rattle.rules.specs.Attempts.{tried, distanceOf, isLawful, keptIf, attempt}
 use Rattle.laws.specs.Buffer.{Wrote}
 use Rattle.laws.proofs.Buffer.{over-front}
-use Rattle.greedy_laws.proofs.Decided.{known}
+use Rattle.laws.proofs.Decided.{known}
 use Rattle.walks.specs.declared.vehicle.Walked.{Walked}
 use Rattle.trial_list.specs.Shapes.{Shaped}
 use Rattle.trial_list.proofs.Shapes.{shaped-formed}
 use Rattle.attempts.specs.Candidates.{CandidateAs}
 use Rattle.attempts.specs.Tries.{Made, NoneKept, TriedAs, LawfulBy, Judged}
 use Rattle.attempts.specs.declared.tries.Tried.{Tried}
-use Rattle.attempts.proofs.PlanTold.{told-totals}
+use Rattle.plan_laws.proofs.Theorems.{told-totals}
 use Rattle.attempts.proofs.ShapeKept.{valid-shaped}
 use Rattle.attempts.proofs.ShorterLaws.{attempt-failed}
 

@@ -3,7 +3,6 @@ pub mod CopyLaws
 pub mod Gains
 pub mod KeptLaws
 pub mod NextRounds
-pub mod PlanTold
 pub mod RoundLists
 pub mod ShapeKept
 pub mod ShorterLaws

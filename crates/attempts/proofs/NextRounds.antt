@@ -9,8 +9,7 @@ use lib.Dec.{eqb}
 use lib.ListN.{length, length-append, getD, take, drop}
 use Rattle.rules.specs.Tests.{if_then_else_}
 use Rattle.rules.specs.Lists.{Every}
-use Rattle.rules.specs.Fields.{stops}
-use Rattle.rules.specs.Accepted.{IsAccepted}
+use Rattle.rules.specs.Fields.{stops, IsAccepted}
 use Rattle.rules.specs.Plan.{Round, roundWords, roundsWords, stopsOn, stopsOnAll, Known}
 use Rattle.rules.specs.Build.{greedyLefts}
 use Rattle.rules.specs.Edits.{Trial, touches, changed}

@@ -15,7 +15,7 @@ use Rattle.rules.specs.Lists.{Every, times}
 use Rattle.rules.specs.Plan.{Round, stopsOn, stopsOnAll, Known}
 use Rattle.rules.specs.Edits.{changed, Trial, touches}
 use Rattle.rules.specs.Attempts.{retried, joined, triedFrom, tried}
-use Rattle.greedy_laws.proofs.Decided.{known}
+use Rattle.laws.proofs.Decided.{known}
 use Rattle.greedy_laws.proofs.GreedyForm.{times-append}
 use Rattle.greedy_laws.specs.Rooms.{Room}
 use Rattle.walks.proofs.EditLaws.{renamed, Suits}

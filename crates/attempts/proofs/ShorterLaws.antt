@@ -15,7 +15,7 @@ use Rattle.rules.specs.Build.{greedyLefts}
 use Rattle.rules.specs.Edits.{Trial, touches, changed}
 use Rattle.rules.specs.WalkedAgain.{walkedAgain}
 use Rattle.rules.specs.Attempts.{retried, tried, distanceOf, keptIf, attempt}
-use Rattle.greedy_laws.proofs.Decided.{known}
+use Rattle.laws.proofs.Decided.{known}
 use Rattle.walks.specs.Rewalks.{AgainAs}
 use Rattle.walks.specs.declared.vehicle.Walked.{Walked}
 use Rattle.trial_list.specs.Shapes.{Valid, moved-before, moved-after, swapped, removed, replaced}

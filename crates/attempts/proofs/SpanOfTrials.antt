@@ -10,7 +10,7 @@ use borrow.Author.Tests.{ne-eqb, eqb-true, eqb-false}
 use Rattle.rules.specs.Lists.{times}
 use Rattle.rules.specs.Plan.{Round, stopsOn}
 use Rattle.rules.specs.Edits.{Trial}
-use Rattle.greedy_laws.proofs.Decided.{known, bit-most}
+use Rattle.laws.proofs.Decided.{known, bit-most}
 use Rattle.trial_list.specs.Shapes.{StandsOn, On, Valid, moved-before, moved-after, swapped, removed, replaced}
 use Rattle.trial_list.proofs.Shapes.{each-vehicle}
 use Rattle.tracks.specs.Span.{Single}

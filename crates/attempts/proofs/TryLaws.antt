@@ -5,8 +5,7 @@ use mathlib.Core.Bool.{true}
 use mathlib.Core.List.{List, [], map}
 use native.Mathlib.Omega.{arith}
 use lib.ListN.{length, length-map, getD, take, drop}
-use Rattle.rules.specs.Fields.{stops}
-use Rattle.rules.specs.Accepted.{IsAccepted}
+use Rattle.rules.specs.Fields.{stops, IsAccepted}
 use Rattle.rules.specs.Plan.{Round, taskWord}
 use Rattle.rules.specs.Build.{greedyLefts}
 use Rattle.rules.specs.Edits.{Trial, touches}

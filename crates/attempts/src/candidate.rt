@@ -7,7 +7,7 @@ ghost use Prim.Native.Nat.{_<_, _≤_, _*_};
 ghost use lib.Dec.{eqb};
 ghost use lib.ListN.{length};
 ghost use Rattle.rules.specs.Tests.{if_then_else_};
-ghost use Rattle.rules.specs.Accepted.{IsAccepted};
+ghost use Rattle.rules.specs.Fields.{IsAccepted};
 ghost use Rattle.rules.specs.Plan.{Round};
 ghost use Rattle.rules.specs.Edits.{changed};
 ghost use Rattle.rules.specs.WalkedAgain.{walkedAgain};
@@ -35,19 +35,19 @@ pub fn copy_words(words: &[u32], part: &mut [u32])
 // One vehicle of the candidate: walked again where the trial touches it, else as it is.
 fn write_round(
     day: &[u32],
-    z: Layout,
+    layout: Layout,
     e: Edit,
     touched: bool,
     number: u32,
     words: &[u32],
     part: &mut [u32],
 ) -> Walked
-    requires { ⌜ LayoutOf (now day) z × IsAccepted (now day) × EditSmall e × EditKnown (now day) e × (number < 256) × SomeRoundable (now day) (editOf e) touched number (now words) (now part) ⌝ }
+    requires { ⌜ LayoutOf (now day) layout × IsAccepted (now day) × EditSmall e × EditKnown (now day) e × (number < 256) × SomeRoundable (now day) (editOf e) touched number (now words) (now part) ⌝ }
     ensures { λ r. ⌜ ((tasks : Round) → Roundable (now (day .entry)) (editOf e) touched number (now (words .entry)) (now (part .entry)) tasks → RoundAs number (if touched then walkedAgain (now (day .entry)) (changed (editOf e) 0 tasks) else some tasks) (now (part .entry)) (now (part .exit)) r) ⌝ }
 {
     if touched {
         let end = words.len() - 1;
-        return walk_vehicle(day, z, e, number, &words[1..end], part);
+        return walk_vehicle(day, layout, e, number, &words[1..end], part);
     }
     copy_words(words, part);
     Walked {
@@ -70,7 +70,7 @@ fn is_touched(one: usize, other: usize, number: usize) -> bool
 // Vehicle v of the candidate, counted from 0.
 fn next_round(
     day: &[u32],
-    z: Layout,
+    layout: Layout,
     e: Edit,
     one: usize,
     other: usize,
@@ -79,19 +79,27 @@ fn next_round(
     v: usize,
     part: &mut [u32],
 ) -> Walked
-    requires { ⌜ LayoutOf (now day) z × IsAccepted (now day) × EditSmall e × EditKnown (now day) e × SomeNext (now day) (now plan) (now starts) (trialOf e one other) v (now part) ⌝ }
+    requires { ⌜ LayoutOf (now day) layout × IsAccepted (now day) × EditSmall e × EditKnown (now day) e × SomeNext (now day) (now plan) (now starts) (trialOf e one other) v (now part) ⌝ }
     ensures { λ r. ⌜ WritesNext (now (day .entry)) (now (plan .entry)) (now (starts .entry)) (trialOf e one other) v (now (part .entry)) (now (part .exit)) r ⌝ }
 {
     let from = starts[v] as usize;
     let to = starts[v + 1] as usize;
     let touched = is_touched(one, other, v + 1);
-    write_round(day, z, e, touched, (v + 1) as u32, &plan[from..to], part)
+    write_round(
+        day,
+        layout,
+        e,
+        touched,
+        (v + 1) as u32,
+        &plan[from..to],
+        part,
+    )
 }
 
 // The vehicles of the candidate, one behind the other.
 fn write_rounds(
     day: &[u32],
-    z: Layout,
+    layout: Layout,
     e: Edit,
     one: usize,
     other: usize,
@@ -100,13 +108,13 @@ fn write_rounds(
     count: usize,
     work: &mut [u32],
 ) -> Walked
-    requires { ⌜ LayoutOf (now day) z × IsAccepted (now day) × EditSmall e × EditKnown (now day) e × SomeTrying (now day) (now plan) (now starts) (trialOf e one other) count × (5 * z .stops ≤ length (now work)) ⌝ }
+    requires { ⌜ LayoutOf (now day) layout × IsAccepted (now day) × EditSmall e × EditKnown (now day) e × SomeTrying (now day) (now plan) (now starts) (trialOf e one other) count × (5 * layout .stops ≤ length (now work)) ⌝ }
     ensures { λ r. ⌜ ((rounds : List Round) → Trying (now (day .entry)) (now (plan .entry)) (now (starts .entry)) (trialOf e one other) rounds → count ≡ length rounds → RoundsAs (now (day .entry)) (trialOf e one other) rounds (now (work .entry)) (now (work .exit)) count r) ⌝ }
 {
     let mut at: usize = 0;
     let mut v: usize = 0;
     while v < count {
-        let w = next_round(day, z, e, one, other, plan, starts, v, &mut work[at..]);
+        let w = next_round(day, layout, e, one, other, plan, starts, v, &mut work[at..]);
         if w.stuck {
             return w;
         }
@@ -123,7 +131,7 @@ fn write_rounds(
 // The candidate: its vehicles, and the stops left out as they were.
 pub fn write_candidate(
     day: &[u32],
-    z: Layout,
+    layout: Layout,
     e: Edit,
     one: usize,
     other: usize,
@@ -132,10 +140,10 @@ pub fn write_candidate(
     count: usize,
     work: &mut [u32],
 ) -> Walked
-    requires { ⌜ LayoutOf (now day) z × IsAccepted (now day) × EditSmall e × EditKnown (now day) e × SomeTrying (now day) (now plan) (now starts) (trialOf e one other) count × (5 * z .stops ≤ length (now work)) ⌝ }
+    requires { ⌜ LayoutOf (now day) layout × IsAccepted (now day) × EditSmall e × EditKnown (now day) e × SomeTrying (now day) (now plan) (now starts) (trialOf e one other) count × (5 * layout .stops ≤ length (now work)) ⌝ }
     ensures { λ r. ⌜ ((rounds : List Round) → Trying (now (day .entry)) (now (plan .entry)) (now (starts .entry)) (trialOf e one other) rounds → count ≡ length rounds → CandidateAs (now (day .entry)) (trialOf e one other) rounds (now (work .entry)) (now (work .exit)) r) ⌝ }
 {
-    let w = write_rounds(day, z, e, one, other, plan, starts, count, work);
+    let w = write_rounds(day, layout, e, one, other, plan, starts, count, work);
     if w.stuck {
         return w;
     }

@@ -4,7 +4,7 @@ ghost use mathlib.Core.Bool.{true, false};
 ghost use mathlib.Core.List.{List};
 ghost use Prim.Native.Nat.{_≤_, _<_, _*_};
 ghost use lib.ListN.{length};
-ghost use Rattle.rules.specs.Accepted.{IsAccepted};
+ghost use Rattle.rules.specs.Fields.{IsAccepted};
 ghost use Rattle.rules.specs.Plan.{Round};
 ghost use Rattle.day.specs.Layout.{LayoutOf};
 ghost use Rattle.walks.specs.Rewalks.{EditKnown, EditSmall};
@@ -21,7 +21,7 @@ use walks::vehicle::Walked;
 // Vehicle v, counted from 0, measured as the trial changes it. The working buffer is worked in.
 fn retry(
     day: &[u32],
-    z: Layout,
+    layout: Layout,
     t: Trial,
     plan: &[u32],
     starts: &[u32],
@@ -29,7 +29,7 @@ fn retry(
     v: usize,
     work: &mut [u32],
 ) -> Walked
-    requires { ⌜ LayoutOf (now day) z × IsAccepted (now day) × EditSmall (t .edit) × EditKnown (now day) (t .edit) × SomeTouched (now day) (now plan) (now starts) (now tracks) (listedTrial t) v × (5 * z .stops ≤ length (now work)) ⌝ }
+    requires { ⌜ LayoutOf (now day) layout × IsAccepted (now day) × EditSmall (t .edit) × EditKnown (now day) (t .edit) × SomeTouched (now day) (now plan) (now starts) (now tracks) (listedTrial t) v × (5 * layout .stops ≤ length (now work)) ⌝ }
     ensures { λ r. ⌜ Retries (now (day .entry)) (now (plan .entry)) (now (starts .entry)) (now (tracks .entry)) (listedTrial t) v r ⌝ }
 {
     let from = starts[v] as usize + 1;
@@ -44,7 +44,17 @@ fn retry(
     );
     let before = &tracks[0..7206];
     let behind = &tracks[7206..12010];
-    measure(day, z, e, span, from, &plan[from..to], before, behind, work)
+    measure(
+        day,
+        layout,
+        e,
+        span,
+        from,
+        &plan[from..to],
+        before,
+        behind,
+        work,
+    )
 }
 
 // What came of a trial: whether its plan is kept, how many words it has and how far it drives.
@@ -64,7 +74,7 @@ fn wide(distance: u32) -> u64
 // Whether the touched vehicles, walked again, drive less than before. Where they do not, or the trial fails, no lawful, shorter plan comes of it.
 fn is_shorter(
     day: &[u32],
-    z: Layout,
+    layout: Layout,
     t: Trial,
     plan: &[u32],
     starts: &[u32],
@@ -72,11 +82,11 @@ fn is_shorter(
     tracks: &[u32],
     work: &mut [u32],
 ) -> bool
-    requires { ⌜ LayoutOf (now day) z × IsAccepted (now day) × EditSmall (t .edit) × EditKnown (now day) (t .edit) × SomeMeasured (now day) (now plan) (now starts) (now distances) (now tracks) (listedTrial t) × (5 * z .stops ≤ length (now work)) ⌝ }
+    requires { ⌜ LayoutOf (now day) layout × IsAccepted (now day) × EditSmall (t .edit) × EditKnown (now day) (t .edit) × SomeMeasured (now day) (now plan) (now starts) (now distances) (now tracks) (listedTrial t) × (5 * layout .stops ≤ length (now work)) ⌝ }
     ensures { λ r. ⌜ (r ≡ false → NoneKept (now (day .entry)) (now (plan .entry)) (now (starts .entry)) (now (distances .entry)) (now (tracks .entry)) (listedTrial t)) ⌝ }
 {
     let v = t.one - 1;
-    let first = retry(day, z, t, plan, starts, tracks, v, work);
+    let first = retry(day, layout, t, plan, starts, tracks, v, work);
     if first.stuck {
         return false;
     }
@@ -84,7 +94,7 @@ fn is_shorter(
         return first.distance < distances[v];
     }
     let u = t.other - 1;
-    let second = retry(day, z, t, plan, starts, tracks, u, work);
+    let second = retry(day, layout, t, plan, starts, tracks, u, work);
     if second.stuck {
         return false;
     }
@@ -103,12 +113,12 @@ fn not_kept() -> Tried
 }
 
 // A plan is kept where it is lawful and drives less.
-fn judge_candidate(day: &[u32], z: Layout, distance: u32, plan: &[u32]) -> Tried
-    requires { ⌜ LayoutOf (now day) z ⌝ }
+fn judge_candidate(day: &[u32], layout: Layout, distance: u32, plan: &[u32]) -> Tried
+    requires { ⌜ LayoutOf (now day) layout ⌝ }
     ensures judged { λ r. ⌜ Judged (now (day .entry)) (now (plan .entry)) distance r ⌝ }
     ensures words { λ r. ⌜ (r .kept ≡ true → r .words ≡ length (now (plan .entry))) ⌝ }
 {
-    let answer = checker::check_accepted(day, z, plan);
+    let answer = checker::check_accepted(day, layout, plan);
     match answer {
         Answer::Lawful {
             distance: driven,
@@ -134,7 +144,7 @@ fn judge_candidate(day: &[u32], z: Layout, distance: u32, plan: &[u32]) -> Tried
 // The trial: where a plan is kept, its words stand at the front of the working buffer.
 pub fn make_trial(
     day: &[u32],
-    z: Layout,
+    layout: Layout,
     t: Trial,
     plan: &[u32],
     starts: &[u32],
@@ -144,17 +154,17 @@ pub fn make_trial(
     distance: u32,
     work: &mut [u32],
 ) -> Tried
-    requires { ⌜ LayoutOf (now day) z × IsAccepted (now day) × EditSmall (t .edit) × EditKnown (now day) (t .edit) × SomeMade (now day) (now plan) (now starts) (now distances) (now tracks) (listedTrial t) count distance × (5 * z .stops ≤ length (now work)) ⌝ }
+    requires { ⌜ LayoutOf (now day) layout × IsAccepted (now day) × EditSmall (t .edit) × EditKnown (now day) (t .edit) × SomeMade (now day) (now plan) (now starts) (now distances) (now tracks) (listedTrial t) count distance × (5 * layout .stops ≤ length (now work)) ⌝ }
     ensures { λ r. ⌜ ((rounds : List Round) → Made (now (day .entry)) (now (plan .entry)) (now (starts .entry)) (now (distances .entry)) (now (tracks .entry)) (listedTrial t) count distance rounds → TriedAs (now (day .entry)) (listedTrial t) rounds (now (work .exit)) r) ⌝ }
 {
-    if is_shorter(day, z, t, plan, starts, distances, tracks, work) {
+    if is_shorter(day, layout, t, plan, starts, distances, tracks, work) {
         let e = t.edit;
-        let c = write_candidate(day, z, e, t.one, t.other, plan, starts, count, work);
+        let c = write_candidate(day, layout, e, t.one, t.other, plan, starts, count, work);
         if c.stuck {
             return not_kept();
         }
         let words = c.words;
-        return judge_candidate(day, z, distance, &work[0..words]);
+        return judge_candidate(day, layout, distance, &work[0..words]);
     }
     not_kept()
 }

@@ -11,8 +11,7 @@ use Rattle.rules.specs.Answers.{given, refused}
 use Rattle.rules.specs.Lists.{total}
 use Rattle.rules.specs.Buffer.{over}
 use Rattle.rules.specs.DayFile.{wordsOf, judgeDay}
-use Rattle.rules.specs.Fields.{tips, stops}
-use Rattle.rules.specs.Accepted.{IsAccepted}
+use Rattle.rules.specs.Fields.{tips, stops, IsAccepted}
 use Rattle.rules.specs.Plan.{roundsWords, planWords}
 use Rattle.rules.specs.Lawful.{distanceFrom, totals}
 use Rattle.rules.specs.Check.{checkWords, checkPlan}
@@ -87,7 +86,7 @@ pub plan-fits : (day p : List ℕ) {now : List ℕ} {words : ℕ} → words ≡ 
 plan-fits day p e x l = omega (arith, greedy-room day, ap length x, planned-length day p l)
 
 -- the words that are needed, by the layout
-pub need-is : {day : List ℕ} {z : Layout} → LayoutOf day z → 5 * z .stops ≡ 5 * stops day
+pub need-is : {day : List ℕ} {layout : Layout} → LayoutOf day layout → 5 * layout .stops ≡ 5 * stops day
 need-is l = ap (λ (n : ℕ). 5 * n) (l .stopsAre)
 
 -- the answer and the buffer where it is too short, and where it is long enough

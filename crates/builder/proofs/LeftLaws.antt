@@ -18,7 +18,7 @@ use Rattle.laws.proofs.Buffer.{wrote-put, wrote-same}
 use Rattle.laws.proofs.Marks.{without-same, without-other, upTo-low, upTo-out}
 use Rattle.marks.specs.declared.Marks.{Marks}
 use Rattle.greedy_laws.specs.States.{unrouted}
-use Rattle.greedy_laws.proofs.Decided.{known}
+use Rattle.laws.proofs.Decided.{known}
 use Rattle.next_task.proofs.TaskLaws.{unrouted-in}
 use Rattle.builder.specs.Lefts.{listed, Leaving}
 

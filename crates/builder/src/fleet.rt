@@ -14,18 +14,18 @@ use vehicle_writer::writer::Written;
 use vehicle_writer::writer::write_vehicle;
 
 // The words of all vehicles: the stops still to be routed then, and how many words there are.
-pub fn write_vehicles(day: &[u32], z: Layout, plan: &mut [u32]) -> Written
-    requires { ⌜ LayoutOf (now day) z × (z .stops ≤ 240) × (5 * z .stops ≤ length (now plan)) ⌝ }
+pub fn write_vehicles(day: &[u32], layout: Layout, plan: &mut [u32]) -> Written
+    requires { ⌜ LayoutOf (now day) layout × (layout .stops ≤ 240) × (5 * layout .stops ≤ length (now plan)) ⌝ }
     ensures text { λ r. ⌜ Wrote (roundsWords 0 (greedyRounds (now (day .entry)))) (now (plan .entry)) (now (plan .exit)) (r .words) ⌝ }
     ensures left { λ r. ⌜ LeftOf (now (day .entry)) (routed (now (day .entry)) (stops (now (day .entry)) + 1) []) (r .left) ⌝ }
-    ensures room { λ r. ⌜ r .words + 5 * unmet (stops (now (day .entry))) (routed (now (day .entry)) (stops (now (day .entry)) + 1) []) ≤ 5 * z .stops ⌝ }
+    ensures room { λ r. ⌜ r .words + 5 * unmet (stops (now (day .entry))) (routed (now (day .entry)) (stops (now (day .entry)) + 1) []) ≤ 5 * layout .stops ⌝ }
 {
-    let mut left = marks::all_to(z.stops);
+    let mut left = marks::all_to(layout.stops);
     let mut at = 0;
     let mut number = 0;
     let mut words = 1;
     while words != 0 {
-        let w = write_vehicle(day, z, left, number + 1, &mut plan[at..]);
+        let w = write_vehicle(day, layout, left, number + 1, &mut plan[at..]);
         left = w.left;
         words = w.words;
         at += words;

@@ -2,7 +2,7 @@
 ghost use mathlib.Core.Path.{_≡_};
 ghost use Prim.Native.Nat.{_*_, _≤_};
 ghost use lib.ListN.{length};
-ghost use Rattle.rules.specs.Accepted.{IsAccepted};
+ghost use Rattle.rules.specs.Fields.{IsAccepted};
 ghost use Rattle.rules.specs.Build.{greedyLefts, greedyPlan};
 ghost use Rattle.rules.specs.AnswerValues.{planValues};
 ghost use Rattle.rules.specs.Built.{planned, builtAnswer, builtBuffer};
@@ -21,15 +21,15 @@ pub struct Size {
 }
 
 // The vehicles, the stops left out, and zeros to the end of the five words for each stop.
-fn write_plan(day: &[u32], z: Layout, plan: &mut [u32]) -> Size
-    requires { ⌜ LayoutOf (now day) z × (z .stops ≤ 240) × (5 * z .stops ≤ length (now plan)) ⌝ }
+fn write_plan(day: &[u32], layout: Layout, plan: &mut [u32]) -> Size
+    requires { ⌜ LayoutOf (now day) layout × (layout .stops ≤ 240) × (5 * layout .stops ≤ length (now plan)) ⌝ }
     ensures size { λ r. ⌜ (r .words ≡ length (greedyPlan (now (day .entry)))) × (r .lefts ≡ length (greedyLefts (now (day .entry)))) ⌝ }
     ensures text { λ r. ⌜ now (plan .exit) ≡ planned (now (day .entry)) (greedyPlan (now (day .entry))) (now (plan .entry)) ⌝ }
 {
-    let w = write_vehicles(day, z, plan);
+    let w = write_vehicles(day, layout, plan);
     let left = w.left;
     let end = write_lefts(left, plan, w.words);
-    fill_zeros(plan, end, 5 * z.stops);
+    fill_zeros(plan, end, 5 * layout.stops);
     Size {
         words: end,
         lefts: marks::remaining(left) as usize,
@@ -37,21 +37,21 @@ fn write_plan(day: &[u32], z: Layout, plan: &mut [u32]) -> Size
 }
 
 // The answer on an accepted day.
-pub fn build_accepted(day: &[u32], z: Layout, plan: &mut [u32]) -> PlanAnswer
-    requires { ⌜ LayoutOf (now day) z × IsAccepted (now day) ⌝ }
+pub fn build_accepted(day: &[u32], layout: Layout, plan: &mut [u32]) -> PlanAnswer
+    requires { ⌜ LayoutOf (now day) layout × IsAccepted (now day) ⌝ }
     ensures answer { λ r. ⌜ planValues r ≡ builtAnswer (now (day .entry)) (length (now (plan .entry))) ⌝ }
     ensures buffer { λ r. ⌜ now (plan .exit) ≡ builtBuffer (now (day .entry)) (now (plan .entry)) ⌝ }
 {
-    let need = 5 * z.stops;
+    let need = 5 * layout.stops;
     if plan.len() < need {
         return PlanAnswer::Refused {
             number: 14,
             place: need,
         };
     }
-    let size = write_plan(day, z, plan);
+    let size = write_plan(day, layout, plan);
     let words = size.words;
-    let answer = checker::check_accepted(day, z, &plan[0..words]);
+    let answer = checker::check_accepted(day, layout, &plan[0..words]);
     match answer {
         Answer::Lawful {
             distance,

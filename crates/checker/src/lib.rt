@@ -10,8 +10,8 @@ use rules::answers::Answer;
 use rules::answers::DayAnswer;
 
 // The answer on a plan of an accepted day, whose layout is at hand: for callers that check many plans of one day.
-pub fn check_accepted(day: &[u32], z: day::fields::Layout, plan: &[u32]) -> Answer
-    requires { ⌜ LayoutOf (now day) z ⌝ }
+pub fn check_accepted(day: &[u32], layout: day::fields::Layout, plan: &[u32]) -> Answer
+    requires { ⌜ LayoutOf (now day) layout ⌝ }
     ensures { λ r. ⌜ answerValues r ≡ checkWords (now (day .entry)) (now (plan .entry)) ⌝ }
 {
     if 4096 < plan.len() {
@@ -20,7 +20,7 @@ pub fn check_accepted(day: &[u32], z: day::fields::Layout, plan: &[u32]) -> Answ
             place: 4096,
         };
     }
-    check_words(day, z, plan)
+    check_words(day, layout, plan)
 }
 
 // The answer on any day and any plan.

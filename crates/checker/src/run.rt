@@ -41,15 +41,15 @@ fn finish(y: Tally, stops: usize, end: usize) -> Answer
 }
 
 // The answer word by word. A word that names no stop marks number 0, which no stop has.
-fn check_each(day: &[u32], z: day::fields::Layout, limits: Limits, plan: &[u32]) -> Answer
-    requires { ⌜ LayoutOf (now day) z × LimitsOf (now day) limits × (length (now plan) ≤ 4096) ⌝ }
+fn check_each(day: &[u32], layout: day::fields::Layout, limits: Limits, plan: &[u32]) -> Answer
+    requires { ⌜ LayoutOf (now day) layout × LimitsOf (now day) limits × (length (now plan) ≤ 4096) ⌝ }
     ensures { λ r. ⌜ answerValues r ≡ checkFrom (now (day .entry)) (now (plan .entry)) 0 (start (now (day .entry))) ⌝ }
 {
-    let mut s = first_state(day, z);
+    let mut s = first_state(day, layout);
     let mut met = no_stops();
     let mut i: usize = 0;
     while i < plan.len() {
-        let step = word_step(day, z, limits, s, &met, plan[i]);
+        let step = word_step(day, layout, limits, s, &met, plan[i]);
         if step.fault != 0 {
             return Answer::Refused {
                 number: step.fault,
@@ -61,18 +61,18 @@ fn check_each(day: &[u32], z: day::fields::Layout, limits: Limits, plan: &[u32])
         s = step.state;
         i += 1;
     }
-    finish(s.tally, z.stops, i)
+    finish(s.tally, layout.stops, i)
 }
 
 // The answer on a plan of at most 4,096 words. Where the walk over the parts ends without an answer, each word is looked at.
-pub fn check_words(day: &[u32], z: day::fields::Layout, plan: &[u32]) -> Answer
-    requires { ⌜ LayoutOf (now day) z × (length (now plan) ≤ 4096) ⌝ }
+pub fn check_words(day: &[u32], layout: day::fields::Layout, plan: &[u32]) -> Answer
+    requires { ⌜ LayoutOf (now day) layout × (length (now plan) ≤ 4096) ⌝ }
     ensures { λ r. ⌜ answerValues r ≡ checkFrom (now (day .entry)) (now (plan .entry)) 0 (start (now (day .entry))) ⌝ }
 {
-    let limits = limits_of(day, z);
-    let told = all_parts(day, z, limits, plan);
+    let limits = limits_of(day, layout);
+    let told = all_parts(day, layout, limits, plan);
     if told.all {
-        return finish(told.tally, z.stops, plan.len());
+        return finish(told.tally, layout.stops, plan.len());
     }
-    check_each(day, z, limits, plan)
+    check_each(day, layout, limits, plan)
 }

@@ -12,8 +12,7 @@ use borrow.Author.Tests.{eqb-true, eqb-false, ltb-false, not-false, ne-eqb}
 use Rattle.rules.specs.Tests.{if_then_else_, neb}
 use Rattle.rules.specs.Answers.{given, refused, isGiven}
 use Rattle.rules.specs.DayFile.{tipsIn, stopsIn, wordsOf, formAt, faultOf, judgeFrom, judgeSized, judgeDay}
-use Rattle.rules.specs.Fields.{wordAt, tips, stops}
-use Rattle.rules.specs.Accepted.{IsAccepted}
+use Rattle.rules.specs.Fields.{wordAt, tips, stops, IsAccepted}
 use Rattle.laws.proofs.Tests.{only-first, only-second}
 
 -- an answer of the judge: a size, or a refusal's number and place

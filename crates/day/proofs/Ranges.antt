@@ -11,8 +11,7 @@ use lib.Dec.{eqb}
 use borrow.Author.Tests.{eq-eqb}
 use Rattle.rules.specs.Tests.{if_then_else_}
 use Rattle.rules.specs.DayFile.{Form, lone, window, leg, stay, headForm, formAt, faultOf}
-use Rattle.rules.specs.Fields.{wordAt, tips, stops, places, stopPlace, windowIndex, opening, closing, service, legIndex, legWord, legMinutes}
-use Rattle.rules.specs.Accepted.{IsAccepted}
+use Rattle.rules.specs.Fields.{wordAt, tips, stops, places, stopPlace, windowIndex, opening, closing, service, legIndex, legWord, legMinutes, IsAccepted}
 use Rattle.day.specs.Accepted.{Accepted}
 use Rattle.day.proofs.Answered.{Faultless, given-faultless}
 use Rattle.day.proofs.Forms.{head-form, tip-window-form, tip-service-form, stop-window-form, stop-service-form, stop-quantity-form, leg-form, leg-inside}

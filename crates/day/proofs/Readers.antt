@@ -23,53 +23,53 @@ pub stop-index : (d k : ℕ) → 0 < k → windowIndex d (d + k) ≡ 4 + 2 * d +
 unfolding windowIndex
 stop-index d k h = rw (ne-eqb (d + k) 0 (λ e. omega arith), lt-leb (d + k) d (omega arith)) (omega arith)
 
-module _ (day : List ℕ) (z : Layout) where
+module _ (day : List ℕ) (layout : Layout) where
   pub depot-read : (w : Window) → (w .opening ≡ windowOpening (wordAt day 4)) × (w .closing ≡ windowClosing (wordAt day 4)) → WindowOf day 0 w
   unfolding windowIndex
   depot-read w e = record { opens = e .0; closes = e .1 }
 
-  module _ (k : ℕ) (h : LayoutOf day z) (k-some : 0 < k) where
-    pub tip-window-read : (w : Window) → k ≤ z .tips → (w .opening ≡ windowOpening (wordAt day (5 + 2 * k))) × (w .closing ≡ windowClosing (wordAt day (5 + 2 * k)))
+  module _ (k : ℕ) (h : LayoutOf day layout) (k-some : 0 < k) where
+    pub tip-window-read : (w : Window) → k ≤ layout .tips → (w .opening ≡ windowOpening (wordAt day (5 + 2 * k))) × (w .closing ≡ windowClosing (wordAt day (5 + 2 * k)))
         → WindowOf day k w
     tip-window-read w g e =
         let at : windowIndex (tips day) k ≡ 5 + 2 * k = tip-index (tips day) k k-some (omega (arith, h .tipsAre)) in
         record { opens = rw at (e .0); closes = rw at (e .1) }
 
-    pub tip-service-read : {x : ℕ} → k ≤ z .tips → x ≡ loneNumber (wordAt day (6 + 2 * k)) → x ≡ service day k
+    pub tip-service-read : {x : ℕ} → k ≤ layout .tips → x ≡ loneNumber (wordAt day (6 + 2 * k)) → x ≡ service day k
     tip-service-read g e =
         let at : windowIndex (tips day) k + 1 ≡ 6 + 2 * k = omega (arith, tip-index (tips day) k k-some (omega (arith, h .tipsAre))) in
         rw at e
 
-    stop-at : (j : ℕ) → windowIndex (tips day) (stopPlace day k) + j ≡ 4 + j + 2 * z .tips + 3 * k
+    stop-at : (j : ℕ) → windowIndex (tips day) (stopPlace day k) + j ≡ 4 + j + 2 * layout .tips + 3 * k
     stop-at j = omega (arith, stop-index (tips day) k k-some, h .tipsAre)
 
-    pub stop-window-read : (w : Window) → (w .opening ≡ windowOpening (wordAt day (4 + 2 * z .tips + 3 * k))) × (w .closing ≡ windowClosing (wordAt day (4 + 2 * z .tips + 3 * k)))
+    pub stop-window-read : (w : Window) → (w .opening ≡ windowOpening (wordAt day (4 + 2 * layout .tips + 3 * k))) × (w .closing ≡ windowClosing (wordAt day (4 + 2 * layout .tips + 3 * k)))
         → WindowOf day (stopPlace day k) w
     stop-window-read w e =
-        let at : windowIndex (tips day) (stopPlace day k) ≡ 4 + 2 * z .tips + 3 * k = omega (arith, stop-at 0) in
+        let at : windowIndex (tips day) (stopPlace day k) ≡ 4 + 2 * layout .tips + 3 * k = omega (arith, stop-at 0) in
         record { opens = rw at (e .0); closes = rw at (e .1) }
 
-    pub stop-service-read : {x : ℕ} → x ≡ loneNumber (wordAt day (5 + 2 * z .tips + 3 * k)) → x ≡ service day (stopPlace day k)
+    pub stop-service-read : {x : ℕ} → x ≡ loneNumber (wordAt day (5 + 2 * layout .tips + 3 * k)) → x ≡ service day (stopPlace day k)
     stop-service-read e = rw (stop-at 1) e
 
-    pub stop-quantity-read : {x : ℕ} → x ≡ loneNumber (wordAt day (6 + 2 * z .tips + 3 * k)) → x ≡ quantity day (stopPlace day k)
+    pub stop-quantity-read : {x : ℕ} → x ≡ loneNumber (wordAt day (6 + 2 * layout .tips + 3 * k)) → x ≡ quantity day (stopPlace day k)
     stop-quantity-read e = rw (stop-at 2) e
 
   -- the leg from place p to place q stands within the day
-  pub leg-at : (p q : ℕ) → LayoutOf day z → p < z .places → q < z .places → z .legs + p * z .places + q < length day
-  leg-at p q h hp hq = omega (arith, square-below p q (z .places) hp hq, h .long)
+  pub leg-at : (p q : ℕ) → LayoutOf day layout → p < layout .places → q < layout .places → layout .legs + p * layout .places + q < length day
+  leg-at p q h hp hq = omega (arith, square-below p q (layout .places) hp hq, h .long)
 
-  pub leg-read : (p q : ℕ) {w : ℕ} → LayoutOf day z → w ≡ getD day (z .legs + p * z .places + q) 0
+  pub leg-read : (p q : ℕ) {w : ℕ} → LayoutOf day layout → w ≡ getD day (layout .legs + p * layout .places + q) 0
       → LegOf day p q (record { minutes = w / 65536 % 4096; distance = w % 65536 })
   leg-read p q h e =
       let word = rw (h .legsAre, h .placesAre) at e in
       record { takes = ap minutesOf word; spans = ap distanceOf word }
 
   -- the same, read from the legs alone
-  pub leg-cut : (p q : ℕ) {w : ℕ} → LayoutOf day z → p < z .places → q < z .places
-      → w ≡ getD (take (length day - z .legs) (drop (z .legs) day)) (p * z .places + q) 0
+  pub leg-cut : (p q : ℕ) {w : ℕ} → LayoutOf day layout → p < layout .places → q < layout .places
+      → w ≡ getD (take (length day - layout .legs) (drop (layout .legs) day)) (p * layout .places + q) 0
       → LegOf day p q (record { minutes = w / 65536 % 4096; distance = w % 65536 })
   leg-cut p q h hp hq e =
-      let at : z .legs + (p * z .places + q) ≡ z .legs + p * z .places + q = omega arith in
-      let below : p * z .places + q < length day - z .legs = omega (arith, leg-at p q h hp hq) in
+      let at : layout .legs + (p * layout .places + q) ≡ layout .legs + p * layout .places + q = omega arith in
+      let below : p * layout .places + q < length day - layout .legs = omega (arith, leg-at p q h hp hq) in
       leg-read p q h (e ∙ getD-take _ _ _ 0 below ∙ getD-drop _ day _ 0 ∙ ap (λ (i : ℕ). getD day i 0) at)

@@ -10,12 +10,12 @@ use Rattle.day.specs.declared.fields.Leg.{Leg}
 use Rattle.day.specs.declared.fields.Window.{Window}
 
 -- each part is the day's, and every leg is there
-pub record LayoutOf (day : List ℕ) (z : Layout) : Type 0 where
-  pub stopsAre : z .stops ≡ stops day
-  pub tipsAre : z .tips ≡ tips day
-  pub placesAre : z .places ≡ places day
-  pub legsAre : z .legs ≡ legsAt (tips day) (stops day)
-  pub long : z .legs + z .places * z .places ≡ length day
+pub record LayoutOf (day : List ℕ) (layout : Layout) : Type 0 where
+  pub stopsAre : layout .stops ≡ stops day
+  pub tipsAre : layout .tips ≡ tips day
+  pub placesAre : layout .places ≡ places day
+  pub legsAre : layout .legs ≡ legsAt (tips day) (stops day)
+  pub long : layout .legs + layout .places * layout .places ≡ length day
 
 -- the window of a place
 pub record WindowOf (day : List ℕ) (place : ℕ) (w : Window) : Type 0 where

@@ -60,89 +60,89 @@ fn window_at(day: &[u32], i: usize) -> Window
     }
 }
 
-pub fn load_limit(day: &[u32], z: Layout) -> u32
-    requires { ⌜ LayoutOf (now day) z ⌝ }
+pub fn load_limit(day: &[u32], layout: Layout) -> u32
+    requires { ⌜ LayoutOf (now day) layout ⌝ }
     ensures { λ r. ⌜ r ≡ loadLimit (now (day .entry)) ⌝ }
 {
     number_at(day, 1)
 }
 
-pub fn day_limit(day: &[u32], z: Layout) -> u32
-    requires { ⌜ LayoutOf (now day) z ⌝ }
+pub fn day_limit(day: &[u32], layout: Layout) -> u32
+    requires { ⌜ LayoutOf (now day) layout ⌝ }
     ensures { λ r. ⌜ r ≡ dayLimit (now (day .entry)) ⌝ }
 {
     number_at(day, 2)
 }
 
-pub fn stop_limit(day: &[u32], z: Layout) -> u32
-    requires { ⌜ LayoutOf (now day) z ⌝ }
+pub fn stop_limit(day: &[u32], layout: Layout) -> u32
+    requires { ⌜ LayoutOf (now day) layout ⌝ }
     ensures { λ r. ⌜ r ≡ stopLimit (now (day .entry)) ⌝ }
 {
     number_at(day, 3)
 }
 
-pub fn depot_window(day: &[u32], z: Layout) -> Window
-    requires { ⌜ LayoutOf (now day) z ⌝ }
+pub fn depot_window(day: &[u32], layout: Layout) -> Window
+    requires { ⌜ LayoutOf (now day) layout ⌝ }
     ensures { λ r. ⌜ WindowOf (now (day .entry)) 0 r ⌝ }
 {
     window_at(day, 4)
 }
 
-pub fn rest_window(day: &[u32], z: Layout) -> Window
-    requires { ⌜ LayoutOf (now day) z ⌝ }
+pub fn rest_window(day: &[u32], layout: Layout) -> Window
+    requires { ⌜ LayoutOf (now day) layout ⌝ }
     ensures { λ r. ⌜ (r .opening ≡ restOpening (now (day .entry))) × (r .closing ≡ restClosing (now (day .entry))) ⌝ }
 {
     window_at(day, 5)
 }
 
-pub fn rest_minutes(day: &[u32], z: Layout) -> u32
-    requires { ⌜ LayoutOf (now day) z ⌝ }
+pub fn rest_minutes(day: &[u32], layout: Layout) -> u32
+    requires { ⌜ LayoutOf (now day) layout ⌝ }
     ensures { λ r. ⌜ r ≡ restMinutes (now (day .entry)) ⌝ }
 {
     number_at(day, 6)
 }
 
-pub fn tip_window(day: &[u32], z: Layout, k: usize) -> Window
-    requires { ⌜ LayoutOf (now day) z × (0 < k) × (k ≤ z .tips) ⌝ }
+pub fn tip_window(day: &[u32], layout: Layout, k: usize) -> Window
+    requires { ⌜ LayoutOf (now day) layout × (0 < k) × (k ≤ layout .tips) ⌝ }
     ensures { λ r. ⌜ WindowOf (now (day .entry)) k r ⌝ }
 {
     window_at(day, 5 + 2 * k)
 }
 
-pub fn tip_service(day: &[u32], z: Layout, k: usize) -> u32
-    requires { ⌜ LayoutOf (now day) z × (0 < k) × (k ≤ z .tips) ⌝ }
+pub fn tip_service(day: &[u32], layout: Layout, k: usize) -> u32
+    requires { ⌜ LayoutOf (now day) layout × (0 < k) × (k ≤ layout .tips) ⌝ }
     ensures { λ r. ⌜ r ≡ service (now (day .entry)) k ⌝ }
 {
     number_at(day, 6 + 2 * k)
 }
 
-pub fn stop_window(day: &[u32], z: Layout, k: usize) -> Window
-    requires { ⌜ LayoutOf (now day) z × (0 < k) × (k ≤ z .stops) ⌝ }
+pub fn stop_window(day: &[u32], layout: Layout, k: usize) -> Window
+    requires { ⌜ LayoutOf (now day) layout × (0 < k) × (k ≤ layout .stops) ⌝ }
     ensures { λ r. ⌜ WindowOf (now (day .entry)) (stopPlace (now (day .entry)) k) r ⌝ }
 {
-    window_at(day, 4 + 2 * z.tips + 3 * k)
+    window_at(day, 4 + 2 * layout.tips + 3 * k)
 }
 
-pub fn stop_service(day: &[u32], z: Layout, k: usize) -> u32
-    requires { ⌜ LayoutOf (now day) z × (0 < k) × (k ≤ z .stops) ⌝ }
+pub fn stop_service(day: &[u32], layout: Layout, k: usize) -> u32
+    requires { ⌜ LayoutOf (now day) layout × (0 < k) × (k ≤ layout .stops) ⌝ }
     ensures { λ r. ⌜ r ≡ service (now (day .entry)) (stopPlace (now (day .entry)) k) ⌝ }
 {
-    number_at(day, 5 + 2 * z.tips + 3 * k)
+    number_at(day, 5 + 2 * layout.tips + 3 * k)
 }
 
-pub fn stop_quantity(day: &[u32], z: Layout, k: usize) -> u32
-    requires { ⌜ LayoutOf (now day) z × (0 < k) × (k ≤ z .stops) ⌝ }
+pub fn stop_quantity(day: &[u32], layout: Layout, k: usize) -> u32
+    requires { ⌜ LayoutOf (now day) layout × (0 < k) × (k ≤ layout .stops) ⌝ }
     ensures { λ r. ⌜ r ≡ quantity (now (day .entry)) (stopPlace (now (day .entry)) k) ⌝ }
 {
-    number_at(day, 6 + 2 * z.tips + 3 * k)
+    number_at(day, 6 + 2 * layout.tips + 3 * k)
 }
 
 // The leg from place p to place q.
-pub fn leg_between(day: &[u32], z: Layout, p: usize, q: usize) -> Leg
-    requires { ⌜ LayoutOf (now day) z × (p < z .places) × (q < z .places) ⌝ }
+pub fn leg_between(day: &[u32], layout: Layout, p: usize, q: usize) -> Leg
+    requires { ⌜ LayoutOf (now day) layout × (p < layout .places) × (q < layout .places) ⌝ }
     ensures { λ r. ⌜ LegOf (now (day .entry)) p q r ⌝ }
 {
-    let w = day[z.legs + p * z.places + q];
+    let w = day[layout.legs + p * layout.places + q];
     Leg {
         minutes: w / 65536 % 4096,
         distance: w % 65536,
@@ -151,14 +151,14 @@ pub fn leg_between(day: &[u32], z: Layout, p: usize, q: usize) -> Leg
 
 // The same leg, read from the legs alone. Quicker for a walk that reads a leg at each word: where the legs begin is reckoned once and
 // kept. Slower where the loop has no room to keep it, as when stops are weighed against each other.
-pub fn leg_from_legs(day: &[u32], z: Layout, p: usize, q: usize) -> Leg
-    requires { ⌜ LayoutOf (now day) z × (p < z .places) × (q < z .places) ⌝ }
+pub fn leg_from_legs(day: &[u32], layout: Layout, p: usize, q: usize) -> Leg
+    requires { ⌜ LayoutOf (now day) layout × (p < layout .places) × (q < layout .places) ⌝ }
     ensures { λ r. ⌜ LegOf (now (day .entry)) p q r ⌝ }
 {
-    let from = z.legs;
+    let from = layout.legs;
     let end = day.len();
     let legs = &day[from..end];
-    let w = legs[p * z.places + q];
+    let w = legs[p * layout.places + q];
     Leg {
         minutes: w / 65536 % 4096,
         distance: w % 65536,

@@ -3,9 +3,9 @@ ghost use mathlib.Core.Path.{_≡_};
 ghost use Prim.Native.Nat.{_+_, _*_, _<_};
 ghost use Rattle.rules.specs.DayFile.{tipsEnd, legsAt};
 ghost use Rattle.day_faults.specs.Judging.{judgedFrom, judgedAfter, Whole};
-use day_words::words::head_word_fault;
-use day_words::words::number_fault;
-use day_words::words::window_fault;
+use crate::words::head_word_fault;
+use crate::words::number_fault;
+use crate::words::window_fault;
 
 // The fault of one word: 2 or 5 and its place. Number 0 says that there is none.
 pub struct Fault {

@@ -7,7 +7,7 @@ ghost use Rattle.rules.specs.DayFile.{legsAt};
 ghost use Rattle.day_faults.specs.Judging.{judgedFrom, judgedAfter, Whole, InRange, RowRight, Row};
 use crate::faults::Fault;
 use crate::faults::none_until;
-use day_words::words::leg_word_fault;
+use crate::words::leg_word_fault;
 
 // 0 where a word is a leg of at most 1,440 minutes, else 1.
 fn out_of_range(w: u32) -> u32

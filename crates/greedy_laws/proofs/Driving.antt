@@ -21,7 +21,7 @@ use Rattle.rules.specs.Build.{Truck, fresh, doing, resting, nextTask, drive, on
 use Rattle.laws.proofs.Fresh.{unmet-most}
 use Rattle.laws.proofs.Lists.{unmet-less}
 use Rattle.greedy_laws.specs.Reached.{Reached, setOut, goesOn}
-use Rattle.greedy_laws.proofs.Decided.{known, known-option, bit-most}
+use Rattle.laws.proofs.Decided.{known, known-option, bit-most}
 use Rattle.greedy_laws.proofs.NextTasks.{IsNext, takes, empties, waits, next-some}
 
 -- the rest before the next task: what the vehicle carries and the stops routed stay, and it is not due again

@@ -12,7 +12,7 @@ use Rattle.rules.specs.Plan.{stopsOn, stopsOnAll, Known}
 use Rattle.rules.specs.Build.{routed, greedyRounds, greedyLefts}
 use Rattle.laws.specs.Lists.{collect}
 use Rattle.laws.proofs.Fresh.{once, fresh-times, fresh-length, once-fresh, every-append, every-weaker, unmet-most}
-use Rattle.plan_laws.proofs.PlanChecks.{known-all}
+use Rattle.plan_laws.proofs.Theorems.{known-all}
 use Rattle.greedy_laws.proofs.Fleets.{fleet-every, fleet-routes}
 use Rattle.greedy_laws.proofs.LeftOut.{Remains, remaining-are, remaining-rising, remaining-once}
 use Rattle.greedy_laws.proofs.VehicleStops.{vehicle-routes}

@@ -6,8 +6,7 @@ use mathlib.Core.List.{List, []}
 use native.Mathlib.Omega.{arith}
 use Rattle.rules.specs.Answers.{given}
 use Rattle.rules.specs.Lists.{Every}
-use Rattle.rules.specs.Fields.{stops}
-use Rattle.rules.specs.Accepted.{IsAccepted}
+use Rattle.rules.specs.Fields.{stops, IsAccepted}
 use Rattle.rules.specs.Plan.{Formed}
 use Rattle.rules.specs.Lawful.{Loads, Timed, Lawful, totals}
 use Rattle.rules.specs.Check.{checkPlan}
@@ -15,8 +14,7 @@ use Rattle.rules.specs.Build.{greedyRounds, greedyLefts, greedyPlan}
 use Rattle.laws.proofs.Fresh.{every-weaker}
 use Rattle.day.proofs.Ranges.{accepted-ranges}
 use Rattle.plan_laws.specs.Vehicles.{Clear}
-use Rattle.plan_laws.proofs.Clear.{clear-loads, clear-timed}
-use Rattle.plan_laws.proofs.LawfulIff.{lawful-totals}
+use Rattle.plan_laws.proofs.Theorems.{clear-loads, clear-timed, lawful-totals}
 use Rattle.greedy_laws.proofs.Fleets.{fleet-every}
 use Rattle.greedy_laws.proofs.GreedyForm.{greedy-known, greedy-busy, greedy-rising, greedy-once, greedy-others}
 use Rattle.greedy_laws.proofs.GreedyRoom.{greedy-room}

@@ -22,7 +22,7 @@ use Rattle.day.specs.Layout.{LayoutOf}
 use Rattle.day.specs.declared.fields.Layout.{Layout}
 use Rattle.greedy_laws.specs.Reached.{Reached}
 use Rattle.greedy_laws.specs.Rooms.{emptiesIn, Paid, Room}
-use Rattle.greedy_laws.proofs.Decided.{bit-most}
+use Rattle.laws.proofs.Decided.{bit-most}
 use Rattle.greedy_laws.proofs.Driving.{reached-keeps, vehicle-keeps, resting-keeps}
 use Rattle.greedy_laws.proofs.Fleets.{fleet-every}
 use Rattle.greedy_laws.proofs.GreedyForm.{greedy-busy, greedy-named}
@@ -167,5 +167,5 @@ module _ (day : List ℕ) where
         greedy-named day,
       )
 
-pub room-is : {day : List ℕ} {z : Layout} {room : ℕ} → LayoutOf day z → 5 * z .stops ≤ room → 5 * stops day ≤ room
+pub room-is : {day : List ℕ} {layout : Layout} {room : ℕ} → LayoutOf day layout → 5 * layout .stops ≤ room → 5 * stops day ≤ room
 room-is l h = omega (arith, l .stopsAre, h)

@@ -21,7 +21,7 @@ use Rattle.rules.specs.Choice.{takeable, waitable, nearestStop}
 use Rattle.rules.specs.Build.{Truck, fresh, doing, resting, nextTask, drive, oneVehicle, routed, remaining, greedyLefts, couldTakeFirst}
 use Rattle.rules.specs.declared.walk.Cargo.{Cargo}
 use Rattle.laws.proofs.Fresh.{once, times-other, every-weaker, unmet-most}
-use Rattle.greedy_laws.proofs.Decided.{known, known-option}
+use Rattle.laws.proofs.Decided.{known, known-option}
 use Rattle.greedy_laws.proofs.Driving.{resting-trip, resting-cargo, resting-taken, drive-some, drive-keeps}
 use Rattle.greedy_laws.proofs.Fleets.{routed-idle}
 use Rattle.greedy_laws.proofs.NextTasks.{IsNext, takes, empties, waits, next-some, next-none, chosen-empty, none-takeable, none-waitable}

@@ -1,4 +1,3 @@
-pub mod Decided
 pub mod Driving
 pub mod Fleets
 pub mod GreedyForm

@@ -10,7 +10,8 @@ use lib.Dec.{ltb, leb, eqb}
 use borrow.Author.Tests.{eqb-true, eqb-false, ltb-true, ltb-false, leb-true, not-true}
 use Rattle.rules.specs.Tests.{if_then_else_}
 use Rattle.rules.specs.Lists.{mem}
-use Rattle.rules.specs.Least.{IsLeast, least}
+use Rattle.rules.specs.Least.{least}
+use Rattle.laws.specs.Least.{IsLeast}
 use Rattle.rules.specs.Fields.{stops, tips, opening, closing, legMinutes}
 use Rattle.rules.specs.Plan.{Task, serve, empty}
 use Rattle.rules.specs.Tips.{openTip, nearestTip}

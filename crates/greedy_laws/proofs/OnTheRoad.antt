@@ -9,8 +9,7 @@ use native.Mathlib.Omega.{arith}
 use lib.Dec.{leb, ltb}
 use lib.Seq.{append-snoc}
 use borrow.Author.Tests.{leb-true, ltb-true, not-true, le-ltb}
-use Rattle.rules.specs.Fields.{stopPlace, opening, closing}
-use Rattle.rules.specs.Accepted.{IsAccepted}
+use Rattle.rules.specs.Fields.{stopPlace, opening, closing, IsAccepted}
 use Rattle.rules.specs.PlanWords.{stop}
 use Rattle.rules.specs.Plan.{Task, serve, empty, lunch, Round, wordFor}
 use Rattle.rules.specs.Cargo.{overLimits, cargoFault, cargoAfter}

@@ -19,7 +19,7 @@ use Rattle.rules.specs.Build.{Truck, fresh, doing, resting}
 use Rattle.rules.specs.declared.walk.Cargo.{Cargo}
 use Rattle.rules.specs.declared.walk.Trip.{Trip}
 use Rattle.laws.proofs.Tests.{both-true}
-use Rattle.plan_laws.proofs.Loads.{not-over}
+use Rattle.plan_laws.proofs.Theorems.{not-over}
 use Rattle.greedy_laws.specs.States.{SmallCargo, SmallTrip}
 use Rattle.greedy_laws.specs.Reached.{Reached}
 use Rattle.greedy_laws.proofs.Driving.{reached-keeps, resting-keeps}

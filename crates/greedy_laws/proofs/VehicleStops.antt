@@ -16,7 +16,7 @@ use Rattle.rules.specs.Build.{Truck, fresh, doing, oneVehicle, resting}
 use Rattle.rules.specs.declared.walk.Cargo.{Cargo}
 use Rattle.laws.specs.Lists.{collect, Fresh}
 use Rattle.laws.proofs.Fresh.{collect-append, fresh-append, fresh-length, every-append}
-use Rattle.plan_laws.proofs.PlanChecks.{known-all}
+use Rattle.plan_laws.proofs.Theorems.{known-all}
 use Rattle.greedy_laws.specs.Reached.{Reached}
 use Rattle.greedy_laws.proofs.Driving.{reached-keeps, vehicle-keeps, resting-keeps}
 use Rattle.greedy_laws.proofs.NextTasks.{IsNext, takes, empties, waits}

@@ -1,6 +1,7 @@
 pub mod Arrays
 pub mod Bits
 pub mod Buffer
+pub mod Decided
 pub mod Fresh
 pub mod Least
 pub mod Lists

@@ -1,5 +1,6 @@
 pub mod Bits
 pub mod Buffer
+pub mod Least
 pub mod Lists
 pub mod Marks
 pub mod Walk

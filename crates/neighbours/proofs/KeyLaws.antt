@@ -27,9 +27,9 @@ pub key-self : (day : List ℕ) (i j : ℕ) → i ≡ j → noKey ≡ keyOrNone 
 unfolding keyOrNone compatible
 key-self day i j e = rw (eq-eqb i j e) refl
 
-module _ (day : List ℕ) (z : Layout) (i j : ℕ) (lay : LayoutOf day z) (here there : Window) (v : ℕ) (leg : Leg)
+module _ (day : List ℕ) (layout : Layout) (i j : ℕ) (lay : LayoutOf day layout) (here there : Window) (v : ℕ) (leg : Leg)
     (hw : WindowOf day (stopPlace day i) here) (tw : WindowOf day (stopPlace day j) there) (hv : v ≡ service day (stopPlace day i))
-    (hl : LegOf day (z .tips + i) (z .tips + j) leg) (other : i ≡ j → ⊥) where
+    (hl : LegOf day (layout .tips + i) (layout .tips + j) leg) (other : i ≡ j → ⊥) where
   pub key-early : here .closing + v + leg .minutes < there .opening → noKey ≡ keyOrNone day i j
   unfolding keyOrNone compatible
   key-early h = rw (ne-eqb i j other, lt-leb _ _ (rw (hw .closes, hv, hl .takes, lay .tipsAre, tw .opens) at h)) refl
@@ -56,8 +56,8 @@ keys-next day i n keys x k few e = record { size = length-set keys (n + 1) x ∙
     go j p l (yes q) = rw q (getD-set-same keys (n + 1) x 0 (omega (arith, k .size)) ∙ e)
     go j p l (no q) = getD-set-other keys (n + 1) j x 0 q ∙ k .each j p (omega arith)
 
-pub keys-all : (day : List ℕ) (z : Layout) (i n : ℕ) (keys : List ℕ) → KeysTo day i n keys → n ≤ z .stops → z .stops ≤ n → KeysTo day i (z .stops) keys
-keys-all day z i n keys k a b = let e : z .stops ≡ n = omega arith in rw e k
+pub keys-all : (day : List ℕ) (layout : Layout) (i n : ℕ) (keys : List ℕ) → KeysTo day i n keys → n ≤ layout .stops → layout .stops ≤ n → KeysTo day i (layout .stops) keys
+keys-all day layout i n keys k a b = let e : layout .stops ≡ n = omega arith in rw e k
 
 -- the pass
 pub above-none : (keys : List ℕ) (last : ℕ) → noKey ≡ leastAbove keys last 0

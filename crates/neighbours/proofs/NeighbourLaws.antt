@@ -11,9 +11,10 @@ use lib.Dec.{ltb}
 use lib.ListN.{length}
 use borrow.Author.Tests.{eq-eqb, ne-eqb, ltb-true, lt-ltb}
 use Rattle.rules.specs.Lists.{Every, Rising}
-use Rattle.rules.specs.Least.{IsLeast}
+use Rattle.laws.specs.Least.{IsLeast}
 use Rattle.rules.specs.Fields.{stops}
-use Rattle.rules.specs.Neighbours.{compatible, neighbourKey, behind, nextNeighbour, neighboursAfter, neighbours, AreNeighbours}
+use Rattle.rules.specs.Neighbours.{compatible, neighbourKey, behind, nextNeighbour, neighboursAfter, neighbours}
+use Rattle.neighbours.specs.Neighbourhoods.{AreNeighbours}
 use Rattle.laws.proofs.Least.{least-is}
 use Rattle.laws.proofs.Tests.{both-true}
 

@@ -14,7 +14,7 @@ use lib.ListN.{length, getD, set, length-set}
 use lib.Seq.{getD-set-same, getD-set-other}
 use borrow.Author.Tests.{eq-eqb, ne-eqb, eqb-true, eqb-false, lt-ltb, ltb-true}
 use Rattle.rules.specs.Tests.{if_then_else_}
-use Rattle.rules.specs.Least.{IsLeast}
+use Rattle.laws.specs.Least.{IsLeast}
 use Rattle.rules.specs.Fields.{stops}
 use Rattle.rules.specs.Neighbours.{compatible, neighbourKey, behind, nextNeighbour, neighboursAfter, neighbours}
 use Rattle.laws.proofs.Least.{least-is, least-only}
@@ -207,10 +207,10 @@ pub row-all : (keys : List ℕ) (n r k i : ℕ) (before table : List ℕ) → Ro
 row-all keys n r k i before table w a b = let e : k ≡ r = omega arith in rw e w
 
 -- the row by the keys of stop i is the row of its neighbours
-pub row-of : (day : List ℕ) (z : Layout) (K i : ℕ) (keys before table : List ℕ) → LayoutOf day z → z .stops ≤ 240 → KeysTo day i (z .stops) keys
-    → RowBy keys (z .stops) K i before table → RowOf day K i before table
+pub row-of : (day : List ℕ) (layout : Layout) (K i : ℕ) (keys before table : List ℕ) → LayoutOf day layout → layout .stops ≤ 240 → KeysTo day i (layout .stops) keys
+    → RowBy keys (layout .stops) K i before table → RowOf day K i before table
 unfolding neighbours
-row-of day z K i keys before table lay few k w = record {
+row-of day layout K i keys before table lay few k w = record {
   size = w .size;
   row = λ r h. w .row r h ∙ rw (lay .stopsAre) (sym (neighbours-by day i keys (omega (arith, lay .stopsAre)) (rw (lay .stopsAre) at k) K 0 r h));
   kept = w .kept;
@@ -227,5 +227,5 @@ rows-next day K n before table few t w = record { size = w .size ∙ t .size; ro
     go i r p l g (yes q) = rw q (w .row r g)
     go i r p l g (no q) = w .kept (50 * i + r) (omega arith) ∙ t .rows i r p (omega arith) g
 
-pub rows-all : (day : List ℕ) (z : Layout) (K n : ℕ) (table : List ℕ) → LayoutOf day z → RowsTo day K n table → n ≤ z .stops → z .stops ≤ n → TableOf day K table
-rows-all day z K n table lay t a b = record { size = t .size; rows = λ i r p l g. t .rows i r p (omega (arith, lay .stopsAre)) g }
+pub rows-all : (day : List ℕ) (layout : Layout) (K n : ℕ) (table : List ℕ) → LayoutOf day layout → RowsTo day K n table → n ≤ layout .stops → layout .stops ≤ n → TableOf day K table
+rows-all day layout K n table lay t a b = record { size = t .size; rows = λ i r p l g. t .rows i r p (omega (arith, lay .stopsAre)) g }

@@ -1,1 +1,2 @@
+pub mod Neighbourhoods
 pub mod Tables

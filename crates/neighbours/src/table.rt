@@ -7,17 +7,17 @@ ghost use Rattle.neighbours.specs.Tables.{TableOf, RowOf, RowBy, KeysTo,
 use day::fields::Layout;
 
 // The key of stop j as a neighbour of stop i: its minutes, then its number. The greatest number where j is no neighbour.
-fn key_of(day: &[u32], z: Layout, i: usize, j: usize) -> u32
-    requires { ⌜ LayoutOf (now day) z × (0 < i) × (i ≤ z .stops) × (0 < j) × (j ≤ z .stops) ⌝ }
+fn key_of(day: &[u32], layout: Layout, i: usize, j: usize) -> u32
+    requires { ⌜ LayoutOf (now day) layout × (0 < i) × (i ≤ layout .stops) × (0 < j) × (j ≤ layout .stops) ⌝ }
     ensures { λ r. ⌜ r ≡ keyOrNone (now (day .entry)) i j ⌝ }
 {
     if i == j {
         return 4294967295;
     }
-    let here = day::fields::stop_window(day, z, i);
-    let there = day::fields::stop_window(day, z, j);
-    let service = day::fields::stop_service(day, z, i);
-    let leg = day::fields::leg_between(day, z, z.tips + i, z.tips + j);
+    let here = day::fields::stop_window(day, layout, i);
+    let there = day::fields::stop_window(day, layout, j);
+    let service = day::fields::stop_service(day, layout, i);
+    let leg = day::fields::leg_between(day, layout, layout.tips + i, layout.tips + j);
     if here.closing + service + leg.minutes < there.opening {
         return 4294967295;
     }
@@ -28,14 +28,14 @@ fn key_of(day: &[u32], z: Layout, i: usize, j: usize) -> u32
 }
 
 // The keys of all stops as neighbours of stop i, each at its number.
-fn fill_keys(day: &[u32], z: Layout, i: usize, keys: &mut [u32])
-    requires { ⌜ LayoutOf (now day) z × (z .stops ≤ 240) × (0 < i) × (i ≤ z .stops) × (length (now keys) ≡ 256) ⌝ }
-    ensures { λ r. ⌜ KeysTo (now (day .entry)) i (z .stops) (now (keys .exit)) ⌝ }
+fn fill_keys(day: &[u32], layout: Layout, i: usize, keys: &mut [u32])
+    requires { ⌜ LayoutOf (now day) layout × (layout .stops ≤ 240) × (0 < i) × (i ≤ layout .stops) × (length (now keys) ≡ 256) ⌝ }
+    ensures { λ r. ⌜ KeysTo (now (day .entry)) i (layout .stops) (now (keys .exit)) ⌝ }
 {
-    let stops = z.stops;
+    let stops = layout.stops;
     let mut j: usize = 0;
     while j < stops {
-        keys[j + 1] = key_of(day, z, i, j + 1);
+        keys[j + 1] = key_of(day, layout, i, j + 1);
         j += 1;
     }
 }
@@ -99,24 +99,24 @@ fn fill_row(keys: &[u32], n: usize, k: usize, i: usize, table: &mut [u8])
 }
 
 // The neighbours of stop i.
-fn fill_stop(day: &[u32], z: Layout, k: usize, i: usize, table: &mut [u8])
-    requires { ⌜ LayoutOf (now day) z × (z .stops ≤ 240) × (k ≤ 50) × (0 < i) × (i ≤ z .stops) × (length (now table) ≡ 12050) ⌝ }
+fn fill_stop(day: &[u32], layout: Layout, k: usize, i: usize, table: &mut [u8])
+    requires { ⌜ LayoutOf (now day) layout × (layout .stops ≤ 240) × (k ≤ 50) × (0 < i) × (i ≤ layout .stops) × (length (now table) ≡ 12050) ⌝ }
     ensures { λ r. ⌜ RowOf (now (day .entry)) k i (now (table .entry)) (now (table .exit)) ⌝ }
 {
     let mut keys = [0u32; 256];
-    fill_keys(day, z, i, &mut keys);
-    fill_row(&keys, z.stops, k, i, table);
+    fill_keys(day, layout, i, &mut keys);
+    fill_row(&keys, layout.stops, k, i, table);
 }
 
 // The first k neighbours of every stop.
-pub fn fill_table(day: &[u32], z: Layout, k: usize, table: &mut [u8])
-    requires { ⌜ LayoutOf (now day) z × (z .stops ≤ 240) × (k ≤ 50) × (length (now table) ≡ 12050) ⌝ }
+pub fn fill_table(day: &[u32], layout: Layout, k: usize, table: &mut [u8])
+    requires { ⌜ LayoutOf (now day) layout × (layout .stops ≤ 240) × (k ≤ 50) × (length (now table) ≡ 12050) ⌝ }
     ensures { λ r. ⌜ TableOf (now (day .entry)) k (now (table .exit)) ⌝ }
 {
-    let stops = z.stops;
+    let stops = layout.stops;
     let mut i: usize = 0;
     while i < stops {
-        fill_stop(day, z, k, i + 1, table);
+        fill_stop(day, layout, k, i + 1, table);
         i += 1;
     }
 }

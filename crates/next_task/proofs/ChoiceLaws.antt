@@ -71,9 +71,9 @@ module _ (day : List ℕ) (t : Trip) (c : Cargo) (k : ℕ) where
   unfolding waitable
   unfit-early eq eb z = rw (unfit eq eb z, and-false)
 
-pub served-trip : (day : List ℕ) (z : Layout) (less most : ℕ) (t u : Trip) (k : ℕ) → LayoutOf day z → SmallTrip day less t → less + 65536 ≤ most → 0 < k → k ≤ z .stops
+pub served-trip : (day : List ℕ) (layout : Layout) (less most : ℕ) (t u : Trip) (k : ℕ) → LayoutOf day layout → SmallTrip day less t → less + 65536 ≤ most → 0 < k → k ≤ layout .stops
     → arrival day t (stopPlace day k) < 4096 → u ≡ visited day t (stopPlace day k) → SmallTrip day most u
-served-trip day z less most t u k hz h l a b early e =
+served-trip day layout less most t u k hz h l a b early e =
     rw e
     (record {
       place = omega (arith, hz .stopsAre);
@@ -85,22 +85,22 @@ served-trip day z less most t u k hz h l a b early e =
 pub first-choice : (best : ℕ) (b : Bool) → best ≡ 0 → true ≡ (eqb best 0 || b)
 first-choice best b e = rw (eq-eqb best 0 e)
 
-pub nearer-choice : (day : List ℕ) (z : Layout) (t : Trip) (minutes best : ℕ) (l : Leg) → LayoutOf day z → (best ≡ 0 → ⊥) → LegOf day (t .place) (z .tips + best) l
+pub nearer-choice : (day : List ℕ) (layout : Layout) (t : Trip) (minutes best : ℕ) (l : Leg) → LayoutOf day layout → (best ≡ 0 → ⊥) → LegOf day (t .place) (layout .tips + best) l
     → ltb minutes (l .minutes) ≡ (eqb best 0 || ltb minutes (nearKey day t best))
-nearer-choice day z t minutes best l hz n hl = rw (ne-eqb best 0 n, hl .takes, hz .tipsAre)
+nearer-choice day layout t minutes best l hz n hl = rw (ne-eqb best 0 n, hl .takes, hz .tipsAre)
 
 pub earlier-choice : (day : List ℕ) (minutes best : ℕ) (w : Window) → (best ≡ 0 → ⊥) → WindowOf day (stopPlace day best) w
     → ltb minutes (w .opening) ≡ (eqb best 0 || ltb minutes (openKey day best))
 earlier-choice day minutes best w n hw = rw (ne-eqb best 0 n, hw .opens)
 
 -- a stop that is reached by its opening or closing is reached early in the day
-pub soon : (day : List ℕ) (z : Layout) (t : Trip) (k most : ℕ) (l : Leg) → LayoutOf day z → LegOf day (t .place) (z .tips + k) l → t .minute + l .minutes ≤ most → most < 4096
+pub soon : (day : List ℕ) (layout : Layout) (t : Trip) (k most : ℕ) (l : Leg) → LayoutOf day layout → LegOf day (t .place) (layout .tips + k) l → t .minute + l .minutes ≤ most → most < 4096
     → arrival day t (stopPlace day k) < 4096
-soon day z t k most l hz hl h m = let leg : l .minutes ≡ legMinutes day (t .place) (stopPlace day k) = rw (hz .tipsAre) at (hl .takes) in omega arith
+soon day layout t k most l hz hl h m = let leg : l .minutes ≡ legMinutes day (t .place) (stopPlace day k) = rw (hz .tipsAre) at (hl .takes) in omega arith
 
 -- reached within the window, or before it opens
-module _ (day : List ℕ) (z : Layout) (t : Trip) (c : Cargo) (k : ℕ) (l : Leg) (w : Window) (hz : LayoutOf day z)
-    (hl : LegOf day (t .place) (z .tips + k) l) (hw : WindowOf day (stopPlace day k) w) where
+module _ (day : List ℕ) (layout : Layout) (t : Trip) (c : Cargo) (k : ℕ) (l : Leg) (w : Window) (hz : LayoutOf day layout)
+    (hl : LegOf day (t .place) (layout .tips + k) l) (hw : WindowOf day (stopPlace day k) w) where
   leg-here : l .minutes ≡ legMinutes day (t .place) (stopPlace day k)
   leg-here = rw (hz .tipsAre) at (hl .takes)
 
@@ -146,5 +146,5 @@ module _ (n : ℕ) (q : ℕ → Bool) (key : ℕ → ℕ) (k best : ℕ) where
   is-taken p l ex ed zd ef zf = sym (better-wins (both (upTo n) q) key k best (among p l ∙ (sym ef ∙ zf)) (rw ex at (sym ed ∙ zd)))
 
 -- the keys as they are read
-pub near-read : (day : List ℕ) (z : Layout) (t : Trip) (k : ℕ) (l : Leg) → LayoutOf day z → LegOf day (t .place) (z .tips + k) l → l .minutes ≡ nearKey day t k
-near-read day z t k l hz hl = rw (hz .tipsAre) at (hl .takes)
+pub near-read : (day : List ℕ) (layout : Layout) (t : Trip) (k : ℕ) (l : Leg) → LayoutOf day layout → LegOf day (t .place) (layout .tips + k) l → l .minutes ≡ nearKey day t k
+near-read day layout t k l hz hl = rw (hz .tipsAre) at (hl .takes)

@@ -54,10 +54,10 @@ pub no-tip : (day : List ℕ) (t : Trip) (k x : ℕ) → x ≡ 0 → false ≡ f
 unfolding farther
 no-tip day t k x e = rw (eq-eqb x 0 e)
 
-pub by-minutes : (day : List ℕ) (z : Layout) (t : Trip) (k x : ℕ) (tip stop : Leg) → LayoutOf day z → (x ≡ 0 → ⊥) → LegOf day (t .place) x tip
-    → LegOf day (t .place) (z .tips + k) stop → ltb (tip .minutes) (stop .minutes) ≡ farther day t k x
+pub by-minutes : (day : List ℕ) (layout : Layout) (t : Trip) (k x : ℕ) (tip stop : Leg) → LayoutOf day layout → (x ≡ 0 → ⊥) → LegOf day (t .place) x tip
+    → LegOf day (t .place) (layout .tips + k) stop → ltb (tip .minutes) (stop .minutes) ≡ farther day t k x
 unfolding farther
-by-minutes day z t k x tip stop hz n ht hs = rw (ne-eqb x 0 n, ht .takes, hs .takes, hz .tipsAre)
+by-minutes day layout t k x tip stop hz n ht hs = rw (ne-eqb x 0 n, ht .takes, hs .takes, hz .tipsAre)
 
 -- the choice: dropped, kept near to capacity, kept
 module _ (day : List ℕ) (t : Trip) (c : Cargo) (k : ℕ) where

@@ -42,9 +42,9 @@ nextBy day t c p =
 
 -- the number of the task is a stop's or a tip's
 abbrev pub NextWithin : Layout → Next → Type 0
-NextWithin z (Nexts.Stop k) = (0 < k) × (k ≤ z .stops)
-NextWithin z (Nexts.Tip x) = (0 < x) × (x ≤ z .tips)
-NextWithin z Nexts.Home = Unit {0}
+NextWithin layout (Nexts.Stop k) = (0 < k) × (k ≤ layout .stops)
+NextWithin layout (Nexts.Tip x) = (0 < x) × (x ≤ layout .tips)
+NextWithin layout Nexts.Home = Unit {0}
 
 -- the word of the task; E where there is none
 abbrev pub nextWord : Next → ℕ

@@ -24,43 +24,43 @@ pub enum Next {
 }
 
 // Near to capacity: more than four fifths of Q, Q* or S*, with a load.
-fn is_near_capacity(day: &[u32], z: Layout, c: Cargo) -> bool
-    requires { ⌜ LayoutOf (now day) z × SmallCargo c ⌝ }
+fn is_near_capacity(day: &[u32], layout: Layout, c: Cargo) -> bool
+    requires { ⌜ LayoutOf (now day) layout × SmallCargo c ⌝ }
     ensures { λ r. ⌜ r ≡ nearCapacity (now (day .entry)) c ⌝ }
 {
     if c.load == 0 {
         return false;
     }
-    if 4 * day::fields::load_limit(day, z) < 5 * c.load {
+    if 4 * day::fields::load_limit(day, layout) < 5 * c.load {
         return true;
     }
-    if 4 * day::fields::day_limit(day, z) < 5 * c.kg {
+    if 4 * day::fields::day_limit(day, layout) < 5 * c.kg {
         return true;
     }
-    4 * day::fields::stop_limit(day, z) < 5 * c.visits
+    4 * day::fields::stop_limit(day, layout) < 5 * c.visits
 }
 
 // Whether stop k is farther than tip x; 0 is no tip.
-fn is_farther(day: &[u32], z: Layout, t: Trip, k: usize, x: usize) -> bool
-    requires { ⌜ LayoutOf (now day) z × SmallTrip (now day) 2147483648 t × (k ≤ z .stops) × (x ≤ z .tips) ⌝ }
+fn is_farther(day: &[u32], layout: Layout, t: Trip, k: usize, x: usize) -> bool
+    requires { ⌜ LayoutOf (now day) layout × SmallTrip (now day) 2147483648 t × (k ≤ layout .stops) × (x ≤ layout .tips) ⌝ }
     ensures { λ r. ⌜ r ≡ farther (now (day .entry)) t k x ⌝ }
 {
     if x == 0 {
         return false;
     }
-    let tip = day::fields::leg_between(day, z, t.place, x);
-    let stop = day::fields::leg_between(day, z, t.place, z.tips + k);
+    let tip = day::fields::leg_between(day, layout, t.place, x);
+    let stop = day::fields::leg_between(day, layout, t.place, layout.tips + k);
     tip.minutes < stop.minutes
 }
 
 // The choice, or none where it is dropped.
-fn chosen_stop(day: &[u32], z: Layout, t: Trip, c: Cargo, k: usize) -> usize
-    requires { ⌜ LayoutOf (now day) z × SmallTrip (now day) 2147483648 t × SmallCargo c × (k ≤ z .stops) ⌝ }
-    ensures { λ r. ⌜ (r ≡ chosenStop (now (day .entry)) t c k) × (r ≤ z .stops) ⌝ }
+fn chosen_stop(day: &[u32], layout: Layout, t: Trip, c: Cargo, k: usize) -> usize
+    requires { ⌜ LayoutOf (now day) layout × SmallTrip (now day) 2147483648 t × SmallCargo c × (k ≤ layout .stops) ⌝ }
+    ensures { λ r. ⌜ (r ≡ chosenStop (now (day .entry)) t c k) × (r ≤ layout .stops) ⌝ }
 {
-    if is_near_capacity(day, z, c) {
-        let x = nearest_tip(day, z, t.place, t.minute);
-        if is_farther(day, z, t, k, x) {
+    if is_near_capacity(day, layout, c) {
+        let x = nearest_tip(day, layout, t.place, t.minute);
+        if is_farther(day, layout, t, k, x) {
             return 0;
         }
         return k;
@@ -69,11 +69,11 @@ fn chosen_stop(day: &[u32], z: Layout, t: Trip, c: Cargo, k: usize) -> usize
 }
 
 // Step 5, without a load.
-fn wait_next(day: &[u32], z: Layout, t: Trip, c: Cargo, left: Marks) -> Next
-    requires { ⌜ LayoutOf (now day) z × SmallTrip (now day) 2147483648 t × SmallCargo c ⌝ }
-    ensures { λ r. ⌜ (nextOf r ≡ waitBy (now (day .entry)) t c (marked (left .words))) × NextWithin z r ⌝ }
+fn wait_next(day: &[u32], layout: Layout, t: Trip, c: Cargo, left: Marks) -> Next
+    requires { ⌜ LayoutOf (now day) layout × SmallTrip (now day) 2147483648 t × SmallCargo c ⌝ }
+    ensures { λ r. ⌜ (nextOf r ≡ waitBy (now (day .entry)) t c (marked (left .words))) × NextWithin layout r ⌝ }
 {
-    let k = earliest_stop(day, z, t, c, left);
+    let k = earliest_stop(day, layout, t, c, left);
     if k == 0 {
         return Next::Home;
     }
@@ -81,11 +81,11 @@ fn wait_next(day: &[u32], z: Layout, t: Trip, c: Cargo, left: Marks) -> Next
 }
 
 // Step 4, with a load.
-fn tip_next(day: &[u32], z: Layout, t: Trip) -> Next
-    requires { ⌜ LayoutOf (now day) z × SmallTrip (now day) 2147483648 t ⌝ }
-    ensures { λ r. ⌜ (nextOf r ≡ emptying (nearestTip (now (day .entry)) (t .place) (t .minute))) × NextWithin z r ⌝ }
+fn tip_next(day: &[u32], layout: Layout, t: Trip) -> Next
+    requires { ⌜ LayoutOf (now day) layout × SmallTrip (now day) 2147483648 t ⌝ }
+    ensures { λ r. ⌜ (nextOf r ≡ emptying (nearestTip (now (day .entry)) (t .place) (t .minute))) × NextWithin layout r ⌝ }
 {
-    let x = nearest_tip(day, z, t.place, t.minute);
+    let x = nearest_tip(day, layout, t.place, t.minute);
     if x == 0 {
         return Next::Home;
     }
@@ -93,17 +93,17 @@ fn tip_next(day: &[u32], z: Layout, t: Trip) -> Next
 }
 
 // The next task of a vehicle that has rested if that was due.
-pub fn next_task(day: &[u32], z: Layout, t: Trip, c: Cargo, left: Marks) -> Next
-    requires { ⌜ LayoutOf (now day) z × SmallTrip (now day) 2147483648 t × SmallCargo c ⌝ }
-    ensures { λ r. ⌜ (nextOf r ≡ nextBy (now (day .entry)) t c (marked (left .words))) × NextWithin z r ⌝ }
+pub fn next_task(day: &[u32], layout: Layout, t: Trip, c: Cargo, left: Marks) -> Next
+    requires { ⌜ LayoutOf (now day) layout × SmallTrip (now day) 2147483648 t × SmallCargo c ⌝ }
+    ensures { λ r. ⌜ (nextOf r ≡ nextBy (now (day .entry)) t c (marked (left .words))) × NextWithin layout r ⌝ }
 {
-    let near = nearest_stop(day, z, t, c, left);
-    let k = chosen_stop(day, z, t, c, near);
+    let near = nearest_stop(day, layout, t, c, left);
+    let k = chosen_stop(day, layout, t, c, near);
     if k != 0 {
         return Next::Stop(k);
     }
     if 0 < c.load {
-        return tip_next(day, z, t);
+        return tip_next(day, layout, t);
     }
-    wait_next(day, z, t, c, left)
+    wait_next(day, layout, t, c, left)
 }

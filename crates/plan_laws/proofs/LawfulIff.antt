@@ -13,8 +13,7 @@ use Rattle.rules.specs.Tests.{if_then_else_}
 use Rattle.rules.specs.Answers.{given, refused, isGiven}
 use Rattle.rules.specs.Lists.{Every, unmet, total}
 use Rattle.rules.specs.DayFile.{judgeDay}
-use Rattle.rules.specs.Fields.{stops}
-use Rattle.rules.specs.Accepted.{IsAccepted}
+use Rattle.rules.specs.Fields.{stops, IsAccepted}
 use Rattle.rules.specs.PlanWords.{wordOf}
 use Rattle.rules.specs.Plan.{Round, planWords, stopsOnAll}
 use Rattle.rules.specs.Lawful.{Loads, Timed, Lawful, totals, distanceFrom}

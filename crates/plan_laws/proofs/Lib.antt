@@ -5,8 +5,11 @@ pub mod Parsing
 pub mod Passing
 pub mod PlanChecks
 pub mod PlanParsing
+pub mod PlanSays
+pub mod PlanTold
 pub mod RoundChecks
 pub mod RoundWalks
+pub mod SameReading
+pub mod Theorems
 pub mod Timetables
 pub mod VehicleRounds
-pub mod WordForms

@@ -12,15 +12,15 @@ use Rattle.rules.specs.Tests.{if_then_else_}
 use Rattle.rules.specs.Answers.{given, refused}
 use Rattle.rules.specs.Lists.{Every, unmet, Rising}
 use Rattle.rules.specs.Fields.{tips, stops}
-use Rattle.rules.specs.PlanWords.{Word, stop, tip, rest, back, left, backWord, leftWord}
+use Rattle.rules.specs.PlanWords.{Word, stop, tip, rest, back, left, backWord, leftWord, wordOf, readPlan}
 use Rattle.rules.specs.Plan.{serve, empty, lunch, Round, taskWord, stopsOn, Known}
 use Rattle.rules.specs.Cargo.{cargoAfter}
 use Rattle.rules.specs.Check.{within, wellFormed, metAgain, metAfter, tallyAfter, Walk, walkAfter, finished, checkFrom}
 use Rattle.laws.specs.Lists.{collect, Fresh}
 use Rattle.laws.proofs.Tests.{both-true}
 use Rattle.plan_laws.specs.Vehicles.{CargoClear, TripClear, walkTasks}
-use Rattle.plan_laws.proofs.WordForms.{within-both, Apart, isVehicle, isStop, isTip, isRest, isBack, isLeft, isStray, apart}
-use Rattle.plan_laws.proofs.Passing.{Passes, answer-passes, given-not-refused}
+use Rattle.plan_words.proofs.WordForms.{stop-form, tip-form, rest-form, back-form, left-form, Apart, isVehicle, isStop, isTip, isRest, isBack, isLeft, isStray, apart}
+use Rattle.plan_laws.proofs.Passing.{Passes, answer-passes, given-not-refused, within-both}
 
 -- what a test of a vehicle's word needs
 pub inside-needed : (b t : Bool) → b ≡ false → (b && t) ≡ true → ⊥
@@ -33,7 +33,7 @@ outside-needed b t e q = false≢true (ap not (sym e) ∙ both-true (not b) t q 
 pub record InRound (day : List ℕ) (s : Walk) (ws answer : List ℕ) : Type 0 where
   pub tasks : Round
   pub behind : List ℕ
-  pub text : ws ≡ map taskWord tasks ++ (backWord ∷ behind)
+  pub text : readPlan ws ≡ readPlan (map taskWord tasks ++ (backWord ∷ behind))
   pub known : Every (Known day) tasks
   pub fresh : Fresh (s .met) (stopsOn tasks)
   pub cargo : CargoClear day (s .cargo) tasks
@@ -51,13 +51,13 @@ module _ (day : List ℕ) (a b c : ℕ) where
       → checkFrom day ws (suc i) (walkAfter day s u) ≡ answer
       → ((t : Walk) → t .tally .inside ≡ true → checkFrom day ws (suc i) t ≡ answer → InRound day t ws answer) → InRound day s (w ∷ ws) answer
   unfolding wellFormed metAgain metAfter tallyAfter cargoAfter Every Known Fresh stopsOn CargoClear TripClear walkTasks taskWord
-  inside-word w ws i s (isVehicle k h x) e p q next = absurd (outside-needed (s .tally .inside) _ e (both-true _ _ (p .formed) .0))
-  inside-word w ws i s (isStop k h x) e p q next =
+  inside-word w ws i s (isVehicle k h d x) e p q next = absurd (outside-needed (s .tally .inside) _ e (both-true _ _ (p .formed) .0))
+  inside-word w ws i s (isStop k h d x) e p q next =
       let r = next (walkAfter day s (stop k)) e q in
       record {
         tasks = serve k ∷ r .tasks;
         behind = r .behind;
-        text = ap₂ (λ (v : ℕ) (l : List ℕ). v ∷ l) x (r .text);
+        text = ap₂ (λ (v : Word) (l : List Word). v ∷ l) (x ∙ sym (stop-form k h)) (r .text);
         known = (within-both (stops day) k (both-true (s .tally .inside) (within (stops day) k) (p .formed) .1), r .known);
         fresh = (p .new, r .fresh);
         cargo = (p .cargo, r .cargo);
@@ -66,12 +66,12 @@ module _ (day : List ℕ) (a b c : ℕ) where
         at = r .at;
         answered = r .answered;
       }
-  inside-word w ws i s (isTip k h x) e p q next =
+  inside-word w ws i s (isTip k h d x) e p q next =
       let r = next (walkAfter day s (tip k)) e q in
       record {
         tasks = empty k ∷ r .tasks;
         behind = r .behind;
-        text = ap₂ (λ (v : ℕ) (l : List ℕ). v ∷ l) x (r .text);
+        text = ap₂ (λ (v : Word) (l : List Word). v ∷ l) (x ∙ sym (tip-form k h)) (r .text);
         known = (within-both (tips day) k (both-true (s .tally .inside) (within (tips day) k) (p .formed) .1), r .known);
         fresh = r .fresh;
         cargo = (p .cargo, r .cargo);
@@ -80,12 +80,12 @@ module _ (day : List ℕ) (a b c : ℕ) where
         at = r .at;
         answered = r .answered;
       }
-  inside-word w ws i s (isRest x) e p q next =
+  inside-word w ws i s (isRest d x) e p q next =
       let r = next (walkAfter day s rest) e q in
       record {
         tasks = lunch ∷ r .tasks;
         behind = r .behind;
-        text = ap₂ (λ (v : ℕ) (l : List ℕ). v ∷ l) x (r .text);
+        text = ap₂ (λ (v : Word) (l : List Word). v ∷ l) (x ∙ sym rest-form) (r .text);
         known = (tt, r .known);
         fresh = r .fresh;
         cargo = (p .cargo, r .cargo);
@@ -94,11 +94,11 @@ module _ (day : List ℕ) (a b c : ℕ) where
         at = r .at;
         answered = r .answered;
       }
-  inside-word w ws i s (isBack x) e p q next =
+  inside-word w ws i s (isBack d x) e p q next =
       record {
         tasks = [];
         behind = ws;
-        text = ap (λ (v : ℕ). v ∷ ws) x;
+        text = ap (λ (v : Word). v ∷ readPlan ws) (x ∙ sym back-form);
         known = tt;
         fresh = tt;
         cargo = p .cargo;
@@ -107,8 +107,8 @@ module _ (day : List ℕ) (a b c : ℕ) where
         at = suc i;
         answered = q;
       }
-  inside-word w ws i s (isLeft k h x) e p q next = absurd (outside-needed (s .tally .inside) _ e (both-true _ _ (p .formed) .0))
-  inside-word w ws i s isStray e p q next = absurd (false≢true (p .formed))
+  inside-word w ws i s (isLeft k h d x) e p q next = absurd (outside-needed (s .tally .inside) _ e (both-true _ _ (p .formed) .0))
+  inside-word w ws i s (isStray x) e p q next = absurd (false≢true (p .formed))
 
   pub inside-parse : (ws : List ℕ) (i : ℕ) (s : Walk) → s .tally .inside ≡ true → checkFrom day ws i s ≡ answer → InRound day s ws answer
   unfolding checkFrom finished
@@ -120,7 +120,7 @@ module _ (day : List ℕ) (a b c : ℕ) where
   -- the F words
   pub record InLefts (s : Walk) (ws : List ℕ) : Type 0 where
     pub lefts : List ℕ
-    pub text : ws ≡ map leftWord lefts
+    pub text : readPlan ws ≡ readPlan (map leftWord lefts)
     pub rising : Rising (s .tally .last) lefts
     pub others : Every (λ k. k ≤ stops day) lefts
     pub fresh : Fresh (s .met) lefts
@@ -136,14 +136,14 @@ module _ (day : List ℕ) (a b c : ℕ) where
       go true x y = absurd (given-not-refused y)
       go false x y = omega (arith, ltb-false 0 (unmet (stops day) (s .met)) x)
 
-  pub left-first : (w k : ℕ) (ws : List ℕ) (s : Walk) → w ≡ leftWord k → Passes day s (left k) → InLefts (walkAfter day s (left k)) ws → InLefts s (w ∷ ws)
+  pub left-first : (w k : ℕ) (ws : List ℕ) (s : Walk) → wordOf w ≡ wordOf (leftWord k) → Passes day s (left k) → InLefts (walkAfter day s (left k)) ws → InLefts s (w ∷ ws)
   unfolding wellFormed metAgain metAfter tallyAfter Every Fresh Rising collect
   left-first w k ws s x p r =
       let f = both-true (not (s .tally .inside) && within (stops day) k) (ltb (s .tally .last) k) (p .formed) in
       let number = both-true (not (s .tally .inside)) (within (stops day) k) (f .0) in
       record {
         lefts = k ∷ r .lefts;
-        text = ap₂ (λ (v : ℕ) (l : List ℕ). v ∷ l) x (r .text);
+        text = ap₂ (λ (v : Word) (l : List Word). v ∷ l) x (r .text);
         rising = (ltb-true _ _ (f .1), r .rising);
         others = (within-both (stops day) k (number .1) .1, r .others);
         fresh = (p .new, r .fresh);
@@ -154,17 +154,17 @@ module _ (day : List ℕ) (a b c : ℕ) where
   left-word : (w : ℕ) (ws : List ℕ) (s : Walk) {u : Word} → Apart w u → s .tally .inside ≡ false → 0 < s .tally .last → Passes day s u
       → ((t : Walk) → t .tally .inside ≡ false → 0 < t .tally .last → (t ≡ walkAfter day s u) → InLefts t ws) → InLefts s (w ∷ ws)
   unfolding wellFormed tallyAfter
-  left-word w ws s (isVehicle k h x) e l p next =
+  left-word w ws s (isVehicle k h d x) e l p next =
       let f = both-true (not (s .tally .inside) && eqb (s .tally .last) 0) (eqb k (s .tally .vehicles + 1)) (p .formed) in
       absurd (omega (arith, eqb-true (s .tally .last) 0 (both-true (not (s .tally .inside)) (eqb (s .tally .last) 0) (f .0) .1)))
-  left-word w ws s (isStop k h x) e l p next = absurd (inside-needed (s .tally .inside) _ e (p .formed))
-  left-word w ws s (isTip k h x) e l p next = absurd (inside-needed (s .tally .inside) _ e (p .formed))
-  left-word w ws s (isRest x) e l p next = absurd (false≢true (sym e ∙ p .formed))
-  left-word w ws s (isBack x) e l p next = absurd (inside-needed (s .tally .inside) _ e (p .formed))
-  left-word w ws s (isLeft k h x) e l p next =
+  left-word w ws s (isStop k h d x) e l p next = absurd (inside-needed (s .tally .inside) _ e (p .formed))
+  left-word w ws s (isTip k h d x) e l p next = absurd (inside-needed (s .tally .inside) _ e (p .formed))
+  left-word w ws s (isRest d x) e l p next = absurd (false≢true (sym e ∙ p .formed))
+  left-word w ws s (isBack d x) e l p next = absurd (inside-needed (s .tally .inside) _ e (p .formed))
+  left-word w ws s (isLeft k h d x) e l p next =
       let f = both-true (not (s .tally .inside) && within (stops day) k) (ltb (s .tally .last) k) (p .formed) in
-      left-first w k ws s x p (next (walkAfter day s (left k)) e (omega (arith, ltb-true (s .tally .last) k (f .1))) refl)
-  left-word w ws s isStray e l p next = absurd (false≢true (p .formed))
+      left-first w k ws s (x ∙ sym (left-form k h)) p (next (walkAfter day s (left k)) e (omega (arith, ltb-true (s .tally .last) k (f .1))) refl)
+  left-word w ws s (isStray x) e l p next = absurd (false≢true (p .formed))
 
   pub lefts-parse : (ws : List ℕ) (i : ℕ) (s : Walk) → s .tally .inside ≡ false → 0 < s .tally .last → checkFrom day ws i s ≡ answer → InLefts s ws
   unfolding checkFrom Every Fresh Rising collect

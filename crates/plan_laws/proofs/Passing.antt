@@ -1,19 +1,25 @@
 -- A word that passes: what it passed, what lets it pass, and what that does to the check of the words behind it.
 -- Assumes nothing.
-use Prim.Native.Nat.{ℕ, suc}
+use Prim.Native.Nat.{ℕ, suc, _≤_, _<_}
 use mathlib.Core.Path.{_≡_, refl, ap}
 use mathlib.Core.Bool.{Bool, true, false, not}
 use mathlib.Core.List.{List, [], _∷_}
 use native.Mathlib.Omega.{arith}
 use lib.ListN.{length}
-use lib.Dec.{eqb}
-use borrow.Author.Tests.{eq-eqb, eqb-true, eqb-false}
+use lib.Dec.{eqb, leb}
+use borrow.Author.Tests.{eq-eqb, eqb-true, eqb-false, leb-true}
 use Rattle.rules.specs.Tests.{if_then_else_}
 use Rattle.rules.specs.Answers.{given, refused}
 use Rattle.rules.specs.PlanWords.{Word, wordOf}
 use Rattle.rules.specs.Cargo.{cargoFault}
 use Rattle.rules.specs.Trip.{tripFault}
-use Rattle.rules.specs.Check.{wellFormed, metAgain, Walk, faultAt, walkAfter, checkFrom}
+use Rattle.rules.specs.Check.{within, wellFormed, metAgain, Walk, faultAt, walkAfter, checkFrom}
+use Rattle.laws.proofs.Tests.{both-true}
+
+-- a number of 1 to the most
+pub within-both : (most k : ℕ) → within most k ≡ true → (0 < k) × (k ≤ most)
+unfolding within
+within-both most k e = let b = both-true (leb 1 k) (leb k most) e in (leb-true 1 k (b .0), leb-true k most (b .1))
 
 -- what a word without fault has passed: 7, 8, the load, the minute
 pub record Passes (day : List ℕ) (s : Walk) (w : Word) : Type 0 where

@@ -21,7 +21,8 @@ use Rattle.plan_laws.specs.Vehicles.{Clear, tripHome, walkRound, walkRou
 use Rattle.plan_laws.proofs.Passing.{Passes, word-passes}
 use Rattle.plan_laws.proofs.RoundChecks.{within-true, round-check}
 use Rattle.plan_laws.proofs.RoundWalks.{after-round, after-rounds}
-use Rattle.plan_laws.proofs.WordForms.{left-form}
+use Rattle.plan_laws.proofs.SameReading.{check-read}
+use Rattle.plan_words.proofs.WordForms.{left-form}
 
 -- the vehicles of a plan, one behind the other
 pub rounds-check : (day : List ℕ) (s : Walk) (before : ℕ) (rounds : List Round) (behind : List ℕ) (i : ℕ) → s .tally .inside ≡ false → s .tally .last ≡ 0
@@ -114,7 +115,7 @@ module _ (day plan : List ℕ) (rounds : List Round) (lefts : List ℕ) (f : For
       let vehicles : s .tally .vehicles ≡ length rounds = omega (arith, r .vehicles) in
       let served : s .tally .served ≡ length (stopsOnAll rounds) = omega (arith, r .served) in
       rw (le-ltb 4096 (length plan) (f .short))
-      (ap (λ (ws : List ℕ). checkFrom day ws 0 (start day)) (f .text)
+      (check-read day plan (planWords rounds lefts) 0 (start day) (f .text)
       ∙ rounds-check day (start day) 0 rounds (map leftWord lefts) 0 refl refl refl (omega (arith, few-rounds)) (f .known) (fresh-first [] (stopsOnAll rounds) lefts named-fresh) c (f .busy)
       ∙ lefts-check day s lefts (0 + length (roundsWords 0 rounds)) (r .outside) (rw (r .last) (f .rising)) (f .others) (rw (r .met) both) missing
       ∙ rw (distance, vehicles, served))

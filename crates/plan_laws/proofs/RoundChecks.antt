@@ -6,7 +6,7 @@ use mathlib.Core.Path.{_≡_, refl, ap, ap₂, _∙_}
 use mathlib.Core.Bool.{true, false}
 use mathlib.Core.List.{List, [], _∷_, _++_, map, append-assoc}
 use native.Mathlib.Omega.{arith}
-use lib.ListN.{length, length-append}
+use lib.ListN.{length, length-append, length-map}
 use borrow.Author.Tests.{le-leb, lt-ltb, eq-eqb}
 use Rattle.rules.specs.Lists.{Every}
 use Rattle.rules.specs.Fields.{tips, stops}
@@ -18,7 +18,7 @@ use Rattle.rules.specs.Check.{within, wellFormed, metAgain, metAfter, tallyAfte
 use Rattle.laws.specs.Lists.{Fresh}
 use Rattle.plan_laws.specs.Vehicles.{CargoClear, TripClear, Clear, walkTasks, walkRound}
 use Rattle.plan_laws.proofs.Passing.{Passes, word-passes}
-use Rattle.plan_laws.proofs.WordForms.{stop-form, tip-form, vehicle-form, rest-form, back-form}
+use Rattle.plan_words.proofs.WordForms.{stop-form, tip-form, vehicle-form, rest-form, back-form}
 
 -- a number of 1 to the most
 pub within-true : (most k : ℕ) → 1 ≤ k → k ≤ most → within most k ≡ true
@@ -93,14 +93,10 @@ round-check day s tasks behind i e l v h f c b =
     let s′ = walkAfter day s (vehicle (suc (s .tally .vehicles))) in
     let regroup : (map taskWord tasks ++ (backWord ∷ [])) ++ behind ≡ map taskWord tasks ++ (backWord ∷ behind) = append-assoc (map taskWord tasks) (backWord ∷ []) behind in
     let at : suc i + length tasks + 1 ≡ i + length (vehicleWord (suc (s .tally .vehicles)) ∷ (map taskWord tasks ++ (backWord ∷ []))) =
-    omega (arith, length-append (map taskWord tasks) (backWord ∷ []), length-map-tasks tasks) in
+    omega (arith, length-append (map taskWord tasks) (backWord ∷ []), length-map tasks taskWord) in
     word-passes day (vehicleWord (suc (s .tally .vehicles))) ((map taskWord tasks ++ (backWord ∷ [])) ++ behind) i s (vehicle (suc (s .tally .vehicles)))
     (vehicle-form (suc (s .tally .vehicles)) (omega arith))
     (record { formed = rw (e, l, eq-eqb (suc (s .tally .vehicles)) (s .tally .vehicles + 1) number); new = refl; cargo = refl; trip = refl })
     ∙ ap (λ (ws : List ℕ). checkFrom day ws (suc i) s′) regroup
     ∙ tasks-check day s′ tasks behind (suc i) refl h f (c .cargo) (c .trip) (omega arith)
     ∙ ap₂ (λ (j k : ℕ). checkFrom day behind j (walkAfter day (walkTasks day (walkAfter day s (vehicle k)) tasks) back)) at number
-  where
-    length-map-tasks : (ts : Round) → length (map taskWord ts) ≡ length ts
-    length-map-tasks [] = refl
-    length-map-tasks (t ∷ ts) = ap suc (length-map-tasks ts)

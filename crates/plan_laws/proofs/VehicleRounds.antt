@@ -5,22 +5,22 @@ use mathlib.Core.Path.{_≡_, refl, sym, ap, _∙_}
 use mathlib.Core.Bool.{false}
 use mathlib.Core.List.{List, [], _∷_, _++_, map, append-assoc}
 use native.Mathlib.Omega.{arith}
-use lib.ListN.{length, length-append, take}
+use lib.ListN.{length, length-append, length-map, take, drop}
 use lib.Seq.{take-at, drop-at}
 use borrow.Author.Tests.{eq-eqb, ne-eqb}
 use Rattle.rules.specs.Answers.{given, refused}
 use Rattle.rules.specs.Lists.{Every}
-use Rattle.rules.specs.Fields.{stops}
-use Rattle.rules.specs.Accepted.{IsAccepted}
-use Rattle.rules.specs.PlanWords.{vehicleWord, backWord, leftWord, wordOf}
+use Rattle.rules.specs.Fields.{stops, IsAccepted}
+use Rattle.rules.specs.PlanWords.{Word, backWord, leftWord, wordOf, readPlan}
 use Rattle.rules.specs.Plan.{Task, serve, empty, lunch, Round, taskWord, roundWords, roundsWords, planWords, Known}
 use Rattle.rules.specs.Lawful.{Lawful}
-use Rattle.rules.specs.VehiclePlace.{isVehicle, wordsToBack, placeFrom, vehiclePlace, vehicleWords}
+use Rattle.rules.specs.VehiclePlace.{isVehicle, isBack, wordsToBack, placeFrom, vehiclePlace, vehicleWords}
 use Rattle.laws.proofs.Fresh.{every-split}
 use Rattle.plan_laws.proofs.LawfulIff.{lawful-totals}
 use Rattle.plan_laws.proofs.PlanChecks.{few-rounds}
 use Rattle.plan_laws.proofs.RoundChecks.{task-form}
-use Rattle.plan_laws.proofs.WordForms.{vehicle-form, back-form, left-form}
+use Rattle.plan_laws.proofs.SameReading.{read-take, read-drop, place-read}
+use Rattle.plan_words.proofs.WordForms.{vehicle-form, back-form, left-form}
 
 -- a task's word is no A and no E
 task-no-vehicle : (day : List ℕ) (number : ℕ) (task : Task) → Known day task → isVehicle number (wordOf (taskWord task)) ≡ false
@@ -28,32 +28,27 @@ task-no-vehicle day number (serve k) h = rw (task-form day (serve k) h)
 task-no-vehicle day number (empty k) h = rw (task-form day (empty k) h)
 task-no-vehicle day number lunch h = rw (task-form day lunch h)
 
-task-no-back : (day : List ℕ) (task : Task) → Known day task → taskWord task ≡ backWord → ⊥
-unfolding taskWord Known
-task-no-back day (serve k) h e = omega arith
-task-no-back day (empty k) h e = omega arith
-task-no-back day lunch h e = omega arith
+task-no-back : (day : List ℕ) (task : Task) → Known day task → isBack (wordOf (taskWord task)) ≡ false
+task-no-back day (serve k) h = rw (task-form day (serve k) h)
+task-no-back day (empty k) h = rw (task-form day (empty k) h)
+task-no-back day lunch h = rw (task-form day lunch h)
 
 -- the words up to E of a vehicle are all its words
 tasks-to-back : (day : List ℕ) (tasks : Round) (behind : List ℕ) → Every (Known day) tasks → wordsToBack (map taskWord tasks ++ (backWord ∷ behind)) ≡ length tasks + 1
 unfolding wordsToBack Every
-tasks-to-back day [] behind h = refl
+tasks-to-back day [] behind h = rw back-form refl
 tasks-to-back day (task ∷ tasks) behind h =
-    rw (ne-eqb (taskWord task) backWord (task-no-back day task (h .0))) (omega (arith, tasks-to-back day tasks behind (h .1)))
+    rw (task-no-back day task (h .0)) (omega (arith, tasks-to-back day tasks behind (h .1)))
 
-map-length : (tasks : Round) → length (map taskWord tasks) ≡ length tasks
-map-length [] = refl
-map-length (task ∷ tasks) = ap suc (map-length tasks)
-
-round-length : (number : ℕ) (tasks : Round) → length (roundWords number tasks) ≡ length tasks + 2
+pub round-length : (number : ℕ) (tasks : Round) → length (roundWords number tasks) ≡ length tasks + 2
 unfolding roundWords
-round-length number tasks = omega (arith, length-append (map taskWord tasks) (backWord ∷ []), map-length tasks)
+round-length number tasks = omega (arith, length-append (map taskWord tasks) (backWord ∷ []), length-map tasks taskWord)
 
 pub round-to-back : (day : List ℕ) (number : ℕ) (tasks : Round) (behind : List ℕ) → number < 256 → Every (Known day) tasks
     → wordsToBack (roundWords number tasks ++ behind) ≡ length (roundWords number tasks)
 unfolding wordsToBack roundWords
 round-to-back day number tasks behind n h =
-    rw (ne-eqb (vehicleWord number) backWord (λ e. omega arith), append-assoc (map taskWord tasks) (backWord ∷ []) behind)
+    rw (vehicle-form number n, append-assoc (map taskWord tasks) (backWord ∷ []) behind)
     (omega (arith, tasks-to-back day tasks behind h, round-length number tasks))
 
 -- no vehicle is found among tasks, nor in another vehicle's words, nor among the stops left out
@@ -90,7 +85,7 @@ lefts-skip day number [] i h = refl
 lefts-skip day number (k ∷ lefts) i h = rw (left-form k (omega (arith, h .0))) (lefts-skip day number lefts (suc i) (h .1))
 
 -- vehicles of two parts
-rounds-append : (before : ℕ) (xs ys : List Round) → roundsWords before (xs ++ ys) ≡ roundsWords before xs ++ roundsWords (before + length xs) ys
+pub rounds-append : (before : ℕ) (xs ys : List Round) → roundsWords before (xs ++ ys) ≡ roundsWords before xs ++ roundsWords (before + length xs) ys
 unfolding roundsWords
 rounds-append before [] ys = ap (λ (m : ℕ). roundsWords m ys) (omega arith)
 rounds-append before (tasks ∷ xs) ys =
@@ -123,7 +118,7 @@ module _ (day plan : List ℕ) (ok : IsAccepted day) (l : Lawful day plan) where
   -- where the plan is lawful, the companion looks for the vehicle
   place-asked : (number : ℕ) → vehiclePlace day plan number ≡ placeFrom number (planWords (l .rounds) (l .lefts)) 0
   unfolding vehiclePlace
-  place-asked number = rw (lawful-totals day plan ok l) (ap (λ (ws : List ℕ). placeFrom number ws 0) (l .formed .text))
+  place-asked number = rw (lawful-totals day plan ok l) (place-read number plan (planWords (l .rounds) (l .lefts)) 0 (l .formed .text))
 
   few : length (l .rounds) < 256
   few = few-rounds day plan (l .rounds) (l .lefts) (l .formed)
@@ -155,10 +150,16 @@ module _ (day plan : List ℕ) (ok : IsAccepted day) (l : Lawful day plan) where
         ∙ ap (λ (i : ℕ). given (i ∷ length words ∷ [])) (omega arith)
 
     -- its words are handed back
-    pub vehicle-handed : vehicleWords day plan (suc (length before)) ≡ words
+    pub vehicle-handed : readPlan (vehicleWords day plan (suc (length before))) ≡ readPlan words
     unfolding vehicleWords
     vehicle-handed =
-        let text : plan ≡ roundsWords 0 before ++ (words ++ (roundsWords (suc (length before)) behind ++ map leftWord (l .lefts))) =
-        l .formed .text ∙ ap (λ (rs : List Round). planWords rs (l .lefts)) e ∙ around before behind tasks (l .lefts) in
-        rw (vehicle-there, text)
-        (ap (take (length words)) (drop-at (roundsWords 0 before) _ (length (roundsWords 0 before)) refl) ∙ take-at words _ (length words) refl)
+        let front = roundsWords 0 before in
+        let others = words ++ (roundsWords (suc (length before)) behind ++ map leftWord (l .lefts)) in
+        let text : readPlan plan ≡ readPlan (front ++ others) =
+        l .formed .text ∙ ap readPlan (ap (λ (rs : List Round). planWords rs (l .lefts)) e ∙ around before behind tasks (l .lefts)) in
+        let part : List ℕ → List ℕ = λ ws. take (length words) (drop (length front) ws) in
+        let part-read : (ws : List ℕ) → readPlan (part ws) ≡ take (length words) (drop (length front) (readPlan ws)) =
+        λ ws. read-take (length words) (drop (length front) ws) ∙ ap (take (length words)) (read-drop (length front) ws) in
+        rw vehicle-there
+        (part-read plan ∙ ap (λ (l : List Word). take (length words) (drop (length front) l)) text ∙ sym (part-read (front ++ others))
+        ∙ ap readPlan (ap (take (length words)) (drop-at front others (length front) refl) ∙ take-at words _ (length words) refl))

@@ -21,9 +21,8 @@ use Rattle.word_steps.specs.Steps.{Next, Within}
 use Rattle.trips.specs.Trips.{CargoWithin, TripWithin, TallyWithin}
 use Rattle.word_steps.specs.declared.steps.State.{State}
 use Rattle.word_steps.specs.declared.steps.Step.{Step}
-use Rattle.plan_laws.proofs.WordForms.{within-both}
 use Rattle.plan_laws.proofs.Loads.{not-over}
-use Rattle.plan_laws.proofs.Passing.{Passes}
+use Rattle.plan_laws.proofs.Passing.{Passes, within-both}
 use Rattle.plan_parts.specs.Walked.{walkOf}
 
 -- no fault, no reason

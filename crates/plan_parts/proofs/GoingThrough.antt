@@ -124,13 +124,13 @@ part-behind day plan met i r h e =
     record { more = omega (arith, p .more); most = p .most; reached = p .reached }
 
 -- at the plan's end
-pub told-end : (day plan : List ℕ) (i : ℕ) (s : State) (bytes : List ℕ) (z : Layout) (r : Told) → Reached day plan i s bytes → i ≤ length plan → length plan ≤ i
-    → LayoutOf day z → length plan ≤ 4096 → r .tally ≡ s .tally → ToldAll day plan r
-told-end day plan i s bytes z r so-far most least l short q =
+pub told-end : (day plan : List ℕ) (i : ℕ) (s : State) (bytes : List ℕ) (layout : Layout) (r : Told) → Reached day plan i s bytes → i ≤ length plan → length plan ≤ i
+    → LayoutOf day layout → length plan ≤ 4096 → r .tally ≡ s .tally → ToldAll day plan r
+told-end day plan i s bytes layout r so-far most least l short q =
     let end : length plan ≡ i = omega arith in
     record {
       small = rw q (reached-tally day plan i s bytes so-far short most);
-      same = rw (q, end, ← l .stopsAre) (reached-end day plan i s bytes z _ so-far least l refl);
+      same = rw (q, end, ← l .stopsAre) (reached-end day plan i s bytes layout _ so-far least l refl);
     }
 
 -- as a vehicle leaves
@@ -161,5 +161,5 @@ module _ (day plan : List ℕ) (r : Told) (h : r .all ≡ true → ToldAll day p
   pub told-small : TallyWithin 4096 (r .tally)
   told-small = h d .small
 
-  pub told-answer : (z : Layout) (answer : List ℕ) → LayoutOf day z → answer ≡ endOf (z .stops) (length plan) (r .tally) → answer ≡ checkFrom day plan 0 (start day)
-  told-answer z answer l e = e ∙ rw (l .stopsAre) (h d .same)
+  pub told-answer : (layout : Layout) (answer : List ℕ) → LayoutOf day layout → answer ≡ endOf (layout .stops) (length plan) (r .tally) → answer ≡ checkFrom day plan 0 (start day)
+  told-answer layout answer l e = e ∙ rw (l .stopsAre) (h d .same)

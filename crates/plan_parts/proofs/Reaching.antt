@@ -26,8 +26,8 @@ use Rattle.word_steps.specs.Steps.{isMet, stopIn, isMetIn, formedFault, faultBy
 use Rattle.trips.specs.Trips.{TallyWithin}
 use Rattle.word_steps.specs.declared.steps.State.{State}
 use Rattle.word_steps.specs.declared.steps.Step.{Step}
-use Rattle.plan_laws.proofs.WordForms.{within-both, Apart, isVehicle, isStop, isTip, isRest, isBack, isLeft, isStray, apart}
-use Rattle.plan_laws.proofs.Passing.{Passes, fault-passes}
+use Rattle.plan_words.proofs.WordForms.{Apart, isVehicle, isStop, isTip, isRest, isBack, isLeft, isStray, apart}
+use Rattle.plan_laws.proofs.Passing.{Passes, fault-passes, within-both}
 use Rattle.plan_parts.specs.Walked.{noneMet, walkOf, endOf, metBy, Reached}
 use Rattle.plan_parts.proofs.Bounds.{within-step, within-start, within-more}
 
@@ -45,13 +45,13 @@ left-known day s k f =
 -- a word's stop is a byte
 stop-small : (w : ℕ) (x : Word) → Apart w x → stopIn x < 256
 unfolding stopIn
-stop-small w x (isVehicle k h e) = omega arith
-stop-small w x (isStop k h e) = h
-stop-small w x (isTip k h e) = omega arith
-stop-small w x (isRest e) = omega arith
-stop-small w x (isBack e) = omega arith
-stop-small w x (isLeft k h e) = h
-stop-small w x isStray = omega arith
+stop-small w x (isVehicle k h d e) = omega arith
+stop-small w x (isStop k h d e) = h
+stop-small w x (isTip k h d e) = omega arith
+stop-small w x (isRest d e) = omega arith
+stop-small w x (isBack d e) = omega arith
+stop-small w x (isLeft k h d e) = h
+stop-small w x (isStray e) = omega arith
 
 -- bytes and list agree on every stop's number
 module _ (bytes met : List ℕ) (marks : (k : ℕ) → 0 < k → k < 256 → isMet bytes k ≡ mem k met) where
@@ -183,9 +183,9 @@ missing u x n e = go (decLt 0 u)
     go (yes h) = lt-ltb 0 u h ∙ sym (lt-ltb x n (omega arith))
     go (no h) = le-ltb 0 u (omega arith) ∙ sym (le-ltb x n (omega arith))
 
-pub reached-end : (day plan : List ℕ) (i : ℕ) (s : State) (bytes : List ℕ) (z : Layout) (answer : List ℕ) → Reached day plan i s bytes → length plan ≤ i
-    → LayoutOf day z → answer ≡ endOf (z .stops) i (s .tally) → answer ≡ checkFrom day plan 0 (start day)
+pub reached-end : (day plan : List ℕ) (i : ℕ) (s : State) (bytes : List ℕ) (layout : Layout) (answer : List ℕ) → Reached day plan i s bytes → length plan ≤ i
+    → LayoutOf day layout → answer ≡ endOf (layout .stops) i (s .tally) → answer ≡ checkFrom day plan 0 (start day)
 unfolding checkFrom finished endOf
-reached-end day plan i s bytes z answer so-far h l e =
+reached-end day plan i s bytes layout answer so-far h l e =
     e
     ∙ rw (l .stopsAre, ← missing _ _ _ (so-far .count)) (rw (drop-of-length-le plan h) at (so-far .remains))

@@ -73,23 +73,23 @@ fn out_with(y: Tally, cargo: Cargo, trip: Trip) -> State
 // The words of a vehicle behind its A word. Between two words only cargo and trip change.
 fn round(
     day: &[u32],
-    z: day::fields::Layout,
+    layout: day::fields::Layout,
     limits: Limits,
     y: Tally,
     met: &mut [u8; 256],
     plan: &[u32],
     from: usize,
 ) -> Part
-    requires { ⌜ LayoutOf (now day) z × LimitsOf (now day) limits × (length (now plan) ≤ 4096) × (from ≤ length (now plan)) × Reached (now day) (now plan) from (outWith y empty (leaving (now day))) (now met) ⌝ }
+    requires { ⌜ LayoutOf (now day) layout × LimitsOf (now day) limits × (length (now plan) ≤ 4096) × (from ≤ length (now plan)) × Reached (now day) (now plan) from (outWith y empty (leaving (now day))) (now met) ⌝ }
     ensures { λ r. ⌜ (r .done ≡ true → PartTo (now (day .entry)) (now (plan .entry)) (now (met .exit)) from r) ⌝ }
 {
     let mut cargo = nothing();
-    let mut trip = leave(day, z);
+    let mut trip = leave(day, layout);
     let mut i = from;
     while i < plan.len() {
         let next = i + 1;
         let s = out_with(y, cargo, trip);
-        let step = task_step(day, z, limits, s, &*met, plan[i]);
+        let step = task_step(day, layout, limits, s, &*met, plan[i]);
         if step.fault != 0 {
             return no_part();
         }
@@ -113,54 +113,55 @@ fn round(
 // The part that begins at an index.
 fn next_part(
     day: &[u32],
-    z: day::fields::Layout,
+    layout: day::fields::Layout,
     limits: Limits,
     s: State,
     met: &mut [u8; 256],
     plan: &[u32],
     i: usize,
 ) -> Part
-    requires { ⌜ LayoutOf (now day) z × LimitsOf (now day) limits × (length (now plan) ≤ 4096) × (i < length (now plan)) × Reached (now day) (now plan) i s (now met) ⌝ }
+    requires { ⌜ LayoutOf (now day) layout × LimitsOf (now day) limits × (length (now plan) ≤ 4096) × (i < length (now plan)) × Reached (now day) (now plan) i s (now met) ⌝ }
     ensures { λ r. ⌜ (r .done ≡ true → PartTo (now (day .entry)) (now (plan .entry)) (now (met .exit)) i r) ⌝ }
 {
     let w = plan[i];
-    if w / 256 == 0xA00000 {
-        let out = vehicle_word(day, z, s, &*met, w % 256);
+    let k = plan_words::number(w);
+    if plan_words::is_vehicle(w) {
+        let out = vehicle_word(day, layout, s, &*met, k);
         if out.fault != 0 {
             return no_part();
         }
         let at = out.stop;
         met[at] = 1;
         let y = out.state.tally;
-        return round(day, z, limits, y, met, plan, i + 1);
+        return round(day, layout, limits, y, met, plan, i + 1);
     }
-    if w / 256 != 0xF00000 {
-        return no_part();
+    if plan_words::is_left(w) {
+        let left = left_word(day, layout, s, &*met, k);
+        if left.fault != 0 {
+            return no_part();
+        }
+        let at = left.stop;
+        met[at] = 1;
+        let state = left.state;
+        return Part {
+            done: true,
+            end: i + 1,
+            state,
+        };
     }
-    let left = left_word(day, z, s, &*met, w % 256);
-    if left.fault != 0 {
-        return no_part();
-    }
-    let at = left.stop;
-    met[at] = 1;
-    let state = left.state;
-    Part {
-        done: true,
-        end: i + 1,
-        state,
-    }
+    no_part()
 }
 
 // All parts of a plan.
-pub fn all_parts(day: &[u32], z: day::fields::Layout, limits: Limits, plan: &[u32]) -> Told
-    requires { ⌜ LayoutOf (now day) z × LimitsOf (now day) limits × (length (now plan) ≤ 4096) ⌝ }
+pub fn all_parts(day: &[u32], layout: day::fields::Layout, limits: Limits, plan: &[u32]) -> Told
+    requires { ⌜ LayoutOf (now day) layout × LimitsOf (now day) limits × (length (now plan) ≤ 4096) ⌝ }
     ensures { λ r. ⌜ (r .all ≡ true → ToldAll (now (day .entry)) (now (plan .entry)) r) ⌝ }
 {
-    let mut s = first_state(day, z);
+    let mut s = first_state(day, layout);
     let mut met = no_stops();
     let mut i: usize = 0;
     while i < plan.len() {
-        let part = next_part(day, z, limits, s, &mut met, plan, i);
+        let part = next_part(day, layout, limits, s, &mut met, plan, i);
         if !part.done {
             return Told {
                 all: false,

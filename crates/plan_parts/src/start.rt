@@ -10,14 +10,14 @@ use trips::trip::leave;
 use word_steps::steps::State;
 
 // Before the first word.
-pub fn first_state(day: &[u32], z: day::fields::Layout) -> State
-    requires { ⌜ LayoutOf (now day) z ⌝ }
+pub fn first_state(day: &[u32], layout: day::fields::Layout) -> State
+    requires { ⌜ LayoutOf (now day) layout ⌝ }
     ensures { λ r. ⌜ walkOf r [] ≡ start (now (day .entry)) ⌝ }
 {
     State {
         tally: none_told(),
         cargo: nothing(),
-        trip: leave(day, z),
+        trip: leave(day, layout),
     }
 }
 

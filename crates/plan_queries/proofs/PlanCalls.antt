@@ -13,9 +13,9 @@ use Rattle.rules.specs.Answers.{given, refused, isGiven}
 use Rattle.rules.specs.Lists.{unmet}
 use Rattle.rules.specs.DayFile.{tipsIn, stopsIn, wordsOf, formAt, faultOf, judgeFrom, judgeSized, judgeDay}
 use Rattle.rules.specs.Fields.{stops}
-use Rattle.rules.specs.PlanWords.{backWord, wordOf}
+use Rattle.rules.specs.PlanWords.{wordOf}
 use Rattle.rules.specs.Check.{Walk, start, faultAt, walkAfter, finished, checkFrom, checkWords, checkPlan}
-use Rattle.rules.specs.VehiclePlace.{isVehicle, wordsToBack, placeFrom, vehiclePlace, vehicleWords}
+use Rattle.rules.specs.VehiclePlace.{isVehicle, isBack, wordsToBack, placeFrom, vehiclePlace, vehicleWords}
 use Rattle.rules.specs.SameRounds.{counted, sameWords, secondAnswer, sameRounds}
 use Rattle.plan_laws.proofs.LawfulIff.{Checked, lawful, fault, words-checked}
 
@@ -100,7 +100,7 @@ module _ (day plan : List ℕ) (number : ℕ) where
   back-most : (ws : List ℕ) → wordsToBack ws ≤ length ws
   unfolding wordsToBack
   back-most [] = omega arith
-  back-most (w ∷ ws) = go (eqb w backWord) (back-most ws)
+  back-most (w ∷ ws) = go (isBack (wordOf w)) (back-most ws)
     where
       go : (b : Bool) → wordsToBack ws ≤ length ws → (if b then 1 else suc (wordsToBack ws)) ≤ suc (length ws)
       go true h = omega arith

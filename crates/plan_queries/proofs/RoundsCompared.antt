@@ -1,41 +1,40 @@
 -- The words that count, gone through side by side: one law for each way through the functions that compare two plans.
 -- Assumes nothing.
-use Prim.Native.Nat.{ℕ, _+_, _/_, _≤_, _<_}
+use Prim.Native.Nat.{ℕ, _+_, _≤_, _<_}
 use mathlib.Core.Path.{_≡_, refl, sym, ap₂, _∙_}
-use mathlib.Core.Bool.{Bool, true, false}
+use mathlib.Core.Bool.{Bool, true, false, not}
 use mathlib.Core.List.{List, [], _∷_}
 use native.Mathlib.Numerals.{add-one}
 use native.Mathlib.Omega.{arith}
 use lib.ListN.{length, getD, drop, drop-of-length-le}
 use lib.Seq.{drop-cons}
 use lib.Dec.{eqb, leb}
-use borrow.Author.Tests.{eq-eqb, ne-eqb, eqb-true, eqb-false, leb-true, leb-false}
+use borrow.Author.Tests.{eqb-false, leb-true, leb-false, not-true, not-false}
 use Rattle.rules.specs.Tests.{if_then_else_}
-use Rattle.rules.specs.PlanWords.{Word, wordOf}
+use Rattle.rules.specs.PlanWords.{Word, kindOf, vehicleKind, stopKind, wordOf, sameWord}
 use Rattle.rules.specs.SameRounds.{counts, counted, sameWords}
-use Rattle.plan_laws.proofs.WordForms.{Apart, isVehicle, isStop, isTip, isRest, isBack, isLeft, isStray, apart, vehicle-read}
+use Rattle.plan_words.proofs.WordForms.{Apart, isVehicle, isStop, isTip, isRest, isBack, isLeft, isStray, apart, stop-told, vehicle-told}
 use Rattle.plan_queries.specs.Rounds.{NextCounted}
 
 -- a stop's word counts, and else only a vehicle's
-pub stop-counts : (w : ℕ) → w / 256 ≡ 11534336 → true ≡ counts (wordOf w)
-unfolding wordOf
-stop-counts w e = rw (eq-eqb (w / 256) 11534336 e)
+pub stop-counts : (w : ℕ) {asked : Bool} → asked ≡ eqb (kindOf w) stopKind → asked ≡ true → true ≡ counts (wordOf w)
+stop-counts w a t = rw (stop-told w a t refl)
 
-others-not : (w : ℕ) {u : Word} → Apart w u → (w / 256 ≡ 11534336 → ⊥) → (w / 256 ≡ 10485760 → ⊥) → false ≡ counts u
-others-not w (isVehicle k h x) n v = absurd (v (omega arith))
-others-not w (isStop k h x) n v = absurd (n (omega arith))
-others-not w (isTip k h x) n v = refl
-others-not w (isRest x) n v = refl
-others-not w (isBack x) n v = refl
-others-not w (isLeft k h x) n v = refl
-others-not w isStray n v = refl
+others-not : (w : ℕ) {u : Word} → Apart w u → (kindOf w ≡ stopKind → ⊥) → (kindOf w ≡ vehicleKind → ⊥) → false ≡ counts u
+others-not w (isVehicle k h d x) n v = absurd (v d)
+others-not w (isStop k h d x) n v = absurd (n d)
+others-not w (isTip k h d x) n v = refl
+others-not w (isRest d x) n v = refl
+others-not w (isBack d x) n v = refl
+others-not w (isLeft k h d x) n v = refl
+others-not w (isStray x) n v = refl
 
-pub vehicle-counts : (w : ℕ) → (w / 256 ≡ 11534336 → ⊥) → eqb (w / 256) 10485760 ≡ counts (wordOf w)
-vehicle-counts w n = go (eqb (w / 256) 10485760) refl
+pub vehicle-counts : (w : ℕ) {asked r : Bool} → asked ≡ eqb (kindOf w) stopKind → asked ≡ false → r ≡ eqb (kindOf w) vehicleKind → r ≡ counts (wordOf w)
+vehicle-counts w {asked} {r} a f e = go r refl
   where
-    go : (b : Bool) → eqb (w / 256) 10485760 ≡ b → b ≡ counts (wordOf w)
-    go true e = rw (vehicle-read w (eqb-true _ _ e))
-    go false e = others-not w (apart w) n (eqb-false _ _ e)
+    go : (b : Bool) → r ≡ b → b ≡ counts (wordOf w)
+    go true t = rw (vehicle-told w (sym t ∙ e) refl refl)
+    go false t = others-not w (apart w) (eqb-false _ _ (sym a ∙ f)) (eqb-false _ _ (sym e ∙ t))
 
 -- the next word that counts
 module _ (plan : List ℕ) (from : ℕ) where
@@ -97,21 +96,21 @@ module _ (first second : List ℕ) where
         go false e = first-shorter h (leb-false _ _ e)
 
     side : i < length first → j < length second
-        → (if eqb (getD first i 0) (getD second j 0) then sameWords (counted (drop (i + 1) first)) (counted (drop (j + 1) second)) else false)
+        → (if sameWord (getD first i 0) (getD second j 0) then sameWords (counted (drop (i + 1) first)) (counted (drop (j + 1) second)) else false)
         ≡ sameWords (counted first) (counted second)
     unfolding sameWords
     side h l = sym (ap₂ sameWords (heads first _ i (a .firstNext) h) (heads second _ j (a .secondNext) l)) ∙ a .same
 
-    pub words-differ : i < length first → j < length second → (getD first i 0 ≡ getD second j 0 → ⊥) → false ≡ sameWords (counted first) (counted second)
-    words-differ h l n = rw (ne-eqb _ _ n) at (side h l)
+    pub words-differ : {same : Bool} → i < length first → j < length second → same ≡ sameWord (getD first i 0) (getD second j 0) → not same ≡ true → false ≡ sameWords (counted first) (counted second)
+    words-differ h l e f = rw (sym e ∙ not-true _ f) at (side h l)
 
-    pub words-agree : {i′ j′ : ℕ} → i < length first → j < length second → getD first i 0 ≡ getD second j 0 → NextCounted first (i + 1) i′ → NextCounted second (j + 1) j′
+    pub words-agree : {i′ j′ : ℕ} {same : Bool} → i < length first → j < length second → same ≡ sameWord (getD first i 0) (getD second j 0) → not same ≡ false → NextCounted first (i + 1) i′ → NextCounted second (j + 1) j′
         → Alike first second i′ j′
-    words-agree h l e n m =
+    words-agree h l e t n m =
         record {
           firstFrom = i + 1;
           secondFrom = j + 1;
           firstNext = n;
           secondNext = m;
-          same = sym (ap₂ sameWords (n .same) (m .same)) ∙ (rw (eq-eqb _ _ e) at (side h l));
+          same = sym (ap₂ sameWords (n .same) (m .same)) ∙ (rw (sym e ∙ not-false _ t) at (side h l));
         }

@@ -11,10 +11,10 @@ ghost use Rattle.plan_queries.specs.Rounds.{NextCounted};
 fn is_counted(w: u32) -> bool
     ensures { λ r. ⌜ r ≡ counts (wordOf w) ⌝ }
 {
-    if w / 256 == 11534336 {
+    if plan_words::is_stop(w) {
         return true;
     }
-    w / 256 == 10485760
+    plan_words::is_vehicle(w)
 }
 
 // The index of the next word that counts, or the plan's length.
@@ -42,7 +42,7 @@ pub fn are_same(first: &[u32], second: &[u32]) -> bool
         if second.len() <= j {
             return false;
         }
-        if first[i] != second[j] {
+        if !plan_words::are_same(first[i], second[j]) {
             return false;
         }
         i = next_counted(first, i + 1);

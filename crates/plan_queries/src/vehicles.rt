@@ -11,10 +11,10 @@ use rules::answers::PlaceAnswer;
 fn is_vehicle(w: u32, number: u64) -> bool
     ensures { λ r. ⌜ r ≡ isVehicle number (wordOf w) ⌝ }
 {
-    if w / 256 != 10485760 {
-        return false;
+    if plan_words::is_vehicle(w) {
+        return plan_words::number(w) as u64 == number;
     }
-    (w % 256) as u64 == number
+    false
 }
 
 // How many words there are from an index up to the first E.
@@ -24,7 +24,7 @@ fn part_length(plan: &[u32], from: usize) -> usize
 {
     let mut i = from;
     while i < plan.len() {
-        if plan[i] == 3758096384 {
+        if plan_words::is_back(plan[i]) {
             return i + 1 - from;
         }
         i += 1;

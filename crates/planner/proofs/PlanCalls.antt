@@ -58,16 +58,16 @@ pub few-is : (K : ℕ) → fewNeighbours K ≡ true → K ≤ 50
 unfolding fewNeighbours
 few-is K e = leb-true K 50 (both-true (leb 1 K) (leb K 50) e .1)
 
-pub long-not : {day : List ℕ} {z : Layout} → LayoutOf day z → (room spare : ℕ) → room < 5 * z .stops → false ≡ longEnough day room spare
+pub long-not : {day : List ℕ} {layout : Layout} → LayoutOf day layout → (room spare : ℕ) → room < 5 * layout .stops → false ≡ longEnough day room spare
 unfolding longEnough
 long-not {day} h room spare l = let e : leb (5 * stops day) room ≡ false = lt-leb (5 * stops day) room (omega (arith, h .stopsAre)) in rw e refl
 
-pub long-by : {day : List ℕ} {z : Layout} → LayoutOf day z → (room spare : ℕ) → 5 * z .stops ≤ room → leb (5 * z .stops) spare ≡ longEnough day room spare
+pub long-by : {day : List ℕ} {layout : Layout} → LayoutOf day layout → (room spare : ℕ) → 5 * layout .stops ≤ room → leb (5 * layout .stops) spare ≡ longEnough day room spare
 unfolding longEnough
 long-by {day} h room spare l =
     let e : leb (5 * stops day) room ≡ true = le-leb (5 * stops day) room (omega (arith, h .stopsAre)) in rw (h .stopsAre, e) refl
 
-pub long-room : {day : List ℕ} {z : Layout} → LayoutOf day z → (room spare : ℕ) → longEnough day room spare ≡ true → (5 * z .stops ≤ room) × (5 * z .stops ≤ spare)
+pub long-room : {day : List ℕ} {layout : Layout} → LayoutOf day layout → (room spare : ℕ) → longEnough day room spare ≡ true → (5 * layout .stops ≤ room) × (5 * layout .stops ≤ spare)
 unfolding longEnough
 long-room {day} h room spare e =
     let b = both-true (leb (5 * stops day) room) (leb (5 * stops day) spare) e in
@@ -80,7 +80,7 @@ pub record Values (day : List ℕ) (distance left words : ℕ) : Type 0 where
   pub wordsAre : words ≡ length (greedyPlan day)
 
 -- the greedy plan that was built
-module _ (day plan : List ℕ) {z : Layout} (h : LayoutOf day z) (l : 5 * z .stops ≤ length plan) where
+module _ (day plan : List ℕ) {layout : Layout} (h : LayoutOf day layout) (l : 5 * layout .stops ≤ length plan) where
   long : ltb (length plan) (5 * stops day) ≡ false
   long = le-ltb (length plan) (5 * stops day) (omega (arith, h .stopsAre))
 
@@ -106,40 +106,40 @@ module _ (day plan : List ℕ) {z : Layout} (h : LayoutOf day z) (l : 5 * z .sto
   abbrev zeros : List ℕ
   zeros = replicate (5 * stops day - length (greedyPlan day)) 0
 
-  front-long : length (greedyPlan day ++ zeros) ≡ 5 * z .stops
+  front-long : length (greedyPlan day ++ zeros) ≡ 5 * layout .stops
   front-long =
       omega (arith, length-append (greedyPlan day) zeros, length-replicate {A = ℕ} (5 * stops day - length (greedyPlan day)) 0, greedy-room day, h .stopsAre)
 
-  built-is : {now : List ℕ} → now ≡ builtBuffer day plan → now ≡ (greedyPlan day ++ zeros) ++ drop (5 * z .stops) plan
+  built-is : {now : List ℕ} → now ≡ builtBuffer day plan → now ≡ (greedyPlan day ++ zeros) ++ drop (5 * layout .stops) plan
   unfolding builtBuffer planned
-  built-is e = e ∙ rw long (over-drop (greedyPlan day ++ zeros) plan (5 * z .stops) front-long)
+  built-is e = e ∙ rw long (over-drop (greedyPlan day ++ zeros) plan (5 * layout .stops) front-long)
 
-  pub lent-long : {now : List ℕ} → now ≡ builtBuffer day plan → length (take (5 * z .stops - 0) (drop 0 now)) ≡ 5 * z .stops
+  pub lent-long : {now : List ℕ} → now ≡ builtBuffer day plan → length (take (5 * layout .stops - 0) (drop 0 now)) ≡ 5 * layout .stops
   lent-long {now} e =
-      let n : 5 * z .stops - 0 ≡ 5 * z .stops = omega arith in
-      ap (λ (k : ℕ). length (take k now)) n ∙ length-take-le (5 * z .stops) now (omega (arith, ap length (built-is e), length-append (greedyPlan day ++ zeros) (drop (5 * z .stops) plan), front-long))
+      let n : 5 * layout .stops - 0 ≡ 5 * layout .stops = omega arith in
+      ap (λ (k : ℕ). length (take k now)) n ∙ length-take-le (5 * layout .stops) now (omega (arith, ap length (built-is e), length-append (greedyPlan day ++ zeros) (drop (5 * layout .stops) plan), front-long))
 
-  pub greedy-at : {now : List ℕ} {words : ℕ} → now ≡ builtBuffer day plan → words ≡ length (greedyPlan day) → PlanAt day (take (5 * z .stops - 0) (drop 0 now)) words (greedyRounds day)
+  pub greedy-at : {now : List ℕ} {words : ℕ} → now ≡ builtBuffer day plan → words ≡ length (greedyPlan day) → PlanAt day (take (5 * layout .stops - 0) (drop 0 now)) words (greedyRounds day)
   unfolding greedyPlan
   greedy-at {now} {words} e w =
-      let n : 5 * z .stops - 0 ≡ 5 * z .stops = omega arith in
+      let n : 5 * layout .stops - 0 ≡ 5 * layout .stops = omega arith in
       record {
         shaped = greedy-shaped day;
         fits = omega (arith, lent-long e, w, greedy-room day, h .stopsAre);
         text =
-            ap (λ (k : ℕ). take words (take k now)) n ∙ take-take words (5 * z .stops) now (omega (arith, w, greedy-room day, h .stopsAre))
-            ∙ ap (take words) (built-is e ∙ append-assoc (greedyPlan day) zeros (drop (5 * z .stops) plan))
-            ∙ take-at (greedyPlan day) (zeros ++ drop (5 * z .stops) plan) words (sym w);
+            ap (λ (k : ℕ). take words (take k now)) n ∙ take-take words (5 * layout .stops) now (omega (arith, w, greedy-room day, h .stopsAre))
+            ∙ ap (take words) (built-is e ∙ append-assoc (greedyPlan day) zeros (drop (5 * layout .stops) plan))
+            ∙ take-at (greedyPlan day) (zeros ++ drop (5 * layout .stops) plan) words (sym w);
       }
 
   -- the plan that was worked over
-  pub worked-over : {built buffer : List ℕ} {K budget left : ℕ} {r : Search} → built ≡ builtBuffer day plan → Improved day K budget buffer r → length buffer ≡ 5 * z .stops
+  pub worked-over : {built buffer : List ℕ} {K budget left : ℕ} {r : Search} → built ≡ builtBuffer day plan → Improved day K budget buffer r → length buffer ≡ 5 * layout .stops
       → left ≡ length (greedyLefts day)
-      → WorkedOver day K budget plan (putMid 0 (5 * z .stops - 0) built buffer)
+      → WorkedOver day K budget plan (putMid 0 (5 * layout .stops - 0) built buffer)
       (given (r .distance ∷ r .made ∷ (if r .settled then 1 else 0) ∷ left ∷ r .words ∷ []))
   unfolding resultValues planned
   worked-over {built} {buffer} {K} {budget} {left} {r} e i size f =
-      let n : 5 * z .stops - 0 ≡ 5 * z .stops = omega arith in
+      let n : 5 * layout .stops - 0 ≡ 5 * layout .stops = omega arith in
       let whole : searched day (K ∷ []) budget ≡ record { plan = i .rounds; trials = r .made; settled = r .settled } = searched-one day K budget ∙ sym (i .is) in
       let words = planWords (i .rounds) (greedyLefts day) in
       let rest = replicate {A = ℕ} (5 * stops day - length words) 0 in
@@ -148,9 +148,9 @@ module _ (day plan : List ℕ) {z : Layout} (h : LayoutOf day z) (l : 5 * z .sto
       record {
         values = rw (whole, i .distance, f, i .count) refl;
         buffer =
-            ap (λ (k : ℕ). putMid 0 k built buffer) n ∙ ap (λ (ws : List ℕ). ws ++ drop (5 * z .stops) built) filled
-            ∙ ap (λ (ws : List ℕ). (words ++ rest) ++ ws) (ap (drop (5 * z .stops)) (built-is e) ∙ drop-at (greedyPlan day ++ zeros) (drop (5 * z .stops) plan) (5 * z .stops) front-long)
-            ∙ sym (over-drop (words ++ rest) plan (5 * z .stops) (sym (ap length filled) ∙ size))
+            ap (λ (k : ℕ). putMid 0 k built buffer) n ∙ ap (λ (ws : List ℕ). ws ++ drop (5 * layout .stops) built) filled
+            ∙ ap (λ (ws : List ℕ). (words ++ rest) ++ ws) (ap (drop (5 * layout .stops)) (built-is e) ∙ drop-at (greedyPlan day ++ zeros) (drop (5 * layout .stops) plan) (5 * layout .stops) front-long)
+            ∙ sym (over-drop (words ++ rest) plan (5 * layout .stops) (sym (ap length filled) ∙ size))
             ∙ ap (λ (x : Result (List Round)). over (planWords (x .plan) (greedyLefts day) ++ replicate (5 * stops day - length (planWords (x .plan) (greedyLefts day))) 0) plan) (sym whole);
       }
 
@@ -221,5 +221,5 @@ module _ (day : List ℕ) (K budget spare : ℕ) (plan : List ℕ) {judged : Day
     accepted-plan-buffer now h = rw (← accepted-day) h
 
 -- the words needed
-pub need-refused : {day : List ℕ} {z : Layout} → LayoutOf day z → _≡_ {A = List ℕ} (refused 14 (5 * z .stops)) (refused 14 (5 * stops day))
+pub need-refused : {day : List ℕ} {layout : Layout} → LayoutOf day layout → _≡_ {A = List ℕ} (refused 14 (5 * layout .stops)) (refused 14 (5 * stops day))
 need-refused h = ap (λ (n : ℕ). refused 14 (5 * n)) (h .stopsAre)

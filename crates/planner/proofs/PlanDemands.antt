@@ -6,10 +6,9 @@ use mathlib.Core.Bool.{true}
 use mathlib.Core.List.{List}
 use lib.ListN.{length}
 use borrow.Author.Tests.{le-leb}
-use Rattle.rules.specs.Fields.{stops}
-use Rattle.rules.specs.Accepted.{IsAccepted}
+use Rattle.rules.specs.Fields.{stops, IsAccepted}
 use Rattle.rules.specs.Planned.{fewNeighbours, longEnough, plannedAnswer, plannedBuffer, planAnswer, planBuffer}
-use Rattle.rules.specs.Demanded.{Answered, Demanded}
+use Rattle.rules.specs.Demands.{Answered, Demanded}
 use Rattle.trials.proofs.Promises.{demand-three}
 
 few-true : (K : ℕ) → 1 ≤ K → K ≤ 50 → fewNeighbours K ≡ true

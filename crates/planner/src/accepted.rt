@@ -2,7 +2,7 @@
 ghost use mathlib.Core.Path.{_≡_};
 ghost use Prim.Native.Nat.{_≤_, _<_, _*_};
 ghost use lib.ListN.{length};
-ghost use Rattle.rules.specs.Accepted.{IsAccepted};
+ghost use Rattle.rules.specs.Fields.{IsAccepted};
 ghost use Rattle.rules.specs.AnswerValues.{planValues};
 ghost use Rattle.rules.specs.Planned.{fewNeighbours, longEnough, plannedAnswer, plannedBuffer, SpareKept};
 ghost use Rattle.day.specs.Layout.{LayoutOf};
@@ -15,16 +15,16 @@ use trials::improve::improve;
 // The greedy plan, worked over in buffers that are long enough.
 fn work_over(
     day: &[u32],
-    z: Layout,
+    layout: Layout,
     k: usize,
     budget: u64,
     plan: &mut [u32],
     work: &mut [u32],
 ) -> PlanAnswer
-    requires { ⌜ LayoutOf (now day) z × IsAccepted (now day) × (k ≤ 50) × (5 * z .stops ≤ length (now plan)) × (5 * z .stops ≤ length (now work)) ⌝ }
+    requires { ⌜ LayoutOf (now day) layout × IsAccepted (now day) × (k ≤ 50) × (5 * layout .stops ≤ length (now plan)) × (5 * layout .stops ≤ length (now work)) ⌝ }
     ensures { λ r. ⌜ WorkedOver (now (day .entry)) k budget (now (plan .entry)) (now (plan .exit)) (planValues r) ⌝ }
 {
-    let answer = build_accepted(day, z, plan);
+    let answer = build_accepted(day, layout, plan);
     match answer {
         PlanAnswer::Planned {
             distance,
@@ -33,8 +33,17 @@ fn work_over(
             left_out,
             words,
         } => {
-            let need = 5 * z.stops;
-            let last = improve(day, z, k, budget, words, distance, &mut plan[0..need], work);
+            let need = 5 * layout.stops;
+            let last = improve(
+                day,
+                layout,
+                k,
+                budget,
+                words,
+                distance,
+                &mut plan[0..need],
+                work,
+            );
             PlanAnswer::Planned {
                 distance: last.distance,
                 trials: last.made,
@@ -58,11 +67,11 @@ fn is_few(k: u64) -> bool
 }
 
 // Whether both buffers have the words that are needed.
-fn are_long(day: &[u32], z: Layout, room: usize, spare: usize) -> bool
-    requires { ⌜ LayoutOf (now day) z × (z .stops ≤ 240) ⌝ }
+fn are_long(day: &[u32], layout: Layout, room: usize, spare: usize) -> bool
+    requires { ⌜ LayoutOf (now day) layout × (layout .stops ≤ 240) ⌝ }
     ensures { λ r. ⌜ r ≡ longEnough (now (day .entry)) room spare ⌝ }
 {
-    let need = 5 * z.stops;
+    let need = 5 * layout.stops;
     if room < need {
         return false;
     }
@@ -72,24 +81,24 @@ fn are_long(day: &[u32], z: Layout, room: usize, spare: usize) -> bool
 // The answer on an accepted day.
 pub fn plan_accepted(
     day: &[u32],
-    z: Layout,
+    layout: Layout,
     k: u64,
     budget: u64,
     plan: &mut [u32],
     work: &mut [u32],
 ) -> PlanAnswer
-    requires { ⌜ LayoutOf (now day) z × IsAccepted (now day) ⌝ }
+    requires { ⌜ LayoutOf (now day) layout × IsAccepted (now day) ⌝ }
     ensures answer { λ r. ⌜ planValues r ≡ plannedAnswer (now (day .entry)) k budget (length (now (plan .entry))) (length (now (work .entry))) ⌝ }
     ensures buffer { λ r. ⌜ now (plan .exit) ≡ plannedBuffer (now (day .entry)) k budget (length (now (work .entry))) (now (plan .entry)) ⌝ }
     ensures spare { λ r. ⌜ SpareKept (plannedAnswer (now (day .entry)) k budget (length (now (plan .entry))) (length (now (work .entry)))) (now (work .entry)) (now (work .exit)) ⌝ }
 {
     if is_few(k) {
-        if are_long(day, z, plan.len(), work.len()) {
-            return work_over(day, z, k as usize, budget, plan, work);
+        if are_long(day, layout, plan.len(), work.len()) {
+            return work_over(day, layout, k as usize, budget, plan, work);
         }
         return PlanAnswer::Refused {
             number: 14,
-            place: 5 * z.stops,
+            place: 5 * layout.stops,
         };
     }
     PlanAnswer::Refused {

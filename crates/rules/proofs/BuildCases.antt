@@ -7,7 +7,7 @@ use Rattle.rules.specs.Tips.{openTip, nearestTip}
 use Rattle.rules.specs.Home.{due, restIfDue, homeDirect, homeByTip, homeLoaded, wayHome}
 use Rattle.rules.specs.Choice.{suits, takeable, waitable, nearestStop, earliestStop, nearCapacity, farther, chosenStop}
 use Rattle.rules.specs.Build.{resting, serving, emptying, nextTask, drive, oneVehicle, fleet, routed, remaining, greedyPlan, couldTakeFirst}
-use Rattle.rules.specs.DayM.{dayM}
+use Rattle.rules.proofs.DayM.{dayM}
 use Rattle.rules.proofs.CheckCases.{computed}
 
 -- all that the build computes by

@@ -10,7 +10,7 @@ use Rattle.rules.specs.PlanWords.{wordOf}
 use Rattle.rules.specs.Cargo.{overLimits, cargoFault, cargoAfter}
 use Rattle.rules.specs.Trip.{visitFault, restFault, backFault}
 use Rattle.rules.specs.Check.{within, wellFormed, metAgain, metAfter, tallyAfter, faultAt, finished, checkFrom, checkWords, checkPlan}
-use Rattle.rules.specs.DayM.{legsM, dayM}
+use Rattle.rules.proofs.DayM.{legsM, dayM}
 
 -- all that the check computes by
 unfoldable pub computed : Unit {0}

@@ -8,7 +8,7 @@ use Rattle.rules.specs.Check.{checkPlan}
 use Rattle.rules.specs.Build.{greedyLefts}
 use Rattle.rules.specs.Planning.{searched}
 use Rattle.rules.specs.Planned.{fewNeighbours, longEnough, resultValues, plannedAnswer, planAnswer}
-use Rattle.rules.specs.DayM.{dayM, legTo, legBack, windowWord}
+use Rattle.rules.proofs.DayM.{dayM, legTo, legBack, windowWord}
 use Rattle.rules.proofs.CheckCases.{computed, planH}
 use Rattle.rules.proofs.TrialCases.{tried}
 

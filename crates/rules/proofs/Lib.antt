@@ -1,3 +1,4 @@
+pub mod DayM
 pub mod CheckCases
 pub mod BuildCases
 pub mod TrialCases

@@ -6,7 +6,7 @@ use Rattle.rules.specs.Answers.{refused}
 use Rattle.rules.specs.DayFile.{judgeDay}
 use Rattle.rules.specs.Bytes.{readAnswer}
 use Rattle.rules.specs.Planned.{planAnswer}
-use Rattle.rules.specs.DayM.{dayM}
+use Rattle.rules.proofs.DayM.{dayM}
 use Rattle.rules.proofs.CheckCases.{computed}
 use Rattle.rules.proofs.LetteredCases.{planning}
 

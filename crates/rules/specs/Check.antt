@@ -21,6 +21,25 @@ use Rattle.rules.specs.declared.walk.Trip.{Trip}
 abbrev pub untold : Tally
 untold = record { inside = false; vehicles = 0; served = 0; left = 0; last = 0; distance = 0 }
 
+-- one vehicle more, which is out
+abbrev pub oneOut : Tally → Tally
+oneOut y = record { inside = true; vehicles = y .vehicles + 1; served = y .served; left = y .left; last = y .last; distance = y .distance }
+
+-- one stop more is served
+abbrev pub oneServed : Tally → Tally
+oneServed y =
+    record { inside = y .inside; vehicles = y .vehicles; served = y .served + 1; left = y .left; last = y .last; distance = y .distance }
+
+-- a stop is left out
+abbrev pub oneLeft : Tally → ℕ → Tally
+oneLeft y k =
+    record { inside = y .inside; vehicles = y .vehicles; served = y .served; left = y .left + 1; last = k; distance = y .distance }
+
+-- the vehicle is back, and its distance counts
+abbrev pub oneBack : Tally → ℕ → Tally
+oneBack y driven =
+    record { inside = false; vehicles = y .vehicles; served = y .served; left = y .left; last = y .last; distance = y .distance + driven }
+
 -- a number from 1 to the most
 unfoldable pub within : ℕ → ℕ → Bool
 within most k = leb 1 k && leb k most
@@ -57,16 +76,12 @@ metAfter met stray = met
 
 -- the plan so far, after a word; the trip is the one behind the word
 unfoldable pub tallyAfter : Tally → Trip → Word → Tally
-tallyAfter y t (vehicle k) =
-    record { inside = true; vehicles = y .vehicles + 1; served = y .served; left = y .left; last = y .last; distance = y .distance }
-tallyAfter y t (stop k) =
-    record { inside = y .inside; vehicles = y .vehicles; served = y .served + 1; left = y .left; last = y .last; distance = y .distance }
+tallyAfter y t (vehicle k) = oneOut y
+tallyAfter y t (stop k) = oneServed y
 tallyAfter y t (tip k) = y
 tallyAfter y t rest = y
-tallyAfter y t back =
-    record { inside = false; vehicles = y .vehicles; served = y .served; left = y .left; last = y .last; distance = y .distance + t .distance }
-tallyAfter y t (left k) =
-    record { inside = y .inside; vehicles = y .vehicles; served = y .served; left = y .left + 1; last = k; distance = y .distance }
+tallyAfter y t back = oneBack y (t .distance)
+tallyAfter y t (left k) = oneLeft y k
 tallyAfter y t stray = y
 
 -- the walk between two words

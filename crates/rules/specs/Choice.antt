@@ -56,7 +56,7 @@ nearCapacity day c =
 
 -- "a choice farther in minutes than n(r,T)"; there is always one where this is asked
 unfoldable pub farther : List ℕ → Trip → ℕ → ℕ → Bool
-farther day t k x = if eqb x 0 then false else ltb (legMinutes day (t .place) x) (nearKey day t k)
+farther day t k x = if eqb x 0 then false else ltb (legMinutes day (t .place) x) (legMinutes day (t .place) (stopPlace day k))
 
 -- step 3's choice, "dropped" where it is too far; 0 for none
 unfoldable pub chosenStop : List ℕ → Trip → Cargo → ℕ → ℕ

@@ -19,6 +19,8 @@ use Rattle.rules.specs.TrialList.{trialList}
 use Rattle.rules.specs.Attempts.{distanceOf, attempt}
 use Rattle.rules.specs.Search.{Held, lists, sum}
 use Rattle.rules.specs.Planning.{searched}
+use Rattle.rules.specs.Built.{planned}
+use Rattle.rules.specs.Planned.{resultValues, planAnswer, planBuffer}
 
 -- the vehicles of the plan that is handed over
 abbrev pub plannedRounds : List ℕ → List ℕ → ℕ → List Round
@@ -71,3 +73,14 @@ pub record DemandThree (day : List ℕ) (K budget larger : ℕ) : Type 0 where
   -- (D + 1) n (2K + d) trials settle, D the greedy plan's distance
   pub settles : (distanceOf day (greedyRounds day) + 1) * stops day * (2 * K + tips day) ≤ budget → searched day (K ∷ []) budget .settled ≡ true
   pub settlesLarger : (distanceOf day (greedyRounds day) + 1) * stops day * (2 * K + tips day) ≤ larger → searched day (K ∷ []) larger .settled ≡ true
+
+-- "each plan is exactly the one that document 01's build and trials give for its budget"
+pub record Answered (day : List ℕ) (K budget : ℕ) (plan : List ℕ) (spare : ℕ) : Type 0 where
+  pub answer : planAnswer day K budget (length plan) spare ≡ given (resultValues day (searched day (K ∷ []) budget))
+  pub buffer : planBuffer day K budget spare plan ≡ planned day (planWords (searched day (K ∷ []) budget .plan) (greedyLefts day)) plan
+
+-- "plan with trials once for each, in buffers long enough, whatever they held"
+pub record Demanded (day : List ℕ) (K budget larger : ℕ) (first : List ℕ) (firstSpare : ℕ) (second : List ℕ) (secondSpare : ℕ) : Type 0 where
+  pub one : Answered day K budget first firstSpare
+  pub two : Answered day K larger second secondSpare
+  pub both : DemandThree day K budget larger

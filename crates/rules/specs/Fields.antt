@@ -1,11 +1,13 @@
 -- What a day says, under the names of document 01, "Day file". Each is defined on every list of words, 0 past its end, and the bit
 -- fields bound each value whatever the day; on an accepted day it is what the file says. Assumes nothing.
 use Prim.Native.Nat.{ℕ, _+_, _-_, _*_}
-use mathlib.Core.List.{List}
+use mathlib.Core.Path.{_≡_}
+use mathlib.Core.List.{List, [], _∷_}
 use lib.ListN.{getD}
 use lib.Dec.{leb, eqb}
 use Rattle.rules.specs.Tests.{if_then_else_}
-use Rattle.rules.specs.DayFile.{loneNumber, windowOpening, windowClosing, minutesOf, distanceOf, tipsIn, stopsIn, placesOf, legsAt}
+use Rattle.rules.specs.Answers.{given}
+use Rattle.rules.specs.DayFile.{loneNumber, windowOpening, windowClosing, minutesOf, distanceOf, tipsIn, stopsIn, placesOf, legsAt, judgeDay}
 
 -- the word at an index
 abbrev pub wordAt : List ℕ → ℕ → ℕ
@@ -86,3 +88,7 @@ legMinutes day p q = minutesOf (legWord day p q)
 -- its distance
 abbrev pub legDistance : List ℕ → ℕ → ℕ → ℕ
 legDistance day p q = distanceOf (legWord day p q)
+
+-- "a day is accepted when none of 1 to 5 applies to it"
+abbrev pub IsAccepted : List ℕ → Type 0
+IsAccepted day = judgeDay day ≡ given (stops day ∷ tips day ∷ [])

@@ -1,8 +1,7 @@
 -- The least key among the numbers 1..m that pass a test; ties go to the lower number.
 -- Assumes nothing.
-use Prim.Native.Nat.{ℕ, zero, suc, _≤_, _<_}
-use mathlib.Core.Path.{_≡_}
-use mathlib.Core.Bool.{Bool, true, false, _&&_, _||_}
+use Prim.Native.Nat.{ℕ, zero, suc}
+use mathlib.Core.Bool.{Bool, _&&_, _||_}
 use lib.Dec.{ltb, eqb}
 use Rattle.rules.specs.Tests.{if_then_else_}
 
@@ -18,11 +17,3 @@ better ok key k b = if wins ok key k b then k else b
 unfoldable pub least : (ok : ℕ → Bool) (key : ℕ → ℕ) (m : ℕ) → ℕ
 least ok key zero = 0
 least ok key (suc m) = better ok key (suc m) (least ok key m)
-
--- r is that number: 0 only where none passes; else r passes, no key is less than r's, and each lower number's is greater
-pub record IsLeast (ok : ℕ → Bool) (key : ℕ → ℕ) (m r : ℕ) : Type 0 where
-  pub within : r ≤ m
-  pub none : r ≡ 0 → (k : ℕ) → 0 < k → k ≤ m → ok k ≡ false
-  pub passes : 0 < r → ok r ≡ true
-  pub minimal : 0 < r → (k : ℕ) → 0 < k → k ≤ m → ok k ≡ true → key r ≤ key k
-  pub lowest : 0 < r → (k : ℕ) → 0 < k → k < r → ok k ≡ true → key r < key k

@@ -9,7 +9,6 @@ pub mod Buffer
 -- Day file
 pub mod DayFile
 pub mod Fields
-pub mod Accepted
 -- Plan and timetable
 pub mod PlanWords
 pub mod Plan
@@ -40,6 +39,3 @@ pub mod Built
 pub mod Planned
 -- What is promised of planning
 pub mod Demands
-pub mod Demanded
--- Day M
-pub mod DayM

@@ -1,12 +1,8 @@
 -- The neighbours of a stop: document 01, "Trials". Assumes nothing.
-use Prim.Native.Nat.{ℕ, zero, suc, _+_, _*_, _≤_, _<_}
-use mathlib.Core.Path.{_≡_}
+use Prim.Native.Nat.{ℕ, zero, suc, _+_, _*_}
 use mathlib.Core.Bool.{Bool, true, false, not, _&&_}
-use mathlib.Core.List.{List, [], _∷_, map, List·Memᴰ}
-use mathlib.Core.Logic.{_⊎_}
+use mathlib.Core.List.{List, [], _∷_}
 use lib.Dec.{leb, ltb, eqb}
-use lib.ListN.{length}
-use Rattle.rules.specs.Lists.{Every, Rising}
 use Rattle.rules.specs.Least.{least}
 use Rattle.rules.specs.Fields.{stops, stopPlace, opening, closing, service, legMinutes}
 
@@ -45,13 +41,3 @@ neighboursAfter day i (suc more) last =
 -- "the K least t", in order
 unfoldable pub neighbours : List ℕ → ℕ → ℕ → List ℕ
 neighbours day K i = neighboursAfter day i K 0
-
--- what the neighbours are: compatible stops, at most K, their keys rising; any other compatible stop is behind them all, and there is one
--- only where there are K
-pub record AreNeighbours (day : List ℕ) (K i : ℕ) (js : List ℕ) : Type 0 where
-  pub few : length js ≤ K
-  pub known : Every (λ j. (1 ≤ j) × (j ≤ stops day)) js
-  pub suited : Every (λ j. compatible day i j ≡ true) js
-  pub inOrder : Rising 0 (map (neighbourKey day i) js)
-  pub nearest : (j : ℕ) → 1 ≤ j → j ≤ stops day → compatible day i j ≡ true
-      → List·Memᴰ j js ⊎ ((length js ≡ K) × Every (λ k. neighbourKey day i k < neighbourKey day i j) js)

@@ -6,7 +6,7 @@ use mathlib.Core.List.{List, [], _∷_, _++_, map}
 use lib.ListN.{length}
 use Rattle.rules.specs.Lists.{Every, times, Rising}
 use Rattle.rules.specs.Fields.{tips, stops}
-use Rattle.rules.specs.PlanWords.{vehicleWord, stopWord, tipWord, restWord, backWord, leftWord, Word, stop, tip, rest}
+use Rattle.rules.specs.PlanWords.{vehicleWord, stopWord, tipWord, restWord, backWord, leftWord, Word, stop, tip, rest, readPlan}
 
 -- what a vehicle does between leaving and coming back
 pub data Task : Type 0 where
@@ -65,7 +65,8 @@ Known day lunch = Unit {0}
 pub record Formed (day plan : List ℕ) (rounds : List Round) (lefts : List ℕ) : Type 0 where
   -- "a plan is at most 4,096 words"
   pub short : length plan ≤ 4096
-  pub text : plan ≡ planWords rounds lefts
+  -- its words say, kind by kind and number by number, what those of the vehicles and the stops left out say
+  pub text : readPlan plan ≡ readPlan (planWords rounds lefts)
   pub known : Every (Every (Known day)) rounds
   -- "with at least one B"
   pub busy : Every (λ tasks. 0 < length (stopsOn tasks)) rounds

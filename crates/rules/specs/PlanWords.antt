@@ -1,6 +1,8 @@
 -- The words of a plan: document 01, "Plan and timetable". Kinds A to F stand in bits 31-28, the number in bits 7-0, and every other
 -- bit is zero. Assumes nothing.
 use Prim.Native.Nat.{ℕ, _+_, _/_, _%_}
+use mathlib.Core.Bool.{Bool, _&&_}
+use mathlib.Core.List.{List, map}
 use lib.Dec.{eqb}
 use Rattle.rules.specs.Tests.{if_then_else_}
 
@@ -21,32 +23,61 @@ pub data Word : Type 0 where
   -- none of these
   stray : Word
 
--- the kinds' words at number 0: A0000000, B0000000, C0000000, D0000000, E0000000, F0000000
+-- the kind of a word, with the zero bits behind it: bits 31-8
+abbrev pub kindOf : ℕ → ℕ
+kindOf w = w / 0x100
+
+-- "the number is in bits 7-0"
+abbrev pub numberOf : ℕ → ℕ
+numberOf w = w % 0x100
+
+-- the kinds that carry a number
+abbrev pub vehicleKind : ℕ
+vehicleKind = 0xA00000
+
+abbrev pub stopKind : ℕ
+stopKind = 0xB00000
+
+abbrev pub tipKind : ℕ
+tipKind = 0xC00000
+
+abbrev pub leftKind : ℕ
+leftKind = 0xF00000
+
+-- the word of each kind with a number, which "is 0 for D and E"
 abbrev pub vehicleWord : ℕ → ℕ
-vehicleWord k = 2684354560 + k
+vehicleWord k = 0xA0000000 + k
 
 abbrev pub stopWord : ℕ → ℕ
-stopWord k = 2952790016 + k
+stopWord k = 0xB0000000 + k
 
 abbrev pub tipWord : ℕ → ℕ
-tipWord k = 3221225472 + k
+tipWord k = 0xC0000000 + k
 
 abbrev pub restWord : ℕ
-restWord = 3489660928
+restWord = 0xD0000000
 
 abbrev pub backWord : ℕ
-backWord = 3758096384
+backWord = 0xE0000000
 
 abbrev pub leftWord : ℕ → ℕ
-leftWord k = 4026531840 + k
+leftWord k = 0xF0000000 + k
 
--- "the number is in bits 7-0 and is 0 for D and E"
+-- what a word says, by its kind and its number
 unfoldable pub wordOf : ℕ → Word
 wordOf w =
-    if eqb (w / 256) 11534336 then stop (w % 256)
-    else if eqb (w / 256) 12582912 then tip (w % 256)
+    if eqb (kindOf w) stopKind then stop (numberOf w)
+    else if eqb (kindOf w) tipKind then tip (numberOf w)
     else if eqb w restWord then rest
     else if eqb w backWord then back
-    else if eqb (w / 256) 10485760 then vehicle (w % 256)
-    else if eqb (w / 256) 15728640 then left (w % 256)
+    else if eqb (kindOf w) vehicleKind then vehicle (numberOf w)
+    else if eqb (kindOf w) leftKind then left (numberOf w)
     else stray
+
+-- what the words of a plan say
+abbrev pub readPlan : List ℕ → List Word
+readPlan plan = map wordOf plan
+
+-- two words of the same kind and number
+unfoldable pub sameWord : ℕ → ℕ → Bool
+sameWord v w = eqb (kindOf v) (kindOf w) && eqb (numberOf v) (numberOf w)

@@ -4,10 +4,9 @@ use Prim.Native.Nat.{ℕ, _+_}
 use mathlib.Core.Bool.{Bool, true, false}
 use mathlib.Core.List.{List, [], _∷_}
 use lib.ListN.{length, getD}
-use lib.Dec.{eqb}
 use Rattle.rules.specs.Tests.{if_then_else_}
 use Rattle.rules.specs.Answers.{given, refused, isGiven}
-use Rattle.rules.specs.PlanWords.{Word, vehicle, stop, tip, rest, back, left, stray, wordOf}
+use Rattle.rules.specs.PlanWords.{Word, vehicle, stop, tip, rest, back, left, stray, wordOf, sameWord}
 use Rattle.rules.specs.Check.{checkPlan}
 
 -- what counts for the rounds: vehicles and the stops they visit
@@ -25,12 +24,12 @@ unfoldable pub counted : List ℕ → List ℕ
 counted [] = []
 counted (w ∷ ws) = if counts (wordOf w) then w ∷ counted ws else counted ws
 
--- two lists are the same
+-- two lists of words say the same
 unfoldable pub sameWords : List ℕ → List ℕ → Bool
 sameWords [] [] = true
 sameWords [] (y ∷ ys) = false
 sameWords (x ∷ xs) [] = false
-sameWords (x ∷ xs) (y ∷ ys) = if eqb x y then sameWords xs ys else false
+sameWords (x ∷ xs) (y ∷ ys) = if sameWord x y then sameWords xs ys else false
 
 -- a refusal of the second plan: its "places count on from the first's length"
 abbrev pub behind : ℕ → List ℕ → List ℕ

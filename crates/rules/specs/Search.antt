@@ -1,6 +1,6 @@
 -- The budgeted search: document 01, "Trials", over any kind of plan and of trial. `list p` is the trial list of the plan p; `attempt p m`
 -- is the lawful, shorter plan that the trial m of p gives, or none. Assumes nothing.
-use Prim.Native.Nat.{ℕ, zero, suc, _+_, _≤_, _<_}
+use Prim.Native.Nat.{ℕ, zero, suc, _+_}
 use mathlib.Core.Path.{_≡_}
 use mathlib.Core.Bool.{Bool, true, false}
 use mathlib.Core.Option.{Option, none, some}
@@ -33,18 +33,6 @@ module _ {P M : Type 0} (list : P → List M) (attempt : P → M → Option P) w
     start : Held first first zero
     kept : {p q : P} {made : ℕ} (done : List M) (m : M) (rest : List M) → Held first p made → list p ≡ done ++ (m ∷ rest)
         → ((x : M) → List·Memᴰ x done → attempt p x ≡ none) → attempt p m ≡ some q → Held first q (made + length done + 1)
-
-  -- what is known of the result of a search with a budget: its plan was held, after `at` trials; settled, its whole list was made and no
-  -- trial of it kept; not settled, the budget is gone and a trial of its list was not made
-  pub record Outcome (first : P) (budget : ℕ) (r : Result P) : Type 0 where
-    pub at : ℕ
-    pub held : Held first (r .plan) at
-    pub since : at ≤ r .trials
-    pub within : r .trials ≤ budget
-    pub whole : r .settled ≡ true → r .trials ≡ at + length (list (r .plan))
-    pub noneKept : r .settled ≡ true → (m : M) → List·Memᴰ m (list (r .plan)) → attempt (r .plan) m ≡ none
-    pub spent : r .settled ≡ false → r .trials ≡ budget
-    pub missed : r .settled ≡ false → r .trials < at + length (list (r .plan))
 
 -- several neighbourhoods, one behind the other: a kept trial returns to the first, a list with none kept goes on to the next. With one
 -- neighbourhood it is the search over its list.

@@ -1,12 +1,12 @@
 -- One vehicle's words: document 01, "Other calls" and refusal 15. Assumes nothing.
 use Prim.Native.Nat.{ℕ, suc}
-use mathlib.Core.Bool.{Bool, false}
+use mathlib.Core.Bool.{Bool, true, false}
 use mathlib.Core.List.{List, [], _∷_}
 use lib.ListN.{take, drop, getD}
 use lib.Dec.{eqb}
 use Rattle.rules.specs.Tests.{if_then_else_}
 use Rattle.rules.specs.Answers.{given, refused, isGiven}
-use Rattle.rules.specs.PlanWords.{Word, vehicle, stop, tip, rest, back, left, stray, backWord, wordOf}
+use Rattle.rules.specs.PlanWords.{Word, vehicle, stop, tip, rest, back, left, stray, wordOf}
 use Rattle.rules.specs.Check.{checkPlan}
 
 -- the A word of a number; numbers are compared in full
@@ -19,10 +19,20 @@ isVehicle number back = false
 isVehicle number (left k) = false
 isVehicle number stray = false
 
+-- an E word
+abbrev pub isBack : Word → Bool
+isBack (vehicle k) = false
+isBack (stop k) = false
+isBack (tip k) = false
+isBack rest = false
+isBack back = true
+isBack (left k) = false
+isBack stray = false
+
 -- how many words there are up to the first E, it included
 unfoldable pub wordsToBack : List ℕ → ℕ
 wordsToBack [] = 0
-wordsToBack (w ∷ ws) = if eqb w backWord then 1 else suc (wordsToBack ws)
+wordsToBack (w ∷ ws) = if isBack (wordOf w) then 1 else suc (wordsToBack ws)
 
 -- "start and length" of a vehicle's words from index i on; 15, "no such vehicle in the plan (place: its number)"
 unfoldable pub placeFrom : ℕ → List ℕ → ℕ → List ℕ

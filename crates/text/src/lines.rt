@@ -1,5 +1,4 @@
 // The lines of a plan and of a refusal, at the start of a text.
-ghost use mathlib.Core.Path.{_≡_};
 ghost use Prim.Native.Nat.{_+_, _*_, _≤_};
 ghost use lib.ListN.{length};
 ghost use Rattle.rules.specs.Tests.{if_then_else_};

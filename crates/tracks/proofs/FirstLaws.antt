@@ -8,6 +8,7 @@ use native.Mathlib.Omega.{arith}
 use lib.Dec.{leb}
 use borrow.Author.Tests.{le-leb, lt-leb, eq-eqb, ne-eqb}
 use Rattle.rules.specs.Fields.{tips, stops, stopPlace, loadLimit, quantity}
+use Rattle.rules.specs.PlanWords.{restWord, stopWord, tipWord}
 use Rattle.rules.specs.Plan.{Task, serve, empty, lunch, taskWord, Known}
 use Rattle.day.specs.Layout.{LayoutOf}
 use Rattle.day.specs.declared.fields.Layout.{Layout}
@@ -26,13 +27,13 @@ abbrev onward : ℕ → ℕ → ℕ → ℕ → Onward
 onward least most next distance = record { least = least; most = most; next = next; distance = distance }
 
 -- a stop that fits on top, and one that does not
-module _ (day : List ℕ) (z : Layout) (o : Onward) (k : ℕ) {q distance : ℕ} (lay : LayoutOf day z) (kg : q ≡ quantity day (stopPlace day k))
-    (far : distance ≡ distanceOnward day (z .tips + k) o) where
-  pub stop-fits : {least : ℕ} → least ≡ o .least - q → q ≤ o .most → onward least (o .most - q) (z .tips + k) distance ≡ stopFirst day k o
+module _ (day : List ℕ) (layout : Layout) (o : Onward) (k : ℕ) {q distance : ℕ} (lay : LayoutOf day layout) (kg : q ≡ quantity day (stopPlace day k))
+    (far : distance ≡ distanceOnward day (layout .tips + k) o) where
+  pub stop-fits : {least : ℕ} → least ≡ o .least - q → q ≤ o .most → onward least (o .most - q) (layout .tips + k) distance ≡ stopFirst day k o
   unfolding stopFirst
   stop-fits e h = rw (e, far, kg, lay .tipsAre, le-leb (quantity day (stopPlace day k)) (o .most) (rw kg at h)) refl
 
-  pub stop-over : o .most < q → onward 1 0 (z .tips + k) distance ≡ stopFirst day k o
+  pub stop-over : o .most < q → onward 1 0 (layout .tips + k) distance ≡ stopFirst day k o
   unfolding stopFirst
   stop-over h = rw (far, lay .tipsAre, lt-leb (quantity day (stopPlace day k)) (o .most) (rw kg at h)) refl
 
@@ -47,41 +48,41 @@ module _ (day : List ℕ) (o : Onward) (x : ℕ) {distance : ℕ} (far : distanc
   tip-over h = rw (far, ne-eqb (o .least) 0 h) refl
 
 -- the number of a known stop's word, and of a known tip's
-stop-of : (day : List ℕ) (w : ℕ) (task : Task) → Known day task → w ≡ taskWord task → w < 3221225472
-    → (2952790016 ≤ w) × (0 < w - 2952790016) × (w - 2952790016 ≤ stops day)
+stop-of : (day : List ℕ) (w : ℕ) (task : Task) → Known day task → w ≡ taskWord task → w < tipWord 0
+    → ((stopWord 0) ≤ w) × (0 < w - stopWord 0) × (w - stopWord 0 ≤ stops day)
 unfolding Known taskWord
 stop-of day w (serve k) n e h = (omega arith, omega (arith, n .0), omega (arith, n .1))
 stop-of day w (empty x) n e h = absurd (omega arith)
 stop-of day w lunch n e h = absurd (omega arith)
 
-tip-of : (day : List ℕ) (w : ℕ) (task : Task) → Known day task → w ≡ taskWord task → 3221225472 ≤ w → w < 3489660928 → w - 3221225472 ≤ tips day
+tip-of : (day : List ℕ) (w : ℕ) (task : Task) → Known day task → w ≡ taskWord task → (tipWord 0) ≤ w → w < restWord → w - tipWord 0 ≤ tips day
 unfolding Known taskWord
 tip-of day w (serve k) n e l h = absurd (omega (arith, n .1))
 tip-of day w (empty x) n e l h = omega (arith, n .1)
 tip-of day w lunch n e l h = absurd (omega arith)
 
 module _ (day : List ℕ) (w : ℕ) (s : SomeTask day w) where
-  pub stop-number : w < 3221225472 → (2952790016 ≤ w) × (0 < w - 2952790016) × (w - 2952790016 ≤ stops day)
+  pub stop-number : w < tipWord 0 → ((stopWord 0) ≤ w) × (0 < w - stopWord 0) × (w - stopWord 0 ≤ stops day)
   stop-number = stop-of day w (s .task) (s .known) (s .is)
 
-  pub tip-number : 3221225472 ≤ w → w < 3489660928 → w - 3221225472 ≤ tips day
+  pub tip-number : (tipWord 0) ≤ w → w < restWord → w - tipWord 0 ≤ tips day
   tip-number = tip-of day w (s .task) (s .known) (s .is)
 
 -- whatever task the word is
 module _ (day : List ℕ) (w : ℕ) (o r : Onward) where
-  pub puts-stop : w < 3221225472 → r ≡ stopFirst day (w - 2952790016) o → PutsFirst day w o r
+  pub puts-stop : w < tipWord 0 → r ≡ stopFirst day (w - stopWord 0) o → PutsFirst day w o r
   unfolding taskWord
-  puts-stop h e (serve k) n i = let q : w - 2952790016 ≡ k = omega arith in e ∙ ap (λ (j : ℕ). stopFirst day j o) q
+  puts-stop h e (serve k) n i = let q : w - stopWord 0 ≡ k = omega arith in e ∙ ap (λ (j : ℕ). stopFirst day j o) q
   puts-stop h e (empty x) n i = absurd (omega arith)
   puts-stop h e lunch n i = absurd (omega arith)
 
-  pub puts-tip : 3221225472 ≤ w → w < 3489660928 → r ≡ tipFirst day (w - 3221225472) o → PutsFirst day w o r
+  pub puts-tip : (tipWord 0) ≤ w → w < restWord → r ≡ tipFirst day (w - tipWord 0) o → PutsFirst day w o r
   unfolding taskWord Known
   puts-tip l h e (serve k) n i = absurd (omega (arith, n .1))
-  puts-tip l h e (empty x) n i = let q : w - 3221225472 ≡ x = omega arith in e ∙ ap (λ (j : ℕ). tipFirst day j o) q
+  puts-tip l h e (empty x) n i = let q : w - tipWord 0 ≡ x = omega arith in e ∙ ap (λ (j : ℕ). tipFirst day j o) q
   puts-tip l h e lunch n i = absurd (omega arith)
 
-  pub puts-rest : 3489660928 ≤ w → r ≡ o → PutsFirst day w o r
+  pub puts-rest : restWord ≤ w → r ≡ o → PutsFirst day w o r
   unfolding taskWord Known
   puts-rest l e (serve k) n i = absurd (omega (arith, n .1))
   puts-rest l e (empty x) n i = absurd (omega (arith, n .1))

@@ -1,14 +1,16 @@
 // The vehicles of the present plan before each of their words, so that a trial starts where it changes something.
 ghost use mathlib.Core.Path.{_≡_};
-ghost use mathlib.Core.Bool.{true, false};
+ghost use mathlib.Core.Bool.{false};
 ghost use Prim.Native.Nat.{_+_, _<_, _*_};
 ghost use lib.ListN.{length};
 ghost use Rattle.rules.specs.Tests.{if_then_else_};
-ghost use Rattle.rules.specs.Accepted.{IsAccepted};
+ghost use Rattle.rules.specs.Fields.{IsAccepted};
 ghost use Rattle.day.specs.Layout.{LayoutOf};
 ghost use Rattle.tracks.specs.Before.{cabAt, RowHolds, RowsKept, SomeWalks, TaskAhead, WalksTask, FilledBefore};
 use crate::span::as_place;
 use day::fields::Layout;
+use plan_words::REST;
+use plan_words::VEHICLE;
 use rules::walk::Trip;
 use walks::cabs::Cab;
 use walks::vehicle::fresh_cab;
@@ -60,34 +62,34 @@ pub fn cab_at(before: &[u32], at: usize) -> Cab
 }
 
 // One task is walked; a rest is passed over.
-fn walk_task(day: &[u32], z: Layout, c: Cab, w: u32, part: &mut [u32]) -> Cab
-    requires { ⌜ LayoutOf (now day) z × IsAccepted (now day) × TaskAhead (now day) (now part) c w ⌝ }
+fn walk_task(day: &[u32], layout: Layout, c: Cab, w: u32, part: &mut [u32]) -> Cab
+    requires { ⌜ LayoutOf (now day) layout × IsAccepted (now day) × TaskAhead (now day) (now part) c w ⌝ }
     ensures { λ r. ⌜ WalksTask (now (day .entry)) (now (part .entry)) c w (now (part .exit)) r ⌝ }
 {
-    if w == 3489660928 {
+    if w == REST {
         return c;
     }
-    walk_word(day, z, c, w, part)
+    walk_word(day, layout, c, w, part)
 }
 
 // The rows of the vehicle whose tasks are these words, of which the first stands at a place of the plan. The part is worked in.
 pub fn fill_before(
     day: &[u32],
-    z: Layout,
+    layout: Layout,
     words: &[u32],
     from: usize,
     before: &mut [u32],
     part: &mut [u32],
 )
-    requires { ⌜ LayoutOf (now day) z × IsAccepted (now day) × SomeWalks (now day) (now words) (now part) × (length (now before) ≡ 7206) × (from + length (now words) < 1201) ⌝ }
+    requires { ⌜ LayoutOf (now day) layout × IsAccepted (now day) × SomeWalks (now day) (now words) (now part) × (length (now before) ≡ 7206) × (from + length (now words) < 1201) ⌝ }
     ensures { λ r. ⌜ FilledBefore (now (day .entry)) (now (words .entry)) from (now (before .entry)) (now (before .exit)) (now (part .entry)) (now (part .exit)) ⌝ }
 {
-    part[0] = 2684354560;
-    let mut c = fresh_cab(day, z);
+    part[0] = VEHICLE;
+    let mut c = fresh_cab(day, layout);
     put_cab(before, from, c);
     let mut i: usize = 0;
     while i < words.len() {
-        c = walk_task(day, z, c, words[i], part);
+        c = walk_task(day, layout, c, words[i], part);
         i += 1;
         put_cab(before, from + i, c);
     }

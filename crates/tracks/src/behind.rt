@@ -7,6 +7,9 @@ ghost use lib.ListN.{length};
 ghost use Rattle.day.specs.Layout.{LayoutOf};
 ghost use Rattle.tracks.specs.Behind.{distanceOnward, stopFirst, tipFirst, rowAt, RowPut, SomeTask, PutsFirst, SomeRoundTo, FillsBehind};
 use day::fields::Layout;
+use plan_words::REST;
+use plan_words::STOP;
+use plan_words::TIP;
 
 // The loads that a vehicle may come with, so that all that is left is driven as it stands; the place that comes next; the distance behind it.
 pub struct Onward {
@@ -51,11 +54,11 @@ pub fn is_smooth(o: Onward, load: u32) -> bool
 }
 
 // The distance that is left from a place on.
-pub fn onward_distance(day: &[u32], z: Layout, o: Onward, place: usize) -> u32
-    requires { ⌜ LayoutOf (now day) z × (place < z .places) × (o .next < z .places) × (o .distance < 2147483648) ⌝ }
+pub fn onward_distance(day: &[u32], layout: Layout, o: Onward, place: usize) -> u32
+    requires { ⌜ LayoutOf (now day) layout × (place < layout .places) × (o .next < layout .places) × (o .distance < 2147483648) ⌝ }
     ensures { λ r. ⌜ r ≡ distanceOnward (now (day .entry)) place o ⌝ }
 {
-    let leg = day::fields::leg_between(day, z, place, o.next as usize);
+    let leg = day::fields::leg_between(day, layout, place, o.next as usize);
     leg.distance + o.distance
 }
 
@@ -70,13 +73,13 @@ fn less(x: u32, y: u32) -> u32
 }
 
 // Stop k in front of what is left.
-fn stop_first(day: &[u32], z: Layout, o: Onward, k: usize) -> Onward
-    requires { ⌜ LayoutOf (now day) z × (0 < k) × (k ≤ z .stops) × (o .next < z .places) × (o .distance < 2147483648) ⌝ }
+fn stop_first(day: &[u32], layout: Layout, o: Onward, k: usize) -> Onward
+    requires { ⌜ LayoutOf (now day) layout × (0 < k) × (k ≤ layout .stops) × (o .next < layout .places) × (o .distance < 2147483648) ⌝ }
     ensures { λ r. ⌜ r ≡ stopFirst (now (day .entry)) k o ⌝ }
 {
-    let q = day::fields::stop_quantity(day, z, k);
-    let place = z.tips + k;
-    let distance = onward_distance(day, z, o, place);
+    let q = day::fields::stop_quantity(day, layout, k);
+    let place = layout.tips + k;
+    let distance = onward_distance(day, layout, o, place);
     if q <= o.most {
         return Onward {
             least: less(o.least, q),
@@ -94,15 +97,15 @@ fn stop_first(day: &[u32], z: Layout, o: Onward, k: usize) -> Onward
 }
 
 // Tip x in front of what is left.
-fn tip_first(day: &[u32], z: Layout, o: Onward, x: usize) -> Onward
-    requires { ⌜ LayoutOf (now day) z × (x ≤ z .tips) × (o .next < z .places) × (o .distance < 2147483648) ⌝ }
+fn tip_first(day: &[u32], layout: Layout, o: Onward, x: usize) -> Onward
+    requires { ⌜ LayoutOf (now day) layout × (x ≤ layout .tips) × (o .next < layout .places) × (o .distance < 2147483648) ⌝ }
     ensures { λ r. ⌜ r ≡ tipFirst (now (day .entry)) x o ⌝ }
 {
-    let distance = onward_distance(day, z, o, x);
+    let distance = onward_distance(day, layout, o, x);
     if o.least == 0 {
         return Onward {
             least: 1,
-            most: day::fields::load_limit(day, z),
+            most: day::fields::load_limit(day, layout),
             next: x as u32,
             distance,
         };
@@ -116,15 +119,15 @@ fn tip_first(day: &[u32], z: Layout, o: Onward, x: usize) -> Onward
 }
 
 // One word more in front of what is left.
-fn onward_before(day: &[u32], z: Layout, o: Onward, w: u32) -> Onward
-    requires { ⌜ LayoutOf (now day) z × SomeTask (now day) w × (o .next < z .places) × (o .distance < 2147483648) ⌝ }
+fn onward_before(day: &[u32], layout: Layout, o: Onward, w: u32) -> Onward
+    requires { ⌜ LayoutOf (now day) layout × SomeTask (now day) w × (o .next < layout .places) × (o .distance < 2147483648) ⌝ }
     ensures { λ r. ⌜ PutsFirst (now (day .entry)) w o r ⌝ }
 {
-    if w < 3221225472 {
-        return stop_first(day, z, o, (w - 2952790016) as usize);
+    if w < TIP {
+        return stop_first(day, layout, o, (w - STOP) as usize);
     }
-    if w < 3489660928 {
-        return tip_first(day, z, o, (w - 3221225472) as usize);
+    if w < REST {
+        return tip_first(day, layout, o, (w - TIP) as usize);
     }
     o
 }
@@ -132,13 +135,13 @@ fn onward_before(day: &[u32], z: Layout, o: Onward, w: u32) -> Onward
 // The rows of the vehicle whose tasks stand from a place to another, where its E word is.
 pub fn fill_behind(
     day: &[u32],
-    z: Layout,
+    layout: Layout,
     plan: &[u32],
     from: usize,
     end: usize,
     behind: &mut [u32],
 )
-    requires { ⌜ LayoutOf (now day) z × (length (now plan) ≤ 1200) × SomeRoundTo (now day) (now plan) from end × (length (now behind) ≡ 4804) ⌝ }
+    requires { ⌜ LayoutOf (now day) layout × (length (now plan) ≤ 1200) × SomeRoundTo (now day) (now plan) from end × (length (now behind) ≡ 4804) ⌝ }
     ensures { λ r. ⌜ FillsBehind (now (day .entry)) (now (plan .entry)) from end (now (behind .entry)) (now (behind .exit)) ⌝ }
 {
     let mut o = Onward {
@@ -151,7 +154,7 @@ pub fn fill_behind(
     let mut at = end;
     while from < at {
         at -= 1;
-        o = onward_before(day, z, o, plan[at]);
+        o = onward_before(day, layout, o, plan[at]);
         put_row(behind, at, o);
     }
 }

@@ -3,7 +3,7 @@ ghost use mathlib.Core.Path.{_≡_};
 ghost use mathlib.Core.Bool.{false};
 ghost use Prim.Native.Nat.{_+_, _<_, _≤_};
 ghost use lib.ListN.{length};
-ghost use Rattle.rules.specs.Accepted.{IsAccepted};
+ghost use Rattle.rules.specs.Fields.{IsAccepted};
 ghost use Rattle.rules.specs.Plan.{Round};
 ghost use Rattle.rules.specs.Edits.{changed};
 ghost use Rattle.day.specs.Layout.{LayoutOf};
@@ -17,6 +17,7 @@ use crate::behind::onward_at;
 use crate::behind::onward_distance;
 use crate::span::Span;
 use day::fields::Layout;
+use plan_words::VEHICLE;
 use walks::cabs::Cab;
 use walks::edits::Edit;
 use walks::vehicle::Walked;
@@ -39,14 +40,14 @@ fn is_cut(i: usize, last: usize, waiting: u32, load: u32, o: Onward) -> bool
 }
 
 // The vehicle drives what is left as it stands.
-fn drive_onward(day: &[u32], z: Layout, c: Cab, o: Onward) -> Walked
-    requires { ⌜ LayoutOf (now day) z × (c .trip .place < z .places) × (c .trip .distance < 2147483648) × (o .next < z .places) × (o .distance < 1073741824) ⌝ }
+fn drive_onward(day: &[u32], layout: Layout, c: Cab, o: Onward) -> Walked
+    requires { ⌜ LayoutOf (now day) layout × (c .trip .place < layout .places) × (c .trip .distance < 2147483648) × (o .next < layout .places) × (o .distance < 1073741824) ⌝ }
     ensures { λ r. ⌜ (r .stuck ≡ false) × (r .distance ≡ c .trip .distance + distanceOnward (now (day .entry)) (c .trip .place) o) ⌝ }
 {
     let t = c.trip;
     Walked {
         words: 0,
-        distance: t.distance + onward_distance(day, z, o, t.place),
+        distance: t.distance + onward_distance(day, layout, o, t.place),
         stuck: false,
     }
 }
@@ -54,7 +55,7 @@ fn drive_onward(day: &[u32], z: Layout, c: Cab, o: Onward) -> Walked
 // The tasks from the first changed one on are walked, until what is left is known.
 fn walk_span(
     day: &[u32],
-    z: Layout,
+    layout: Layout,
     e: Edit,
     span: Span,
     from: usize,
@@ -63,7 +64,7 @@ fn walk_span(
     first: Cab,
     part: &mut [u32],
 ) -> Walked
-    requires { ⌜ LayoutOf (now day) z × IsAccepted (now day) × EditSmall e × EditKnown (now day) e × (length (now behind) ≡ 4804) × (from + length (now tasks) ≤ 1200) × SomeCuttable (now day) (editOf e) (now tasks) (now part) from (now behind) (span .first) (span .last) first ⌝ }
+    requires { ⌜ LayoutOf (now day) layout × IsAccepted (now day) × EditSmall e × EditKnown (now day) e × (length (now behind) ≡ 4804) × (from + length (now tasks) ≤ 1200) × SomeCuttable (now day) (editOf e) (now tasks) (now part) from (now behind) (span .first) (span .last) first ⌝ }
     ensures { λ r. ⌜ CutsAll (now (day .entry)) (editOf e) (now (tasks .entry)) (now (part .entry)) from (now (behind .entry)) (span .first) (span .last) first r ⌝ }
 {
     let mut c = first;
@@ -75,20 +76,20 @@ fn walk_span(
             if c.stuck {
                 return failed();
             }
-            return drive_onward(day, z, c, o);
+            return drive_onward(day, layout, c, o);
         }
         let turn = next_turn(e, i, tasks[i], waiting);
-        c = walk_word(day, z, c, turn.word, part);
+        c = walk_word(day, layout, c, turn.word, part);
         waiting = turn.waiting;
         i = turn.next;
     }
-    come_back(day, z, c, part)
+    come_back(day, layout, c, part)
 }
 
 // How far the vehicle drives once it is changed.
 pub fn measure(
     day: &[u32],
-    z: Layout,
+    layout: Layout,
     e: Edit,
     span: Span,
     from: usize,
@@ -97,7 +98,7 @@ pub fn measure(
     behind: &[u32],
     part: &mut [u32],
 ) -> Walked
-    requires { ⌜ LayoutOf (now day) z × IsAccepted (now day) × EditSmall e × EditKnown (now day) e × (length (now before) ≡ 7206) × (length (now behind) ≡ 4804) × (from + length (now tasks) ≤ 1200) × SomeMeasurable (now day) (editOf e) (now tasks) (now part) from (now before) (now behind) (span .first) (span .last) ⌝ }
+    requires { ⌜ LayoutOf (now day) layout × IsAccepted (now day) × EditSmall e × EditKnown (now day) e × (length (now before) ≡ 7206) × (length (now behind) ≡ 4804) × (from + length (now tasks) ≤ 1200) × SomeMeasurable (now day) (editOf e) (now tasks) (now part) from (now before) (now behind) (span .first) (span .last) ⌝ }
     ensures { λ r. ⌜ ((ts : Round) → Measurable (now (day .entry)) (editOf e) (now (tasks .entry)) (now (part .entry)) from (now (before .entry)) (now (behind .entry)) (span .first) (span .last) ts → AgainAs (now (day .entry)) (changed (editOf e) 0 ts) r) ⌝ }
 {
     let first = span.first;
@@ -105,6 +106,6 @@ pub fn measure(
     if c.stuck {
         return failed();
     }
-    part[0] = 2684354560;
-    walk_span(day, z, e, span, from, tasks, behind, c, part)
+    part[0] = VEHICLE;
+    walk_span(day, layout, e, span, from, tasks, behind, c, part)
 }

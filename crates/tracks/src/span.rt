@@ -7,6 +7,7 @@ ghost use Rattle.rules.specs.Tests.{if_then_else_};
 ghost use Rattle.rules.specs.Plan.{Round, taskWord};
 ghost use Rattle.walks.specs.Rewalks.{editOf, EditSmall};
 ghost use Rattle.tracks.specs.Span.{Outside, Single, PlaceOf, Holds, Covers};
+use plan_words::STOP;
 use walks::edits::Edit;
 
 // From the first to the last changed word, counted from 0 among the words of the vehicle's tasks.
@@ -46,7 +47,7 @@ fn place_of_stop(spots: &[u32], from: usize, words: &[u32], k: u32) -> usize
     if words.len() <= place {
         return words.len();
     }
-    if words[place] == 2952790016 + k {
+    if words[place] == STOP + k {
         return place;
     }
     words.len()

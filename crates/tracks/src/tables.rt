@@ -2,7 +2,7 @@
 ghost use mathlib.Core.Path.{_≡_};
 ghost use Prim.Native.Nat.{_<_, _≤_};
 ghost use lib.ListN.{length};
-ghost use Rattle.rules.specs.Accepted.{IsAccepted};
+ghost use Rattle.rules.specs.Fields.{IsAccepted};
 ghost use Rattle.day.specs.Layout.{LayoutOf};
 ghost use Rattle.tracks.specs.Tables.{SomeTrackable, TracksIn, SomeVehicle, TracksVehicle};
 use crate::before::fill_before;
@@ -13,11 +13,8 @@ use day::fields::Layout;
 fn put_spot(w: u32, at: usize, spots: &mut [u32])
     requires { ⌜ (length (now spots) ≡ 256) × (at < 1200) ⌝ }
 {
-    if w < 2952790016 {
-        return;
-    }
-    if w < 2952790272 {
-        spots[(w - 2952790016) as usize] = at as u32;
+    if plan_words::is_stop(w) {
+        spots[plan_words::number(w) as usize] = at as u32;
     }
 }
 
@@ -35,41 +32,48 @@ fn fill_spots(plan: &[u32], from: usize, end: usize, spots: &mut [u32])
 // The rows of vehicle v, counted from 0: its tasks stand behind its A word and before its E word.
 fn track_vehicle(
     day: &[u32],
-    z: Layout,
+    layout: Layout,
     plan: &[u32],
     starts: &[u32],
     v: usize,
     tracks: &mut [u32],
     work: &mut [u32],
 )
-    requires { ⌜ LayoutOf (now day) z × IsAccepted (now day) × SomeVehicle (now day) (now plan) (now starts) (length (now work)) v ⌝ }
+    requires { ⌜ LayoutOf (now day) layout × IsAccepted (now day) × SomeVehicle (now day) (now plan) (now starts) (length (now work)) v ⌝ }
     requires { ⌜ length (now tracks) ≡ 12266 ⌝ }
     ensures { λ r. ⌜ TracksVehicle (now (day .entry)) (now (plan .entry)) (now (starts .entry)) (length (now (work .entry))) v (now (tracks .entry)) (now (tracks .exit)) ⌝ }
 {
     let from = starts[v] as usize + 1;
     let end = starts[v + 1] as usize - 1;
-    fill_before(day, z, &plan[from..end], from, &mut tracks[0..7206], work);
-    fill_behind(day, z, plan, from, end, &mut tracks[7206..12010]);
+    fill_before(
+        day,
+        layout,
+        &plan[from..end],
+        from,
+        &mut tracks[0..7206],
+        work,
+    );
+    fill_behind(day, layout, plan, from, end, &mut tracks[7206..12010]);
     fill_spots(plan, from, end, &mut tracks[12010..12266]);
 }
 
 // The tables of the plan, made anew. The working buffer is worked in.
 pub fn track(
     day: &[u32],
-    z: Layout,
+    layout: Layout,
     plan: &[u32],
     starts: &[u32],
     count: usize,
     tracks: &mut [u32],
     work: &mut [u32],
 )
-    requires { ⌜ LayoutOf (now day) z × IsAccepted (now day) × SomeTrackable (now day) (now plan) (now starts) (length (now work)) count ⌝ }
+    requires { ⌜ LayoutOf (now day) layout × IsAccepted (now day) × SomeTrackable (now day) (now plan) (now starts) (length (now work)) count ⌝ }
     requires { ⌜ length (now tracks) ≡ 12266 ⌝ }
     ensures { λ r. ⌜ TracksIn (now (day .entry)) (now (plan .entry)) (now (starts .entry)) (length (now (work .entry))) count (now (tracks .exit)) ⌝ }
 {
     let mut v: usize = 0;
     while v < count {
-        track_vehicle(day, z, plan, starts, v, tracks, work);
+        track_vehicle(day, layout, plan, starts, v, tracks, work);
         v += 1;
     }
 }

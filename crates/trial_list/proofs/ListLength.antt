@@ -19,7 +19,7 @@ use Rattle.rules.specs.Neighbours.{neighbours}
 use Rattle.rules.specs.Edits.{onOne, onTwo, before, after, swap}
 use Rattle.rules.specs.TrialList.{each, rising, vehicleOf, pairTrials, stopTrials, otherTip, taskTrials, roundTrials, tipTrials, trialList}
 use Rattle.neighbours.proofs.NeighbourLaws.{neighbours-are}
-use Rattle.greedy_laws.proofs.Decided.{known}
+use Rattle.laws.proofs.Decided.{known}
 use Rattle.greedy_laws.specs.Rooms.{emptiesIn}
 use Rattle.greedy_laws.proofs.GreedyRoom.{rounds-tips}
 use Rattle.trial_list.specs.Shapes.{Shaped}

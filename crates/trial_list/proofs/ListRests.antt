@@ -8,8 +8,7 @@ use mathlib.Core.List.{List, [], _∷_, _++_}
 use native.Mathlib.Omega.{arith}
 use lib.ListN.{length-append}
 use Rattle.rules.specs.Lists.{Every}
-use Rattle.rules.specs.Fields.{stops, tips}
-use Rattle.rules.specs.Accepted.{IsAccepted}
+use Rattle.rules.specs.Fields.{stops, tips, IsAccepted}
 use Rattle.rules.specs.Plan.{Round, roundWords, roundsWords, planWords, Known}
 use Rattle.rules.specs.Edits.{Trial}
 use Rattle.rules.specs.TrialList.{stopTrials, trialList}
@@ -53,10 +52,10 @@ start-fits (tasks ∷ rounds) v =
       tipFits = λ l. omega (arith, v .starting 0 (omega arith), v .starting (0 + 1) (omega arith), round-length 1 tasks, length-append (roundWords 1 tasks) []);
     }
 
-module _ (z : Layout) (K : ℕ) (table starts vehicles plan : List ℕ) (count : ℕ) where
+module _ (layout : Layout) (K : ℕ) (table starts vehicles plan : List ℕ) (count : ℕ) where
   -- the tables of a plan that trials find and leave
-  unfoldable pub plan-tables : (day : List ℕ) (rounds : List Round) (lefts distances : List ℕ) → LayoutOf day z → IsAccepted day → K ≤ 50 → Shaped day rounds
-      → TableOf day K table → Surveyed day rounds starts vehicles distances count → plan ≡ planWords rounds lefts → PlanTables z K table starts vehicles plan count
+  unfoldable pub plan-tables : (day : List ℕ) (rounds : List Round) (lefts distances : List ℕ) → LayoutOf day layout → IsAccepted day → K ≤ 50 → Shaped day rounds
+      → TableOf day K table → Surveyed day rounds starts vehicles distances count → plan ≡ planWords rounds lefts → PlanTables layout K table starts vehicles plan count
   plan-tables day rounds lefts distances layout accepted close shaped tableIs surveyed text =
       let most = accepted-ranges day accepted .stopsMost in
       record {
@@ -64,7 +63,7 @@ module _ (z : Layout) (K : ℕ) (table starts vehicles plan : List ℕ) (count :
         rounds = rounds;
         lefts = lefts;
         distances = distances;
-        layout = layout;
+        layoutIs = layout;
         most = most;
         close = close;
         known = shaped .known;
@@ -75,12 +74,12 @@ module _ (z : Layout) (K : ℕ) (table starts vehicles plan : List ℕ) (count :
       }
 
   -- the tables of the pairs and of the tips
-  pub pairs-of : PlanTables z K table starts vehicles plan count → PairsOf z K table vehicles
+  pub pairs-of : PlanTables layout K table starts vehicles plan count → PairsOf layout K table vehicles
   pairs-of s =
       record {
         day = s .day;
         rounds = s .rounds;
-        layout = s .layout;
+        layoutIs = s .layoutIs;
         most = s .most;
         close = s .close;
         tableIs = s .tableIs;
@@ -88,13 +87,13 @@ module _ (z : Layout) (K : ℕ) (table starts vehicles plan : List ℕ) (count :
         size = s .surveyed .vehiclesSize;
       }
 
-  pub tips-of : PlanTables z K table starts vehicles plan count → TipsOf z starts plan count
+  pub tips-of : PlanTables layout K table starts vehicles plan count → TipsOf layout starts plan count
   tips-of s =
       record {
         day = s .day;
         rounds = s .rounds;
         lefts = s .lefts;
-        layout = s .layout;
+        layoutIs = s .layoutIs;
         most = s .most;
         known = s .known;
         few = omega (arith, s .surveyed .counted, s .few);
@@ -104,9 +103,9 @@ module _ (z : Layout) (K : ℕ) (table starts vehicles plan : List ℕ) (count :
         text = s .text;
       }
 
-  module _ (c : Cursor) (r : Listed) (a : PairListed) (fits : CursorFits starts count c) (pair : PairAnswer z K table vehicles (c .pairs) a) where
+  module _ (c : Cursor) (r : Listed) (a : PairListed) (fits : CursorFits starts count c) (pair : PairAnswer layout K table vehicles (c .pairs) a) where
     pub lists-pair : a .found ≡ true → r .found ≡ true → r .trial ≡ a .trial → r .next ≡ record { pairs = a .next; tips = c .tips }
-        → ListAnswer z K table starts vehicles plan count c r
+        → ListAnswer layout K table starts vehicles plan count c r
     unfolding restOf pairs-of tips-of
     lists-pair f g m n =
         record {
@@ -121,8 +120,8 @@ module _ (z : Layout) (K : ℕ) (table starts vehicles plan : List ℕ) (count :
           fits = rw n (record { first = pair .first; tipFits = fits .tipFits });
         }
 
-    pub lists-tip : (b : TipListed) → a .found ≡ false → TipAnswer z starts plan count (c .tips) b
-        → r .found ≡ b .found → r .trial ≡ b .trial → r .next ≡ record { pairs = a .next; tips = b .next } → ListAnswer z K table starts vehicles plan count c r
+    pub lists-tip : (b : TipListed) → a .found ≡ false → TipAnswer layout starts plan count (c .tips) b
+        → r .found ≡ b .found → r .trial ≡ b .trial → r .next ≡ record { pairs = a .next; tips = b .next } → ListAnswer layout K table starts vehicles plan count c r
     unfolding restOf pairs-of tips-of
     lists-tip b f tip g m n =
         record {

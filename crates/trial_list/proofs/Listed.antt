@@ -18,7 +18,7 @@ use Rattle.rules.specs.TrialList.{each, rising, vehicleOf, pairTrials, stopTria
 use Rattle.laws.proofs.Fresh.{every-append}
 use Rattle.laws.proofs.Tests.{both-true}
 use Rattle.neighbours.proofs.NeighbourLaws.{neighbours-are}
-use Rattle.greedy_laws.proofs.Decided.{known}
+use Rattle.laws.proofs.Decided.{known}
 use Rattle.trial_list.specs.Shapes.{Shaped, On, Valid, moved-before, moved-after, swapped, removed, replaced}
 use Rattle.trial_list.proofs.Shapes.{shaped-once, vehicle-found}
 

@@ -20,7 +20,7 @@ use Rattle.rules.specs.Edits.{before, after, swap, Trial, onOne, onTwo}
 use Rattle.rules.specs.TrialList.{each, rising, pairTrials}
 use Rattle.day.specs.declared.fields.Layout.{Layout}
 use Rattle.neighbours.proofs.NeighbourLaws.{neighbours-are}
-use Rattle.greedy_laws.proofs.Decided.{known}
+use Rattle.laws.proofs.Decided.{known}
 use Rattle.trial_list.specs.Listing.{Goes, nextRank, halfway, nextStop, PairTells, no-trial, last-trial, first-trial, PairsOf, pairsLeft, PairStep, PairAnswer}
 use Rattle.trial_list.specs.TrialRest.{listedTrial, pairOn, fromHalf, neighboursFrom, stopsFrom, pairRest}
 use Rattle.trial_list.specs.declared.listing.PairListed.{PairListed}
@@ -203,8 +203,8 @@ module _ (day : List ℕ) (K : ℕ) (rounds : List Round) where
       }
 
 -- by the tables
-module _ (z : Layout) (K : ℕ) (table vehicles : List ℕ) (p : PairPlace) (r : PairListed) where
-  passes : (s : PairsOf z K table vehicles) → p .stop ≤ stops (s .day) → length (neighbours (s .day) K (p .stop)) ≤ p .rank → r .found ≡ false → r .next ≡ nextStop p
+module _ (layout : Layout) (K : ℕ) (table vehicles : List ℕ) (p : PairPlace) (r : PairListed) where
+  passes : (s : PairsOf layout K table vehicles) → p .stop ≤ stops (s .day) → length (neighbours (s .day) K (p .stop)) ≤ p .rank → r .found ≡ false → r .next ≡ nextStop p
       → Goes (pairRest (s .day) K (s .rounds)) p (r .found) (r .trial) (r .next)
   passes s h l f n =
       record {
@@ -213,40 +213,40 @@ module _ (z : Layout) (K : ℕ) (table vehicles : List ℕ) (p : PairPlace) (r :
       }
 
   -- the next stop
-  next-falls : p .stop ≤ z .stops → K ≤ 50 → r .next ≡ nextStop p → pairsLeft (z .stops) K (r .next) < pairsLeft (z .stops) K p
+  next-falls : p .stop ≤ layout .stops → K ≤ 50 → r .next ≡ nextStop p → pairsLeft (layout .stops) K (r .next) < pairsLeft (layout .stops) K p
   next-falls h k n = rw n (omega arith)
 
-  pub ranks-over : K ≤ 50 → p .stop ≤ z .stops → K ≤ p .rank → (r .found ≡ false) × (r .next ≡ nextStop p) → PairStep z K table vehicles p r
+  pub ranks-over : K ≤ 50 → p .stop ≤ layout .stops → K ≤ p .rank → (r .found ≡ false) × (r .next ≡ nextStop p) → PairStep layout K table vehicles p r
   ranks-over k h l e =
       record {
-        goes = λ s. passes s (omega (arith, s .layout .stopsAre)) (omega (arith, neighbours-are (s .day) K (p .stop) .few)) (e .0) (e .1);
+        goes = λ s. passes s (omega (arith, s .layoutIs .stopsAre)) (omega (arith, neighbours-are (s .day) K (p .stop) .few)) (e .0) (e .1);
         first = rw (e .1) (omega arith);
         falls = λ f. next-falls h k (e .1);
       }
 
-  pub neighbours-over : K ≤ 50 → 1 ≤ p .stop → p .stop ≤ z .stops → p .rank < K → (j : ℕ) → j ≡ getD table (50 * p .stop + p .rank) 0 → j ≡ 0
-      → (r .found ≡ false) × (r .next ≡ nextStop p) → PairStep z K table vehicles p r
+  pub neighbours-over : K ≤ 50 → 1 ≤ p .stop → p .stop ≤ layout .stops → p .rank < K → (j : ℕ) → j ≡ getD table (50 * p .stop + p .rank) 0 → j ≡ 0
+      → (r .found ≡ false) × (r .next ≡ nextStop p) → PairStep layout K table vehicles p r
   neighbours-over k a h l j t n e =
       record {
         goes = λ s.
-            let b : p .stop ≤ stops (s .day) = omega (arith, s .layout .stopsAre) in
+            let b : p .stop ≤ stops (s .day) = omega (arith, s .layoutIs .stopsAre) in
             passes s b (rank-beyond (s .day) K (p .stop) (p .rank) (sym (s .tableIs .rows (p .stop) (p .rank) a b l) ∙ sym t ∙ n)) (e .0) (e .1);
         first = rw (e .1) (omega arith);
         falls = λ f. next-falls h k (e .1);
       }
 
   -- a pair, by the vehicles of its stops
-  same-pair : (s : PairsOf z K table vehicles) (i j : ℕ) → 1 ≤ i → i ≤ stops (s .day) → 1 ≤ j → j ≤ stops (s .day)
+  same-pair : (s : PairsOf layout K table vehicles) (i j : ℕ) → 1 ≤ i → i ≤ stops (s .day) → 1 ≤ j → j ≤ stops (s .day)
       → pairOn i j (getD vehicles i 0) (getD vehicles j 0) ≡ pairTrials (s .rounds) i j
   unfolding pairOn pairTrials
   same-pair s i j a b c d = rw (s .routed i a b, s .routed j c d) refl
 
-  pub pair-steps : (j one two : ℕ) → 1 ≤ p .stop → p .stop ≤ z .stops → p .rank < K → j ≡ getD table (50 * p .stop + p .rank) 0 → (j ≡ 0 → ⊥)
-      → one ≡ getD vehicles (p .stop) 0 → two ≡ getD vehicles j 0 → PairTells (pairOn (p .stop) j one two) p r → PairStep z K table vehicles p r
+  pub pair-steps : (j one two : ℕ) → 1 ≤ p .stop → p .stop ≤ layout .stops → p .rank < K → j ≡ getD table (50 * p .stop + p .rank) 0 → (j ≡ 0 → ⊥)
+      → one ≡ getD vehicles (p .stop) 0 → two ≡ getD vehicles j 0 → PairTells (pairOn (p .stop) j one two) p r → PairStep layout K table vehicles p r
   pair-steps j one two a h l ej n eo et tells =
       record {
         goes = λ s.
-            let b : p .stop ≤ stops (s .day) = omega (arith, s .layout .stopsAre) in
+            let b : p .stop ≤ stops (s .day) = omega (arith, s .layoutIs .stopsAre) in
             let e : j ≡ getD (neighbours (s .day) K (p .stop)) (p .rank) 0 = ej ∙ s .tableIs .rows (p .stop) (p .rank) a b l in
             let inside = rank-within (s .day) K (p .stop) (p .rank) (λ x. n (e ∙ x)) in
             let stop = every-at (λ j. (1 ≤ j) × (j ≤ stops (s .day))) (neighbours (s .day) K (p .stop)) (p .rank) 0 (neighbours-are (s .day) K (p .stop) .known) inside in
@@ -257,26 +257,26 @@ module _ (z : Layout) (K : ℕ) (table vehicles : List ℕ) (p : PairPlace) (r :
       }
 
 -- the next trial of a pair
-module _ (z : Layout) (K : ℕ) (table vehicles : List ℕ) (p : PairPlace) where
+module _ (layout : Layout) (K : ℕ) (table vehicles : List ℕ) (p : PairPlace) where
   -- so many pairs are passed over
   abbrev pub Passed : PairPlace → Type 0
-  Passed q = (s : PairsOf z K table vehicles) → pairRest (s .day) K (s .rounds) p ≡ pairRest (s .day) K (s .rounds) q
+  Passed q = (s : PairsOf layout K table vehicles) → pairRest (s .day) K (s .rounds) p ≡ pairRest (s .day) K (s .rounds) q
 
-  pub pass-on : (q : PairPlace) (r : PairListed) → Passed q → PairStep z K table vehicles q r → r .found ≡ false → Passed (r .next)
+  pub pass-on : (q : PairPlace) (r : PairListed) → Passed q → PairStep layout K table vehicles q r → r .found ≡ false → Passed (r .next)
   pass-on q r h step f = λ s. h s ∙ step .goes s .none f
 
-  pub pair-found : (q : PairPlace) (r : PairListed) → Passed q → PairStep z K table vehicles q r → r .found ≡ true → PairAnswer z K table vehicles p r
+  pub pair-found : (q : PairPlace) (r : PairListed) → Passed q → PairStep layout K table vehicles q r → r .found ≡ true → PairAnswer layout K table vehicles p r
   pair-found q r h step f =
       record {
         tells = λ s. record { some = λ t. h s ∙ step .goes s .some t; none = λ t. absurd (true≢false (sym f ∙ t)) };
         first = step .first;
       }
 
-  pub pairs-end : (q : PairPlace) (r : PairListed) → Passed q → 1 ≤ q .stop → z .stops < q .stop → (r .found ≡ false) × (r .next ≡ q) → PairAnswer z K table vehicles p r
+  pub pairs-end : (q : PairPlace) (r : PairListed) → Passed q → 1 ≤ q .stop → layout .stops < q .stop → (r .found ≡ false) × (r .next ≡ q) → PairAnswer layout K table vehicles p r
   pairs-end q r h a l e =
       record {
         tells = λ s.
-            let over = pairs-over (s .day) K (s .rounds) q (omega (arith, s .layout .stopsAre)) in
+            let over = pairs-over (s .day) K (s .rounds) q (omega (arith, s .layoutIs .stopsAre)) in
             record {
               some = λ t. absurd (true≢false (sym t ∙ e .0));
               none = λ t. (h s ∙ over, ap (pairRest (s .day) K (s .rounds)) (e .1) ∙ over);

@@ -45,11 +45,11 @@ place-tip : (d k : ℕ) → placeOf d (tipWord k) ≡ k
 unfolding placeOf
 place-tip d k = rw (le-ltb (tipWord k) (tipWord 0) (omega arith)) (omega arith)
 
-pub place-of-stop : (d w : ℕ) → w < 3221225472 → d + (w - 2952790016) ≡ placeOf d w
+pub place-of-stop : (d w : ℕ) → w < tipWord 0 → d + (w - stopWord 0) ≡ placeOf d w
 unfolding placeOf
 place-of-stop d w h = rw (lt-ltb w (tipWord 0) h) refl
 
-pub place-of-tip : (d w : ℕ) → 3221225472 ≤ w → w - 3221225472 ≡ placeOf d w
+pub place-of-tip : (d w : ℕ) → (tipWord 0) ≤ w → w - tipWord 0 ≡ placeOf d w
 unfolding placeOf
 place-of-tip d w h = rw (le-ltb w (tipWord 0) h) refl
 
@@ -75,42 +75,42 @@ task-not-back day (empty k) h e = omega (arith, h .1)
 task-not-back day lunch h e = omega arith
 
 -- what a word does, by the test that decides it
-place-rides : (day : List ℕ) (place w : ℕ) → w < 3489660928 → placeOf (tips day) w ≡ placeThen day place w
+place-rides : (day : List ℕ) (place w : ℕ) → w < restWord → placeOf (tips day) w ≡ placeThen day place w
 unfolding placeThen
 place-rides day place w h = rw (lt-ltb w restWord h) refl
 
-pub place-rests : (day : List ℕ) (place w : ℕ) → 3489660928 ≤ w → place ≡ placeThen day place w
+pub place-rests : (day : List ℕ) (place w : ℕ) → restWord ≤ w → place ≡ placeThen day place w
 unfolding placeThen
 place-rests day place w h = rw (le-ltb w restWord h) refl
 
-distance-rides : (day : List ℕ) (place distance w : ℕ) → w < 3489660928
+distance-rides : (day : List ℕ) (place distance w : ℕ) → w < restWord
     → distance + legDistance day place (placeOf (tips day) w) ≡ distanceThen day place distance w
 unfolding distanceThen
 distance-rides day place distance w h = rw (lt-ltb w restWord h) refl
 
-pub distance-rests : (day : List ℕ) (place distance w : ℕ) → 3489660928 ≤ w → distance ≡ distanceThen day place distance w
+pub distance-rests : (day : List ℕ) (place distance w : ℕ) → restWord ≤ w → distance ≡ distanceThen day place distance w
 unfolding distanceThen
 distance-rests day place distance w h = rw (le-ltb w restWord h) refl
 
-pub vehicles-first : (vehicles : List ℕ) (number w : ℕ) → w < 3221225472 → getD vehicles (w - 2952790016) 0 ≡ 0
-    → set vehicles (w - 2952790016) number ≡ vehiclesThen vehicles number w
+pub vehicles-first : (vehicles : List ℕ) (number w : ℕ) → w < tipWord 0 → getD vehicles (w - stopWord 0) 0 ≡ 0
+    → set vehicles (w - stopWord 0) number ≡ vehiclesThen vehicles number w
 unfolding vehiclesThen
 vehicles-first vehicles number w h e = rw (lt-ltb w (tipWord 0) h, eq-eqb (getD vehicles (w - stopWord 0) 0) 0 e) refl
 
-pub vehicles-later : (vehicles : List ℕ) (number w : ℕ) → w < 3221225472 → (getD vehicles (w - 2952790016) 0 ≡ 0 → ⊥) → vehicles ≡ vehiclesThen vehicles number w
+pub vehicles-later : (vehicles : List ℕ) (number w : ℕ) → w < tipWord 0 → (getD vehicles (w - stopWord 0) 0 ≡ 0 → ⊥) → vehicles ≡ vehiclesThen vehicles number w
 unfolding vehiclesThen
 vehicles-later vehicles number w h n = rw (lt-ltb w (tipWord 0) h, ne-eqb (getD vehicles (w - stopWord 0) 0) 0 n) refl
 
-pub vehicles-other : (vehicles : List ℕ) (number w : ℕ) → 3221225472 ≤ w → vehicles ≡ vehiclesThen vehicles number w
+pub vehicles-other : (vehicles : List ℕ) (number w : ℕ) → (tipWord 0) ≤ w → vehicles ≡ vehiclesThen vehicles number w
 unfolding vehiclesThen
 vehicles-other vehicles number w h = rw (le-ltb w (tipWord 0) h) refl
 
 -- the same by a day's layout
-module _ (day : List ℕ) (z : Layout) (next w : ℕ) (lay : LayoutOf day z) (named : next ≡ placeOf (z .tips) w) (h : w < 3489660928) where
+module _ (day : List ℕ) (layout : Layout) (next w : ℕ) (lay : LayoutOf day layout) (named : next ≡ placeOf (layout .tips) w) (h : w < restWord) where
   named-place : next ≡ placeOf (tips day) w
   named-place = named ∙ ap (λ (d : ℕ). placeOf d w) (lay .tipsAre)
 
-  pub ride-inside : TaskWord day w → next < z .places
+  pub ride-inside : TaskWord day w → next < layout .places
   ride-inside k = omega (arith, k .place h, named-place, lay .placesAre)
 
   pub ride-place : (place : ℕ) → next ≡ placeThen day place w
@@ -176,7 +176,7 @@ serve-marks : (vehicles : List ℕ) (number j : ℕ) (todo : Round) → 0 < numb
     → vehicleThen number todo (getD (vehiclesThen vehicles number (stopWord j)) k 0) k ≡ vehicleThen number (serve j ∷ todo) (getD vehicles k 0) k
 serve-marks vehicles number j todo some few long k = go (ℕ-discrete (getD vehicles j 0) 0) (ℕ-discrete k j)
   where
-    at : stopWord j - 2952790016 ≡ j
+    at : stopWord j - stopWord 0 ≡ j
     at = omega arith
 
     first : getD vehicles j 0 ≡ 0 → vehiclesThen vehicles number (stopWord j) ≡ set vehicles j number
@@ -281,14 +281,14 @@ module _ {day plan : List ℕ} {from number : ℕ} {tasks : Round} {rest before 
   riding-onward : Onward day plan vehicles at place distance
   riding-onward = record { within = riding-in; inside = r .inside; few = r .few; size = r .size }
 
-  riding-word : (getD plan at 0 ≡ 3758096384 → ⊥) → TaskWord day (getD plan at 0)
+  riding-word : (getD plan at 0 ≡ backWord → ⊥) → TaskWord day (getD plan at 0)
   riding-word n = go (next-word day plan rest at (r .todo) (r .here) (r .known))
     where
       go : {todo : Round} → NextWord day plan rest at todo → TaskWord day (getD plan at 0)
       go (isTask task todo h k w) = rw (w .word) (task-known day task h)
       go (isBack w) = absurd (n (w .word))
 
-  riding-next : (after : List ℕ) (further farther : ℕ) → (getD plan at 0 ≡ 3758096384 → ⊥) → 0 < number
+  riding-next : (after : List ℕ) (further farther : ℕ) → (getD plan at 0 ≡ backWord → ⊥) → 0 < number
       → after ≡ vehiclesThen vehicles number (getD plan at 0) → further ≡ placeThen day place (getD plan at 0) → farther ≡ distanceThen day place distance (getD plan at 0)
       → Riding day plan from number tasks rest before after (at + 1) further farther
   riding-next after further farther n some a p d = go (r .todo) (next-word day plan rest at (r .todo) (r .here) (r .known)) (r .ends) (r .drives) (r .marks)
@@ -310,7 +310,7 @@ module _ {day plan : List ℕ} {from number : ℕ} {tasks : Round} {rest before 
             size = rw a (vehicles-size vehicles number (getD plan at 0) ∙ r .size);
           }
 
-  riding-end : (driven : Driven) (leg : Leg) → getD plan at 0 ≡ 3758096384 → LegOf day place 0 leg → driven .end ≡ at + 1 → driven .distance ≡ distance + leg .distance
+  riding-end : (driven : Driven) (leg : Leg) → getD plan at 0 ≡ backWord → LegOf day place 0 leg → driven .end ≡ at + 1 → driven .distance ≡ distance + leg .distance
       → Ended day from number tasks before vehicles driven
   riding-end driven leg e l q d = go (r .todo) (next-word day plan rest at (r .todo) (r .here) (r .known)) (r .ends) (r .drives) (r .marks)
     where
@@ -337,10 +337,10 @@ module _ {day plan : List ℕ} {from : ℕ} (some : SomeRound day plan from) whe
   }
 
   module _ {number : ℕ} {before vehicles : List ℕ} {at place distance : ℕ} (r : Rides day plan from number before vehicles at place distance) where
-    pub rides-word : (getD plan at 0 ≡ 3758096384 → ⊥) → TaskWord day (getD plan at 0)
+    pub rides-word : (getD plan at 0 ≡ backWord → ⊥) → TaskWord day (getD plan at 0)
     rides-word = riding-word (r .each (some .tasks) (some .rest) (some .roundAt))
 
-    pub rides-next : (after : List ℕ) (further farther : ℕ) → (getD plan at 0 ≡ 3758096384 → ⊥) → 0 < number
+    pub rides-next : (after : List ℕ) (further farther : ℕ) → (getD plan at 0 ≡ backWord → ⊥) → 0 < number
         → after ≡ vehiclesThen vehicles number (getD plan at 0) → further ≡ placeThen day place (getD plan at 0) → farther ≡ distanceThen day place distance (getD plan at 0)
         → Rides day plan from number before after (at + 1) further farther
     rides-next after further farther n p a b d = record {
@@ -348,6 +348,6 @@ module _ {day plan : List ℕ} {from : ℕ} (some : SomeRound day plan from) whe
       each = λ tasks rest h. riding-next (r .each tasks rest h) after further farther n p a b d;
     }
 
-    pub rides-end : (driven : Driven) (leg : Leg) → getD plan at 0 ≡ 3758096384 → LegOf day place 0 leg → driven .end ≡ at + 1 → driven .distance ≡ distance + leg .distance
+    pub rides-end : (driven : Driven) (leg : Leg) → getD plan at 0 ≡ backWord → LegOf day place 0 leg → driven .end ≡ at + 1 → driven .distance ≡ distance + leg .distance
         → EndsAll day plan from number before vehicles driven
     rides-end driven leg e l q d tasks rest h = riding-end (r .each tasks rest h) driven leg e l q d

@@ -11,14 +11,13 @@ use lib.Dec.{eqb}
 use lib.ListN.{length, getD}
 use borrow.Author.Tests.{eq-eqb, ne-eqb}
 use Rattle.rules.specs.Lists.{mem, times}
-use Rattle.rules.specs.Fields.{stops}
-use Rattle.rules.specs.Accepted.{IsAccepted}
+use Rattle.rules.specs.Fields.{stops, IsAccepted}
 use Rattle.rules.specs.Plan.{serve, Round, stopsOn, stopsOnAll, planWords, Formed}
 use Rattle.rules.specs.Build.{greedyRounds, greedyLefts}
 use Rattle.rules.specs.TrialList.{vehicleFrom}
 use Rattle.day.proofs.Ranges.{accepted-ranges}
-use Rattle.plan_laws.proofs.PlanChecks.{busy-rounds}
-use Rattle.greedy_laws.proofs.Decided.{known}
+use Rattle.plan_laws.proofs.Theorems.{busy-rounds}
+use Rattle.laws.proofs.Decided.{known}
 use Rattle.greedy_laws.proofs.GreedyForm.{times-append, greedy-known, greedy-busy, greedy-rising, greedy-once, greedy-others, greedy-named}
 use Rattle.greedy_laws.proofs.GreedyRoom.{rounds-words, plan-length, greedy-rooms}
 use Rattle.trial_list.specs.Shapes.{Shaped, EachFrom, StandsOn}

@@ -44,11 +44,11 @@ cleared-all n vehicles h all k = go (decLt k 256)
     go (no g) = List·getD-eq-default vehicles 0 (omega (arith, h .size, g))
 
 -- an A word is there, or not
-vehicle-yes : (plan : List ℕ) (at : ℕ) → isVehicle plan at ≡ true → (at < length plan) × (getD plan at 0 < 2952790016)
+vehicle-yes : (plan : List ℕ) (at : ℕ) → isVehicle plan at ≡ true → (at < length plan) × (getD plan at 0 < stopWord 0)
 unfolding isVehicle
 vehicle-yes plan at e = let b = both-true _ _ e in (ltb-true _ _ (b .0), ltb-true _ _ (b .1))
 
-vehicle-there : (plan : List ℕ) (at : ℕ) → at < length plan → getD plan at 0 < 2952790016 → isVehicle plan at ≡ false → ⊥
+vehicle-there : (plan : List ℕ) (at : ℕ) → at < length plan → getD plan at 0 < stopWord 0 → isVehicle plan at ≡ false → ⊥
 unfolding isVehicle
 vehicle-there plan at l w e = true≢false (sym (rw (lt-ltb at (length plan) l, lt-ltb (getD plan at 0) (stopWord 0) w) refl) ∙ e)
 

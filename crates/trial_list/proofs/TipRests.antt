@@ -15,12 +15,12 @@ use borrow.Author.Tests.{eq-eqb, ne-eqb, eqb-true, eqb-false, ltb-true, ltb-fals
 use Rattle.rules.specs.Tests.{if_then_else_}
 use Rattle.rules.specs.Lists.{Every}
 use Rattle.rules.specs.Fields.{stops, tips}
-use Rattle.rules.specs.PlanWords.{leftWord}
+use Rattle.rules.specs.PlanWords.{leftWord, restWord, tipWord}
 use Rattle.rules.specs.Plan.{Task, serve, empty, lunch, Round, taskWord, roundsWords, planWords, Known}
 use Rattle.rules.specs.Edits.{remove, replace, Trial, onOne}
 use Rattle.rules.specs.TrialList.{rising, otherTip, taskTrials, roundTrials, tipTrials}
 use Rattle.day.specs.declared.fields.Layout.{Layout}
-use Rattle.greedy_laws.proofs.Decided.{known}
+use Rattle.laws.proofs.Decided.{known}
 use Rattle.trial_list.specs.Listing.{Goes, atTip, nextTask, nextVehicle, TipTells, no-tip, a-tip, TipFits, TipsOf, tipsLeft, TipStep, TipSteps, TipAnswer}
 use Rattle.trial_list.specs.TrialRest.{listedTrial, tipFrom, taskFrom, tasksFrom, tipRest}
 use Rattle.trial_list.specs.declared.listing.TipListed.{TipListed}
@@ -155,29 +155,29 @@ module _ (day : List ℕ) (rounds : List Round) where
         ∙ ap (λ (k : ℕ). here ++ (tasksFrom day number k 0 (drop k its) ++ others)) (sym (add-one (q .task)))
 
 -- the words of a stop and of a rest have no trials, those of a tip have its own
-low-word : (day : List ℕ) (w number t x : ℕ) (task : Task) → w < 3221225472 → w ≡ taskWord task → taskFrom (tips day) number t x task ≡ []
+low-word : (day : List ℕ) (w number t x : ℕ) (task : Task) → w < tipWord 0 → w ≡ taskWord task → taskFrom (tips day) number t x task ≡ []
 unfolding taskFrom taskWord
 low-word day w number t x (serve k) h e = refl
 low-word day w number t x (empty y) h e = absurd (omega arith)
 low-word day w number t x lunch h e = absurd (omega arith)
 
-high-word : (day : List ℕ) (w number t x : ℕ) (task : Task) → stops day ≤ 240 → Known day task → 3489660928 ≤ w → w ≡ taskWord task → taskFrom (tips day) number t x task ≡ []
+high-word : (day : List ℕ) (w number t x : ℕ) (task : Task) → stops day ≤ 240 → Known day task → restWord ≤ w → w ≡ taskWord task → taskFrom (tips day) number t x task ≡ []
 unfolding taskFrom taskWord Known
 high-word day w number t x (serve k) m n h e = absurd (omega arith)
 high-word day w number t x (empty y) m n h e = absurd (omega arith)
 high-word day w number t x lunch m n h e = refl
 
-tip-word : (day : List ℕ) (w number t x : ℕ) (task : Task) → stops day ≤ 240 → Known day task → 3221225472 ≤ w → w < 3489660928 → w ≡ taskWord task
-    → taskFrom (tips day) number t x task ≡ tipFrom (tips day) number t (w - 3221225472) x
+tip-word : (day : List ℕ) (w number t x : ℕ) (task : Task) → stops day ≤ 240 → Known day task → (tipWord 0) ≤ w → w < restWord → w ≡ taskWord task
+    → taskFrom (tips day) number t x task ≡ tipFrom (tips day) number t (w - tipWord 0) x
 unfolding taskFrom taskWord Known
 tip-word day w number t x (serve k) m n h l e = absurd (omega arith)
 tip-word day w number t x (empty y) m n h l e =
-    let f : w - 3221225472 ≡ y = omega arith in
+    let f : w - tipWord 0 ≡ y = omega arith in
     rw f refl
 tip-word day w number t x lunch m n h l e = absurd (omega arith)
 
 -- by the tables
-module _ (z : Layout) (starts plan : List ℕ) (count : ℕ) (s : TipsOf z starts plan count) where
+module _ (layout : Layout) (starts plan : List ℕ) (count : ℕ) (s : TipsOf layout starts plan count) where
   module _ (v : ℕ) (h : v < count) where
     start-at : getD starts v 0 ≡ length (roundsWords 0 (take v (s .rounds)))
     start-at = s .starting v (omega (arith, s .counted))
@@ -247,25 +247,25 @@ module _ (z : Layout) (starts plan : List ℕ) (count : ℕ) (s : TipsOf z start
         }
 
 -- one step over the tips
-module _ (z : Layout) (starts plan : List ℕ) (q : TipPlace) (r : TipListed) (a b : ℕ) (ea : a ≡ getD starts (q .vehicle) 0) (eb : b ≡ getD starts (q .vehicle + 1) 0) where
-  pub vehicle-ends : a + 1 + q .task + 1 ≡ b → (r .found ≡ false) × (r .next ≡ nextVehicle q) → TipSteps z starts plan q r
+module _ (layout : Layout) (starts plan : List ℕ) (q : TipPlace) (r : TipListed) (a b : ℕ) (ea : a ≡ getD starts (q .vehicle) 0) (eb : b ≡ getD starts (q .vehicle + 1) 0) where
+  pub vehicle-ends : a + 1 + q .task + 1 ≡ b → (r .found ≡ false) × (r .next ≡ nextVehicle q) → TipSteps layout starts plan q r
   vehicle-ends e n = λ count s h f.
-      let end = end-within z starts plan count s (q .vehicle) h in
+      let end = end-within layout starts plan count s (q .vehicle) h in
       record {
         goes = λ s.
             record {
               some = λ t. absurd (true≢false (sym t ∙ n .0));
               none = λ t.
-                  tasks-over (s .day) (s .rounds) q (omega (arith, end-at z starts plan count s (q .vehicle) h)) ∙ ap (tipRest (s .day) (s .rounds)) (sym (n .1));
+                  tasks-over (s .day) (s .rounds) q (omega (arith, end-at layout starts plan count s (q .vehicle) h)) ∙ ap (tipRest (s .day) (s .rounds)) (sym (n .1));
             };
-        fits = rw (n .1) (λ l. omega (arith, end-at z starts plan count s (q .vehicle + 1) l));
+        fits = rw (n .1) (λ l. omega (arith, end-at layout starts plan count s (q .vehicle + 1) l));
         falls = λ t. rw (n .1) (omega (arith, end));
       }
 
   -- at a task
   module _ (w : ℕ) (more : a + 1 + q .task + 1 ≡ b → ⊥) (ew : w ≡ getD plan (a + 1 + q .task) 0) where
-    inside : (count : ℕ) (s : TipsOf z starts plan count) → q .vehicle < count → TipFits starts count q → q .task < length (getD (s .rounds) (q .vehicle) [])
-    inside count s h f = omega (arith, f h, end-at z starts plan count s (q .vehicle) h)
+    inside : (count : ℕ) (s : TipsOf layout starts plan count) → q .vehicle < count → TipFits starts count q → q .task < length (getD (s .rounds) (q .vehicle) [])
+    inside count s h f = omega (arith, f h, end-at layout starts plan count s (q .vehicle) h)
 
     word-here : w ≡ getD plan (getD starts (q .vehicle) 0 + 1 + q .task) 0
     word-here = ew ∙ ap (λ (k : ℕ). getD plan (k + 1 + q .task) 0) ea
@@ -274,70 +274,70 @@ module _ (z : Layout) (starts plan : List ℕ) (q : TipPlace) (r : TipListed) (a
     next-fits : (count : ℕ) → TipFits starts count q → r .next ≡ nextTask q → TipFits starts count (r .next)
     next-fits count f n = rw n (λ l. omega (arith, f l))
 
-    next-falls : (count : ℕ) → TipsOf z starts plan count → q .vehicle < count → TipFits starts count q → r .next ≡ nextTask q → tipsLeft starts plan (r .next) < tipsLeft starts plan q
-    next-falls count s h f n = rw n (omega (arith, f h, end-within z starts plan count s (q .vehicle) h))
+    next-falls : (count : ℕ) → TipsOf layout starts plan count → q .vehicle < count → TipFits starts count q → r .next ≡ nextTask q → tipsLeft starts plan (r .next) < tipsLeft starts plan q
+    next-falls count s h f n = rw n (omega (arith, f h, end-within layout starts plan count s (q .vehicle) h))
 
-    pub low-passes : w < 3221225472 → (r .found ≡ false) × (r .next ≡ nextTask q) → TipSteps z starts plan q r
+    pub low-passes : w < tipWord 0 → (r .found ≡ false) × (r .next ≡ nextTask q) → TipSteps layout starts plan q r
     low-passes low n = λ count s h f.
         record {
           goes = λ s.
               let l = inside count s h f in
-              passes z starts plan count s q h l r
-              (low-word (s .day) w (suc (q .vehicle)) (q .task) (q .tip) (task z starts plan count s q h l) low (its-word z starts plan count s q h l w word-here)) (n .0) (n .1);
+              passes layout starts plan count s q h l r
+              (low-word (s .day) w (suc (q .vehicle)) (q .task) (q .tip) (task layout starts plan count s q h l) low (its-word layout starts plan count s q h l w word-here)) (n .0) (n .1);
           fits = next-fits count f (n .1);
           falls = λ t. next-falls count s h f (n .1);
         }
 
-    pub high-passes : 3489660928 ≤ w → (r .found ≡ false) × (r .next ≡ nextTask q) → TipSteps z starts plan q r
+    pub high-passes : restWord ≤ w → (r .found ≡ false) × (r .next ≡ nextTask q) → TipSteps layout starts plan q r
     high-passes high n = λ count s h f.
         record {
           goes = λ s.
               let l = inside count s h f in
-              passes z starts plan count s q h l r
-              (high-word (s .day) w (suc (q .vehicle)) (q .task) (q .tip) (task z starts plan count s q h l) (s .most) (is-known z starts plan count s q h l) high
-              (its-word z starts plan count s q h l w word-here)) (n .0) (n .1);
+              passes layout starts plan count s q h l r
+              (high-word (s .day) w (suc (q .vehicle)) (q .task) (q .tip) (task layout starts plan count s q h l) (s .most) (is-known layout starts plan count s q h l) high
+              (its-word layout starts plan count s q h l w word-here)) (n .0) (n .1);
           fits = next-fits count f (n .1);
           falls = λ t. next-falls count s h f (n .1);
         }
 
-    tells-fits : (count : ℕ) (y : ℕ) → TipsOf z starts plan count → q .vehicle < count → TipFits starts count q → TipTells (z .tips) y q r → TipFits starts count (r .next)
+    tells-fits : (count : ℕ) (y : ℕ) → TipsOf layout starts plan count → q .vehicle < count → TipFits starts count q → TipTells (layout .tips) y q r → TipFits starts count (r .next)
     tells-fits count y s h f (no-tip _ e n m) = next-fits count f m
     tells-fits count y s h f (a-tip _ x e n m) = rw m (λ l. f l)
 
-    tells-next : (y : ℕ) → TipTells (z .tips) y q r → r .found ≡ false → r .next ≡ nextTask q
+    tells-next : (y : ℕ) → TipTells (layout .tips) y q r → r .found ≡ false → r .next ≡ nextTask q
     tells-next y (no-tip _ e n m) t = m
     tells-next y (a-tip _ x e n m) t = absurd (true≢false (sym e ∙ t))
 
-    pub tip-steps : 3221225472 ≤ w → w < 3489660928 → TipTells (z .tips) (w - 3221225472) q r → TipSteps z starts plan q r
+    pub tip-steps : (tipWord 0) ≤ w → w < restWord → TipTells (layout .tips) (w - tipWord 0) q r → TipSteps layout starts plan q r
     tip-steps low high tells = λ count s h f.
         record {
           goes = λ s.
               let l = inside count s h f in
-              tip-goes z starts plan count s q h l (w - 3221225472) r
-              (λ x. tip-word (s .day) w (suc (q .vehicle)) (q .task) x (task z starts plan count s q h l) (s .most) (is-known z starts plan count s q h l) low high
-              (its-word z starts plan count s q h l w word-here))
-              (rw (s .layout .tipsAre) at tells);
-          fits = tells-fits count (w - 3221225472) s h f tells;
-          falls = λ t. next-falls count s h f (tells-next (w - 3221225472) tells t);
+              tip-goes layout starts plan count s q h l (w - tipWord 0) r
+              (λ x. tip-word (s .day) w (suc (q .vehicle)) (q .task) x (task layout starts plan count s q h l) (s .most) (is-known layout starts plan count s q h l) low high
+              (its-word layout starts plan count s q h l w word-here))
+              (rw (s .layoutIs .tipsAre) at tells);
+          fits = tells-fits count (w - tipWord 0) s h f tells;
+          falls = λ t. next-falls count s h f (tells-next (w - tipWord 0) tells t);
         }
 
 -- the next trial of a tip
-module _ (z : Layout) (starts plan : List ℕ) (count : ℕ) (q : TipPlace) where
+module _ (layout : Layout) (starts plan : List ℕ) (count : ℕ) (q : TipPlace) where
   -- so many tasks are passed over
   abbrev pub Passed : TipPlace → Type 0
-  Passed p = (s : TipsOf z starts plan count) → tipRest (s .day) (s .rounds) q ≡ tipRest (s .day) (s .rounds) p
+  Passed p = (s : TipsOf layout starts plan count) → tipRest (s .day) (s .rounds) q ≡ tipRest (s .day) (s .rounds) p
 
-  pub pass-on : (p : TipPlace) (r : TipListed) → Passed p → TipStep z starts plan count p r → r .found ≡ false → Passed (r .next)
+  pub pass-on : (p : TipPlace) (r : TipListed) → Passed p → TipStep layout starts plan count p r → r .found ≡ false → Passed (r .next)
   pass-on p r h step f = λ s. h s ∙ step .goes s .none f
 
-  pub tip-found : (p : TipPlace) (r : TipListed) → Passed p → TipStep z starts plan count p r → r .found ≡ true → TipAnswer z starts plan count q r
+  pub tip-found : (p : TipPlace) (r : TipListed) → Passed p → TipStep layout starts plan count p r → r .found ≡ true → TipAnswer layout starts plan count q r
   tip-found p r h step f =
       record {
         tells = λ s. record { some = λ t. h s ∙ step .goes s .some t; none = λ t. absurd (true≢false (sym f ∙ t)) };
         fits = step .fits;
       }
 
-  pub tips-end : (p : TipPlace) (r : TipListed) → Passed p → count ≤ p .vehicle → (r .found ≡ false) × (r .next ≡ p) → TipAnswer z starts plan count q r
+  pub tips-end : (p : TipPlace) (r : TipListed) → Passed p → count ≤ p .vehicle → (r .found ≡ false) × (r .next ≡ p) → TipAnswer layout starts plan count q r
   tips-end p r h l e =
       record {
         tells = λ s.

@@ -74,10 +74,10 @@ abbrev pub TipFits : List ℕ → ℕ → TipPlace → Type 0
 TipFits starts count q = q .vehicle < count → getD starts (q .vehicle) 0 + q .task + 2 ≤ getD starts (q .vehicle + 1) 0
 
 -- the tables of some day and some vehicles, as far as pairs need them
-pub record PairsOf (z : Layout) (K : ℕ) (table vehicles : List ℕ) : Type 0 where
+pub record PairsOf (layout : Layout) (K : ℕ) (table vehicles : List ℕ) : Type 0 where
   pub day : List ℕ
   pub rounds : List Round
-  pub layout : LayoutOf day z
+  pub layoutIs : LayoutOf day layout
   pub most : stops day ≤ 240
   pub close : K ≤ 50
   pub tableIs : TableOf day K table
@@ -85,22 +85,22 @@ pub record PairsOf (z : Layout) (K : ℕ) (table vehicles : List ℕ) : Type 0 w
   pub size : length vehicles ≡ 256
 
 -- one step over the pairs: the list goes on, and there are fewer places yet
-pub record PairStep (z : Layout) (K : ℕ) (table vehicles : List ℕ) (p : PairPlace) (r : PairListed) : Type 0 where
-  pub goes : (s : PairsOf z K table vehicles) → Goes (pairRest (s .day) K (s .rounds)) p (r .found) (r .trial) (r .next)
+pub record PairStep (layout : Layout) (K : ℕ) (table vehicles : List ℕ) (p : PairPlace) (r : PairListed) : Type 0 where
+  pub goes : (s : PairsOf layout K table vehicles) → Goes (pairRest (s .day) K (s .rounds)) p (r .found) (r .trial) (r .next)
   pub first : 1 ≤ r .next .stop
-  pub falls : r .found ≡ false → pairsLeft (z .stops) K (r .next) < pairsLeft (z .stops) K p
+  pub falls : r .found ≡ false → pairsLeft (layout .stops) K (r .next) < pairsLeft (layout .stops) K p
 
 -- the next trial of a pair, if there is one
-pub record PairAnswer (z : Layout) (K : ℕ) (table vehicles : List ℕ) (p : PairPlace) (r : PairListed) : Type 0 where
-  pub tells : (s : PairsOf z K table vehicles) → Tells (pairRest (s .day) K (s .rounds)) p (r .found) (r .trial) (r .next)
+pub record PairAnswer (layout : Layout) (K : ℕ) (table vehicles : List ℕ) (p : PairPlace) (r : PairListed) : Type 0 where
+  pub tells : (s : PairsOf layout K table vehicles) → Tells (pairRest (s .day) K (s .rounds)) p (r .found) (r .trial) (r .next)
   pub first : 1 ≤ r .next .stop
 
 -- and as far as tips do
-pub record TipsOf (z : Layout) (starts plan : List ℕ) (count : ℕ) : Type 0 where
+pub record TipsOf (layout : Layout) (starts plan : List ℕ) (count : ℕ) : Type 0 where
   pub day : List ℕ
   pub rounds : List Round
   pub lefts : List ℕ
-  pub layout : LayoutOf day z
+  pub layoutIs : LayoutOf day layout
   pub most : stops day ≤ 240
   pub known : Every (Every (Known day)) rounds
   pub few : count ≤ 240
@@ -110,9 +110,9 @@ pub record TipsOf (z : Layout) (starts plan : List ℕ) (count : ℕ) : Type 0 w
   pub text : plan ≡ planWords rounds lefts
 
 -- there are such tables, and the place is one of a vehicle of theirs
-pub record SomeTip (z : Layout) (starts plan : List ℕ) (q : TipPlace) : Type 0 where
+pub record SomeTip (layout : Layout) (starts plan : List ℕ) (q : TipPlace) : Type 0 where
   pub count : ℕ
-  pub tables : TipsOf z starts plan count
+  pub tables : TipsOf layout starts plan count
   pub within : q .vehicle < count
   pub fits : getD starts (q .vehicle) 0 + q .task + 2 ≤ getD starts (q .vehicle + 1) 0
 
@@ -121,27 +121,27 @@ abbrev pub tipsLeft : List ℕ → List ℕ → TipPlace → ℕ
 tipsLeft starts plan q = length plan - (getD starts (q .vehicle) 0 + q .task)
 
 -- one step over the tips: the list goes on, and there are fewer words yet
-pub record TipStep (z : Layout) (starts plan : List ℕ) (count : ℕ) (q : TipPlace) (r : TipListed) : Type 0 where
-  pub goes : (s : TipsOf z starts plan count) → Goes (tipRest (s .day) (s .rounds)) q (r .found) (r .trial) (r .next)
+pub record TipStep (layout : Layout) (starts plan : List ℕ) (count : ℕ) (q : TipPlace) (r : TipListed) : Type 0 where
+  pub goes : (s : TipsOf layout starts plan count) → Goes (tipRest (s .day) (s .rounds)) q (r .found) (r .trial) (r .next)
   pub fits : TipFits starts count (r .next)
   pub falls : r .found ≡ false → tipsLeft starts plan (r .next) < tipsLeft starts plan q
 
 -- so it is for whatever tables have this place
 abbrev pub TipSteps : Layout → List ℕ → List ℕ → TipPlace → TipListed → Type 0
-TipSteps z starts plan q r = (count : ℕ) → TipsOf z starts plan count → q .vehicle < count → TipFits starts count q → TipStep z starts plan count q r
+TipSteps layout starts plan q r = (count : ℕ) → TipsOf layout starts plan count → q .vehicle < count → TipFits starts count q → TipStep layout starts plan count q r
 
 -- the next trial of a tip, if there is one
-pub record TipAnswer (z : Layout) (starts plan : List ℕ) (count : ℕ) (q : TipPlace) (r : TipListed) : Type 0 where
-  pub tells : (s : TipsOf z starts plan count) → Tells (tipRest (s .day) (s .rounds)) q (r .found) (r .trial) (r .next)
+pub record TipAnswer (layout : Layout) (starts plan : List ℕ) (count : ℕ) (q : TipPlace) (r : TipListed) : Type 0 where
+  pub tells : (s : TipsOf layout starts plan count) → Tells (tipRest (s .day) (s .rounds)) q (r .found) (r .trial) (r .next)
   pub fits : TipFits starts count (r .next)
 
 -- the present plan and its tables
-pub record PlanTables (z : Layout) (K : ℕ) (table starts vehicles plan : List ℕ) (count : ℕ) : Type 0 where
+pub record PlanTables (layout : Layout) (K : ℕ) (table starts vehicles plan : List ℕ) (count : ℕ) : Type 0 where
   pub day : List ℕ
   pub rounds : List Round
   pub lefts : List ℕ
   pub distances : List ℕ
-  pub layout : LayoutOf day z
+  pub layoutIs : LayoutOf day layout
   pub most : stops day ≤ 240
   pub close : K ≤ 50
   pub known : Every (Every (Known day)) rounds
@@ -156,6 +156,6 @@ pub record CursorFits (starts : List ℕ) (count : ℕ) (c : Cursor) : Type 0 wh
   pub tipFits : TipFits starts count (c .tips)
 
 -- the next trial of the list, if there is one
-pub record ListAnswer (z : Layout) (K : ℕ) (table starts vehicles plan : List ℕ) (count : ℕ) (c : Cursor) (r : Listed) : Type 0 where
-  pub tells : (s : PlanTables z K table starts vehicles plan count) → Tells (restOf (s .day) K (s .rounds)) c (r .found) (r .trial) (r .next)
+pub record ListAnswer (layout : Layout) (K : ℕ) (table starts vehicles plan : List ℕ) (count : ℕ) (c : Cursor) (r : Listed) : Type 0 where
+  pub tells : (s : PlanTables layout K table starts vehicles plan count) → Tells (restOf (s .day) K (s .rounds)) c (r .found) (r .trial) (r .next)
   pub fits : CursorFits starts count (r .next)

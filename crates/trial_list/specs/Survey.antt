@@ -90,9 +90,9 @@ vehiclesThen vehicles number w =
 
 -- a word of a known task
 pub record TaskWord (day : List ℕ) (w : ℕ) : Type 0 where
-  pub least : 2952790016 ≤ w
-  pub stop : w < 3221225472 → w < 2952790272
-  pub place : w < 3489660928 → placeOf (tips day) w < places day
+  pub least : (stopWord 0) ≤ w
+  pub stop : w < tipWord 0 → w < stopWord 256
+  pub place : w < restWord → placeOf (tips day) w < places day
 
 -- an A word stands at a place of the plan
 unfoldable pub isVehicle : List ℕ → ℕ → Bool

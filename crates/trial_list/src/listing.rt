@@ -10,6 +10,8 @@ ghost use Rattle.walks.specs.Rewalks.{editOf};
 ghost use Rattle.trial_list.specs.TrialRest.{listedTrial, pairOn, listStart};
 ghost use Rattle.trial_list.specs.Listing.{nextTask, PairTells, TipTells, TipFits, PairsOf, PairStep, PairAnswer, TipsOf, SomeTip, TipSteps, TipAnswer, PlanTables, CursorFits, ListAnswer};
 use day::fields::Layout;
+use plan_words::REST;
+use plan_words::TIP;
 use walks::edits::Edit;
 
 // What is done, and the numbers of the vehicles that it touches, which may be one and the same.
@@ -160,9 +162,9 @@ fn pair_trial(p: PairPlace, stop: u32, other: u32, one: usize, two: usize) -> Pa
 }
 
 // The trial at a place, if there is one; else the place behind it.
-fn pair_at(z: Layout, k: usize, table: &[u8], vehicles: &[u8], p: PairPlace) -> PairListed
-    requires { ⌜ PairsOf z k (now table) (now vehicles) × (1 ≤ p .stop) × (p .stop ≤ z .stops) ⌝ }
-    ensures { λ r. ⌜ PairStep z k (now (table .entry)) (now (vehicles .entry)) p r ⌝ }
+fn pair_at(layout: Layout, k: usize, table: &[u8], vehicles: &[u8], p: PairPlace) -> PairListed
+    requires { ⌜ PairsOf layout k (now table) (now vehicles) × (1 ≤ p .stop) × (p .stop ≤ layout .stops) ⌝ }
+    ensures { λ r. ⌜ PairStep layout k (now (table .entry)) (now (vehicles .entry)) p r ⌝ }
 {
     let stop = p.stop;
     let rank = p.rank;
@@ -184,14 +186,14 @@ fn pair_at(z: Layout, k: usize, table: &[u8], vehicles: &[u8], p: PairPlace) -> 
 }
 
 // The next trial of a pair, passing over those that have none.
-fn next_pair(z: Layout, k: usize, table: &[u8], vehicles: &[u8], p: PairPlace) -> PairListed
-    requires { ⌜ PairsOf z k (now table) (now vehicles) × (1 ≤ p .stop) ⌝ }
-    ensures { λ r. ⌜ PairAnswer z k (now (table .entry)) (now (vehicles .entry)) p r ⌝ }
+fn next_pair(layout: Layout, k: usize, table: &[u8], vehicles: &[u8], p: PairPlace) -> PairListed
+    requires { ⌜ PairsOf layout k (now table) (now vehicles) × (1 ≤ p .stop) ⌝ }
+    ensures { λ r. ⌜ PairAnswer layout k (now (table .entry)) (now (vehicles .entry)) p r ⌝ }
 {
-    let stops = z.stops;
+    let stops = layout.stops;
     let mut q = p;
     while q.stop <= stops {
-        let r = pair_at(z, k, table, vehicles, q);
+        let r = pair_at(layout, k, table, vehicles, q);
         if r.found {
             return r;
         }
@@ -267,9 +269,9 @@ fn tip_trial(most: usize, q: TipPlace, y: usize) -> TipListed
 }
 
 // The trial at a place, if there is one; else the place behind it. A vehicle's last word is its E.
-fn tip_at(z: Layout, starts: &[u32], plan: &[u32], q: TipPlace) -> TipListed
-    requires { ⌜ SomeTip z (now starts) (now plan) q ⌝ }
-    ensures { λ r. ⌜ TipSteps z (now (starts .entry)) (now (plan .entry)) q r ⌝ }
+fn tip_at(layout: Layout, starts: &[u32], plan: &[u32], q: TipPlace) -> TipListed
+    requires { ⌜ SomeTip layout (now starts) (now plan) q ⌝ }
+    ensures { λ r. ⌜ TipSteps layout (now (starts .entry)) (now (plan .entry)) q r ⌝ }
 {
     let vehicle = q.vehicle;
     let start = number_at(starts, vehicle);
@@ -283,23 +285,23 @@ fn tip_at(z: Layout, starts: &[u32], plan: &[u32], q: TipPlace) -> TipListed
         });
     }
     let w = number_at(plan, at);
-    if w < 3221225472 {
+    if w < (TIP as usize) {
         return no_tip(next_task(q));
     }
-    if 3489660928 <= w {
+    if (REST as usize) <= w {
         return no_tip(next_task(q));
     }
-    tip_trial(z.tips, q, w - 3221225472)
+    tip_trial(layout.tips, q, w - (TIP as usize))
 }
 
 // The next trial of a tip, passing over the tasks that have none.
-fn next_tip(z: Layout, starts: &[u32], count: usize, plan: &[u32], q: TipPlace) -> TipListed
-    requires { ⌜ TipsOf z (now starts) (now plan) count × TipFits (now starts) count q ⌝ }
-    ensures { λ r. ⌜ TipAnswer z (now (starts .entry)) (now (plan .entry)) count q r ⌝ }
+fn next_tip(layout: Layout, starts: &[u32], count: usize, plan: &[u32], q: TipPlace) -> TipListed
+    requires { ⌜ TipsOf layout (now starts) (now plan) count × TipFits (now starts) count q ⌝ }
+    ensures { λ r. ⌜ TipAnswer layout (now (starts .entry)) (now (plan .entry)) count q r ⌝ }
 {
     let mut p = q;
     while p.vehicle < count {
-        let r = tip_at(z, starts, plan, p);
+        let r = tip_at(layout, starts, plan, p);
         if r.found {
             return r;
         }
@@ -328,7 +330,7 @@ pub fn first_trial() -> Cursor
 
 // The next trial of the present plan's list, of neighbourhood k, and the cursor behind it.
 pub fn next_trial(
-    z: Layout,
+    layout: Layout,
     k: usize,
     table: &[u8],
     starts: &[u32],
@@ -337,12 +339,12 @@ pub fn next_trial(
     plan: &[u32],
     c: Cursor,
 ) -> Listed
-    requires { ⌜ PlanTables z k (now table) (now starts) (now vehicles) (now plan) count × CursorFits (now starts) count c ⌝ }
-    ensures { λ r. ⌜ ListAnswer z k (now (table .entry)) (now (starts .entry)) (now (vehicles .entry)) (now (plan .entry)) count c r ⌝ }
+    requires { ⌜ PlanTables layout k (now table) (now starts) (now vehicles) (now plan) count × CursorFits (now starts) count c ⌝ }
+    ensures { λ r. ⌜ ListAnswer layout k (now (table .entry)) (now (starts .entry)) (now (vehicles .entry)) (now (plan .entry)) count c r ⌝ }
 {
     let p = c.pairs;
     let q = c.tips;
-    let pair = next_pair(z, k, table, vehicles, p);
+    let pair = next_pair(layout, k, table, vehicles, p);
     let pairs = pair.next;
     if pair.found {
         let trial = pair.trial;
@@ -352,7 +354,7 @@ pub fn next_trial(
             next: Cursor { pairs, tips: q },
         };
     }
-    let tip = next_tip(z, starts, count, plan, q);
+    let tip = next_tip(layout, starts, count, plan, q);
     let trial = tip.trial;
     let tips = tip.next;
     Listed {

@@ -12,8 +12,7 @@ use lib.ListN.{length}
 use borrow.Author.Tests.{ltb-true}
 use Rattle.rules.specs.Answers.{given, isGiven}
 use Rattle.rules.specs.Lists.{Every}
-use Rattle.rules.specs.Fields.{stops, tips}
-use Rattle.rules.specs.Accepted.{IsAccepted}
+use Rattle.rules.specs.Fields.{stops, tips, IsAccepted}
 use Rattle.rules.specs.Plan.{Round}
 use Rattle.rules.specs.Check.{checkPlan}
 use Rattle.rules.specs.Build.{greedyRounds, greedyLefts, greedyPlan}
@@ -31,7 +30,7 @@ use Rattle.trial_list.proofs.ListLength.{trials-bound}
 use Rattle.trial_list.proofs.Listed.{every-mem, listed-all}
 use Rattle.trial_list.specs.Shapes.{Shaped, Valid}
 use Rattle.trial_list.proofs.Shapes.{greedy-shaped, shaped-length, shaped-formed}
-use Rattle.attempts.proofs.PlanTold.{told-lawful, told-totals}
+use Rattle.plan_laws.proofs.Theorems.{told-lawful, told-totals}
 use Rattle.attempts.proofs.ShapeKept.{valid-shaped}
 use Rattle.trials.proofs.Searching.{outcome, settled-iff, result-keeps, improve-dist, more-budget, settles, lists-bound}
 

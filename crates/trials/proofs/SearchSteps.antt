@@ -10,7 +10,7 @@ use lib.ListN.{take, drop}
 use borrow.Author.Tests.{not-true, not-false}
 use Rattle.rules.specs.Tests.{if_then_else_}
 use Rattle.rules.specs.Lists.{Every}
-use Rattle.rules.specs.Accepted.{IsAccepted}
+use Rattle.rules.specs.Fields.{IsAccepted}
 use Rattle.rules.specs.Plan.{Round}
 use Rattle.rules.specs.Build.{greedyLefts}
 use Rattle.rules.specs.TrialList.{trialList}
@@ -19,7 +19,7 @@ use Rattle.day.specs.Layout.{LayoutOf}
 use Rattle.day.specs.declared.fields.Layout.{Layout}
 use Rattle.day.proofs.Ranges.{accepted-ranges}
 use Rattle.neighbours.specs.Tables.{TableOf}
-use Rattle.greedy_laws.proofs.Decided.{known}
+use Rattle.laws.proofs.Decided.{known}
 use Rattle.trial_list.specs.Listing.{PlanTables, ListAnswer}
 use Rattle.trial_list.specs.Shapes.{Valid}
 use Rattle.trial_list.specs.TrialRest.{restOf, listStart, listedTrial}
@@ -36,15 +36,15 @@ use Rattle.trials.proofs.TakeOverLaws.{slice-is}
 use Rattle.trials.proofs.Promises.{attempt-kept}
 
 -- the tables of the plan held
-module _ {day : List ℕ} {z : Layout} {K budget : ℕ} {table plan starts vehicles distances tracks : List ℕ} {s : Search}
-    (layout : LayoutOf day z) (ok : IsAccepted day) (close : K ≤ 50) (t : TableOf day K table) (h : Searching day K budget plan starts vehicles distances tracks s) where
-  pub held-tables : PlanTables z K table starts vehicles (take (s .words - 0) (drop 0 plan)) (s .count)
+module _ {day : List ℕ} {layout : Layout} {K budget : ℕ} {table plan starts vehicles distances tracks : List ℕ} {s : Search}
+    (laid : LayoutOf day layout) (ok : IsAccepted day) (close : K ≤ 50) (t : TableOf day K table) (h : Searching day K budget plan starts vehicles distances tracks s) where
+  pub held-tables : PlanTables layout K table starts vehicles (take (s .words - 0) (drop 0 plan)) (s .count)
   held-tables =
-      plan-tables z K table starts vehicles (take (s .words - 0) (drop 0 plan)) (s .count) day (h .rounds) (greedyLefts day) distances layout ok close
+      plan-tables layout K table starts vehicles (take (s .words - 0) (drop 0 plan)) (s .count) day (h .rounds) (greedyLefts day) distances laid ok close
       (h .held .planAt .shaped) t (h .held .surveyed) (slice-is (h .held .planAt))
 
   -- the search ends
-  pub ends-settled : (r : Search) → s .ended ≡ false → {l : Listed} → ListAnswer z K table starts vehicles (take (s .words - 0) (drop 0 plan)) (s .count) (s .cursor) l → l .found ≡ false
+  pub ends-settled : (r : Search) → s .ended ≡ false → {l : Listed} → ListAnswer layout K table starts vehicles (take (s .words - 0) (drop 0 plan)) (s .count) (s .cursor) l → l .found ≡ false
       → r .words ≡ s .words → r .count ≡ s .count → r .distance ≡ s .distance → r .made ≡ s .made → r .ended ≡ true → r .settled ≡ true
       → Searching day K budget plan starts vehicles distances tracks r
   unfolding plan-tables held-tables
@@ -61,7 +61,7 @@ module _ {day : List ℕ} {z : Layout} {K budget : ℕ} {table plan starts vehic
         done = λ _. rw (m, q) (sym (run-nil (trialList day K) (attempt day (greedyLefts day)) (budget - s .made) (h .rounds) (s .made)) ∙ rw rest at same);
       }
 
-  pub ends-spent : (r : Search) → s .ended ≡ false → {l : Listed} → ListAnswer z K table starts vehicles (take (s .words - 0) (drop 0 plan)) (s .count) (s .cursor) l → l .found ≡ true
+  pub ends-spent : (r : Search) → s .ended ≡ false → {l : Listed} → ListAnswer layout K table starts vehicles (take (s .words - 0) (drop 0 plan)) (s .count) (s .cursor) l → l .found ≡ true
       → s .made ≡ budget → r .words ≡ s .words → r .count ≡ s .count → r .distance ≡ s .distance → r .made ≡ s .made → r .ended ≡ true → r .settled ≡ false
       → Searching day K budget plan starts vehicles distances tracks r
   unfolding plan-tables held-tables

@@ -6,8 +6,7 @@ use native.Mathlib.Omega.{arith}
 use lib.ListN.{length, take, drop}
 use lib.Seq.{length-take-le}
 use Rattle.rules.specs.Buffer.{over}
-use Rattle.rules.specs.Fields.{stops}
-use Rattle.rules.specs.Accepted.{IsAccepted}
+use Rattle.rules.specs.Fields.{stops, IsAccepted}
 use Rattle.rules.specs.Plan.{Round, planWords}
 use Rattle.rules.specs.Build.{greedyLefts}
 use Rattle.laws.specs.Buffer.{Wrote}

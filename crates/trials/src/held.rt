@@ -2,7 +2,7 @@
 ghost use mathlib.Core.Path.{_≡_};
 ghost use Prim.Native.Nat.{_≤_, _*_};
 ghost use lib.ListN.{length};
-ghost use Rattle.rules.specs.Accepted.{IsAccepted};
+ghost use Rattle.rules.specs.Fields.{IsAccepted};
 ghost use Rattle.day.specs.Layout.{LayoutOf};
 ghost use Rattle.trials.specs.Searches.{SomeHeld, MakesTables};
 use day::fields::Layout;
@@ -18,7 +18,7 @@ pub struct Held {
 // Where its vehicles are and how far they drive, and what trials are measured by. The working buffer is worked in. How many vehicles it has.
 pub fn make_tables(
     day: &[u32],
-    z: Layout,
+    layout: Layout,
     plan: &[u32],
     starts: &mut [u32],
     vehicles: &mut [u8],
@@ -26,11 +26,11 @@ pub fn make_tables(
     tracks: &mut [u32],
     work: &mut [u32],
 ) -> usize
-    requires { ⌜ LayoutOf (now day) z × IsAccepted (now day) × SomeHeld (now day) (now plan) × (5 * z .stops ≤ length (now work)) ⌝ }
+    requires { ⌜ LayoutOf (now day) layout × IsAccepted (now day) × SomeHeld (now day) (now plan) × (5 * layout .stops ≤ length (now work)) ⌝ }
     requires { ⌜ (length (now starts) ≡ 256) × (length (now vehicles) ≡ 256) × (length (now driven) ≡ 256) × (length (now tracks) ≡ 12266) ⌝ }
     ensures { λ r. ⌜ MakesTables (now (day .entry)) (now (plan .entry)) (now (starts .exit)) (now (vehicles .exit)) (now (driven .exit)) (now (tracks .exit)) r ⌝ }
 {
-    let count = survey(day, z, plan, starts, vehicles, driven);
-    track(day, z, plan, starts, count, tracks, work);
+    let count = survey(day, layout, plan, starts, vehicles, driven);
+    track(day, layout, plan, starts, count, tracks, work);
     count
 }

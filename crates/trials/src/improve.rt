@@ -2,7 +2,7 @@
 ghost use mathlib.Core.Path.{_≡_};
 ghost use Prim.Native.Nat.{_≤_, _*_};
 ghost use lib.ListN.{length};
-ghost use Rattle.rules.specs.Accepted.{IsAccepted};
+ghost use Rattle.rules.specs.Fields.{IsAccepted};
 ghost use Rattle.rules.specs.Build.{greedyRounds};
 ghost use Rattle.rules.specs.Attempts.{distanceOf};
 ghost use Rattle.day.specs.Layout.{LayoutOf};
@@ -18,7 +18,7 @@ use neighbours::table::fill_table;
 // The plan that the trials come to fills the buffer, with zeros behind it. Neighbours are worked out once.
 pub fn improve(
     day: &[u32],
-    z: Layout,
+    layout: Layout,
     k: usize,
     budget: u64,
     words: usize,
@@ -26,7 +26,7 @@ pub fn improve(
     plan: &mut [u32],
     work: &mut [u32],
 ) -> Search
-    requires { ⌜ LayoutOf (now day) z × IsAccepted (now day) × (k ≤ 50) × (length (now plan) ≡ 5 * z .stops) × (5 * z .stops ≤ length (now work)) × PlanAt (now day) (now plan) words (greedyRounds (now day)) × (distance ≡ distanceOf (now day) (greedyRounds (now day))) ⌝ }
+    requires { ⌜ LayoutOf (now day) layout × IsAccepted (now day) × (k ≤ 50) × (length (now plan) ≡ 5 * layout .stops) × (5 * layout .stops ≤ length (now work)) × PlanAt (now day) (now plan) words (greedyRounds (now day)) × (distance ≡ distanceOf (now day) (greedyRounds (now day))) ⌝ }
     ensures { λ r. ⌜ Improved (now (day .entry)) k budget (now (plan .exit)) r ⌝ }
 {
     let mut table = [0u8; 12050];
@@ -34,10 +34,10 @@ pub fn improve(
     let mut vehicles = [0u8; 256];
     let mut driven = [0u32; 256];
     let mut tracks = [0u32; 12266];
-    fill_table(day, z, k, &mut table);
+    fill_table(day, layout, k, &mut table);
     let last = run_trials(
         day,
-        z,
+        layout,
         Setting { k, budget },
         Held { words, distance },
         &table,

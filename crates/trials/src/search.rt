@@ -4,7 +4,7 @@ ghost use mathlib.Core.Bool.{true, false, not};
 ghost use mathlib.Core.List.{List};
 ghost use Prim.Native.Nat.{_-_, _≤_, _<_, _*_};
 ghost use lib.ListN.{length, take, drop};
-ghost use Rattle.rules.specs.Accepted.{IsAccepted};
+ghost use Rattle.rules.specs.Fields.{IsAccepted};
 ghost use Rattle.rules.specs.Plan.{Round};
 ghost use Rattle.rules.specs.Build.{greedyRounds};
 ghost use Rattle.rules.specs.Attempts.{distanceOf};
@@ -48,7 +48,7 @@ pub struct Search {
 // The plan at the front of the working buffer is taken over, and its tables are made. How many vehicles it has.
 fn take_over(
     day: &[u32],
-    z: Layout,
+    layout: Layout,
     work: &mut [u32],
     words: usize,
     plan: &mut [u32],
@@ -57,14 +57,14 @@ fn take_over(
     driven: &mut [u32],
     tracks: &mut [u32],
 ) -> usize
-    requires { ⌜ LayoutOf (now day) z × IsAccepted (now day) × SomePlanAt (now day) (now work) words × (5 * z .stops ≤ length (now plan)) × (5 * z .stops ≤ length (now work)) ⌝ }
+    requires { ⌜ LayoutOf (now day) layout × IsAccepted (now day) × SomePlanAt (now day) (now work) words × (5 * layout .stops ≤ length (now plan)) × (5 * layout .stops ≤ length (now work)) ⌝ }
     requires { ⌜ (length (now starts) ≡ 256) × (length (now vehicles) ≡ 256) × (length (now driven) ≡ 256) × (length (now tracks) ≡ 12266) ⌝ }
     ensures { λ r. ⌜ TakesOver (now (day .entry)) (now (work .entry)) words (now (plan .exit)) (now (starts .exit)) (now (vehicles .exit)) (now (driven .exit)) (now (tracks .exit)) r ⌝ }
 {
     copy_words(&work[0..words], plan);
     make_tables(
         day,
-        z,
+        layout,
         &plan[0..words],
         starts,
         vehicles,
@@ -108,7 +108,7 @@ fn going(words: usize, count: usize, distance: u32, made: u64, cursor: Cursor) -
 // A trial was made: its plan is taken over where it is kept, and else the list goes on.
 fn after_trial(
     day: &[u32],
-    z: Layout,
+    layout: Layout,
     set: Setting,
     work: &mut [u32],
     plan: &mut [u32],
@@ -120,12 +120,22 @@ fn after_trial(
     next: Cursor,
     tried: Tried,
 ) -> Search
-    requires { ⌜ LayoutOf (now day) z × IsAccepted (now day) × (5 * z .stops ≤ length (now plan)) × (5 * z .stops ≤ length (now work)) × AfterTrial (now day) (set .k) (set .budget) (now work) (now plan) (now starts) (now vehicles) (now driven) (now tracks) s next tried ⌝ }
+    requires { ⌜ LayoutOf (now day) layout × IsAccepted (now day) × (5 * layout .stops ≤ length (now plan)) × (5 * layout .stops ≤ length (now work)) × AfterTrial (now day) (set .k) (set .budget) (now work) (now plan) (now starts) (now vehicles) (now driven) (now tracks) s next tried ⌝ }
     ensures { λ r. ⌜ Searching (now (day .entry)) (set .k) (set .budget) (now (plan .exit)) (now (starts .exit)) (now (vehicles .exit)) (now (driven .exit)) (now (tracks .exit)) r × (s .made < r .made) ⌝ }
 {
     if tried.kept {
         let words = tried.words;
-        let count = take_over(day, z, work, words, plan, starts, vehicles, driven, tracks);
+        let count = take_over(
+            day,
+            layout,
+            work,
+            words,
+            plan,
+            starts,
+            vehicles,
+            driven,
+            tracks,
+        );
         return going(words, count, tried.distance, s.made + 1, first_trial());
     }
     going(s.words, s.count, s.distance, s.made + 1, next)
@@ -133,7 +143,7 @@ fn after_trial(
 
 // The next trial of the plan held, or none.
 fn list_next(
-    z: Layout,
+    layout: Layout,
     set: Setting,
     table: &[u8],
     starts: &[u32],
@@ -141,19 +151,28 @@ fn list_next(
     plan: &[u32],
     s: Search,
 ) -> Listed
-    requires { ⌜ PlanTables z (set .k) (now table) (now starts) (now vehicles) (take (s .words - 0) (drop 0 (now plan))) (s .count) × CursorFits (now starts) (s .count) (s .cursor) × (s .words ≤ length (now plan)) ⌝ }
-    ensures { λ r. ⌜ ListAnswer z (set .k) (now (table .entry)) (now (starts .entry)) (now (vehicles .entry)) (take (s .words - 0) (drop 0 (now (plan .entry)))) (s .count) (s .cursor) r ⌝ }
+    requires { ⌜ PlanTables layout (set .k) (now table) (now starts) (now vehicles) (take (s .words - 0) (drop 0 (now plan))) (s .count) × CursorFits (now starts) (s .count) (s .cursor) × (s .words ≤ length (now plan)) ⌝ }
+    ensures { λ r. ⌜ ListAnswer layout (set .k) (now (table .entry)) (now (starts .entry)) (now (vehicles .entry)) (take (s .words - 0) (drop 0 (now (plan .entry)))) (s .count) (s .cursor) r ⌝ }
 {
     let words = s.words;
     let cursor = s.cursor;
     let held = &plan[0..words];
-    next_trial(z, set.k, table, starts, vehicles, s.count, held, cursor)
+    next_trial(
+        layout,
+        set.k,
+        table,
+        starts,
+        vehicles,
+        s.count,
+        held,
+        cursor,
+    )
 }
 
 // A trial of the plan held is made.
 fn try_next(
     day: &[u32],
-    z: Layout,
+    layout: Layout,
     t: Trial,
     plan: &[u32],
     starts: &[u32],
@@ -162,13 +181,13 @@ fn try_next(
     s: Search,
     work: &mut [u32],
 ) -> Tried
-    requires { ⌜ LayoutOf (now day) z × IsAccepted (now day) × EditSmall (t .edit) × EditKnown (now day) (t .edit) × SomeMade (now day) (take (s .words - 0) (drop 0 (now plan))) (now starts) (now driven) (now tracks) (listedTrial t) (s .count) (s .distance) × (5 * z .stops ≤ length (now work)) × (s .words ≤ length (now plan)) ⌝ }
+    requires { ⌜ LayoutOf (now day) layout × IsAccepted (now day) × EditSmall (t .edit) × EditKnown (now day) (t .edit) × SomeMade (now day) (take (s .words - 0) (drop 0 (now plan))) (now starts) (now driven) (now tracks) (listedTrial t) (s .count) (s .distance) × (5 * layout .stops ≤ length (now work)) × (s .words ≤ length (now plan)) ⌝ }
     ensures { λ r. ⌜ ((rounds : List Round) → Made (now (day .entry)) (take (s .words - 0) (drop 0 (now (plan .entry)))) (now (starts .entry)) (now (driven .entry)) (now (tracks .entry)) (listedTrial t) (s .count) (s .distance) rounds → TriedAs (now (day .entry)) (listedTrial t) rounds (now (work .exit)) r) ⌝ }
 {
     let words = s.words;
     make_trial(
         day,
-        z,
+        layout,
         t,
         &plan[0..words],
         starts,
@@ -183,7 +202,7 @@ fn try_next(
 // A trial that is listed is made, and the search goes on behind it.
 fn step_on(
     day: &[u32],
-    z: Layout,
+    layout: Layout,
     set: Setting,
     work: &mut [u32],
     plan: &mut [u32],
@@ -194,15 +213,15 @@ fn step_on(
     s: Search,
     listed: Listed,
 ) -> Search
-    requires { ⌜ LayoutOf (now day) z × IsAccepted (now day) × (5 * z .stops ≤ length (now work)) × (5 * z .stops ≤ length (now plan)) × NextTrial (now day) (set .k) (set .budget) (now plan) (now starts) (now vehicles) (now driven) (now tracks) s listed ⌝ }
+    requires { ⌜ LayoutOf (now day) layout × IsAccepted (now day) × (5 * layout .stops ≤ length (now work)) × (5 * layout .stops ≤ length (now plan)) × NextTrial (now day) (set .k) (set .budget) (now plan) (now starts) (now vehicles) (now driven) (now tracks) s listed ⌝ }
     ensures { λ r. ⌜ Searching (now (day .entry)) (set .k) (set .budget) (now (plan .exit)) (now (starts .exit)) (now (vehicles .exit)) (now (driven .exit)) (now (tracks .exit)) r × (s .made < r .made) ⌝ }
 {
     let t = listed.trial;
     let next = listed.next;
-    let tried = try_next(day, z, t, plan, starts, driven, tracks, s, work);
+    let tried = try_next(day, layout, t, plan, starts, driven, tracks, s, work);
     after_trial(
         day,
-        z,
+        layout,
         set,
         work,
         plan,
@@ -219,7 +238,7 @@ fn step_on(
 // The next trial is made, or the search ends: at the end of the list it is settled, else once the budget is gone it is not.
 fn next_step(
     day: &[u32],
-    z: Layout,
+    layout: Layout,
     set: Setting,
     table: &[u8],
     work: &mut [u32],
@@ -230,18 +249,18 @@ fn next_step(
     tracks: &mut [u32],
     s: Search,
 ) -> Search
-    requires { ⌜ LayoutOf (now day) z × IsAccepted (now day) × (set .k ≤ 50) × TableOf (now day) (set .k) (now table) × (5 * z .stops ≤ length (now work)) × (5 * z .stops ≤ length (now plan)) ⌝ }
+    requires { ⌜ LayoutOf (now day) layout × IsAccepted (now day) × (set .k ≤ 50) × TableOf (now day) (set .k) (now table) × (5 * layout .stops ≤ length (now work)) × (5 * layout .stops ≤ length (now plan)) ⌝ }
     requires { ⌜ Searching (now day) (set .k) (set .budget) (now plan) (now starts) (now vehicles) (now driven) (now tracks) s × (s .ended ≡ false) ⌝ }
     ensures { λ r. ⌜ Searching (now (day .entry)) (set .k) (set .budget) (now (plan .exit)) (now (starts .exit)) (now (vehicles .exit)) (now (driven .exit)) (now (tracks .exit)) r × (r .ended ≡ false → s .made < r .made) ⌝ }
 {
-    let listed = list_next(z, set, table, starts, vehicles, plan, s);
+    let listed = list_next(layout, set, table, starts, vehicles, plan, s);
     if listed.found {
         if s.made == set.budget {
             return end(s, false);
         }
         return step_on(
             day,
-            z,
+            layout,
             set,
             work,
             plan,
@@ -269,7 +288,7 @@ fn is_going(s: Search) -> bool
 // The greedy plan is held; its tables are made, and no trial is made yet.
 fn begin(
     day: &[u32],
-    z: Layout,
+    layout: Layout,
     held: Held,
     plan: &[u32],
     starts: &mut [u32],
@@ -278,20 +297,20 @@ fn begin(
     tracks: &mut [u32],
     work: &mut [u32],
 ) -> Search
-    requires { ⌜ LayoutOf (now day) z × IsAccepted (now day) × PlanAt (now day) (now plan) (held .words) (greedyRounds (now day)) × (held .distance ≡ distanceOf (now day) (greedyRounds (now day))) × (5 * z .stops ≤ length (now work)) ⌝ }
+    requires { ⌜ LayoutOf (now day) layout × IsAccepted (now day) × PlanAt (now day) (now plan) (held .words) (greedyRounds (now day)) × (held .distance ≡ distanceOf (now day) (greedyRounds (now day))) × (5 * layout .stops ≤ length (now work)) ⌝ }
     requires { ⌜ (length (now starts) ≡ 256) × (length (now vehicles) ≡ 256) × (length (now driven) ≡ 256) × (length (now tracks) ≡ 12266) ⌝ }
     ensures { λ r. ⌜ BeginsAll (now (day .entry)) (now (plan .entry)) (now (starts .exit)) (now (vehicles .exit)) (now (driven .exit)) (now (tracks .exit)) r ⌝ }
 {
     let words = held.words;
     let front = &plan[0..words];
-    let count = make_tables(day, z, front, starts, vehicles, driven, tracks, work);
+    let count = make_tables(day, layout, front, starts, vehicles, driven, tracks, work);
     going(words, count, held.distance, 0, first_trial())
 }
 
 // Trials of the greedy plan, and of the plans that come of it, are made until the search ends.
 pub fn run_trials(
     day: &[u32],
-    z: Layout,
+    layout: Layout,
     set: Setting,
     held: Held,
     table: &[u8],
@@ -302,16 +321,26 @@ pub fn run_trials(
     driven: &mut [u32],
     tracks: &mut [u32],
 ) -> Search
-    requires { ⌜ LayoutOf (now day) z × IsAccepted (now day) × (set .k ≤ 50) × TableOf (now day) (set .k) (now table) × (5 * z .stops ≤ length (now work)) × (5 * z .stops ≤ length (now plan)) ⌝ }
+    requires { ⌜ LayoutOf (now day) layout × IsAccepted (now day) × (set .k ≤ 50) × TableOf (now day) (set .k) (now table) × (5 * layout .stops ≤ length (now work)) × (5 * layout .stops ≤ length (now plan)) ⌝ }
     requires { ⌜ PlanAt (now day) (now plan) (held .words) (greedyRounds (now day)) × (held .distance ≡ distanceOf (now day) (greedyRounds (now day))) ⌝ }
     requires { ⌜ (length (now starts) ≡ 256) × (length (now vehicles) ≡ 256) × (length (now driven) ≡ 256) × (length (now tracks) ≡ 12266) ⌝ }
     ensures { λ r. ⌜ Searching (now (day .entry)) (set .k) (set .budget) (now (plan .exit)) (now (starts .exit)) (now (vehicles .exit)) (now (driven .exit)) (now (tracks .exit)) r × (r .ended ≡ true) ⌝ }
 {
-    let mut s = begin(day, z, held, plan, starts, vehicles, driven, tracks, work);
+    let mut s = begin(
+        day,
+        layout,
+        held,
+        plan,
+        starts,
+        vehicles,
+        driven,
+        tracks,
+        work,
+    );
     while is_going(s) {
         s = next_step(
             day,
-            z,
+            layout,
             set,
             table,
             work,

@@ -22,21 +22,21 @@ at-fault : (r : Driven) (f : ℕ) {fault : ℕ} {trip : Trip} → fault ≡ f �
 at-fault r f e h g = record { faultIs = g ∙ sym e; tripIs = λ z. absurd (omega arith) }
 
 -- the place of a stop, by the layout
-module _ (day : List ℕ) (z : Layout) (k : ℕ) (l : LayoutOf day z) where
-  place-at : z .tips + k ≡ stopPlace day k
+module _ (day : List ℕ) (layout : Layout) (k : ℕ) (l : LayoutOf day layout) where
+  place-at : layout .tips + k ≡ stopPlace day k
   place-at = rw (l .tipsAre)
 
-  pub stop-window : (hours : Window) → WindowOf day (stopPlace day k) hours → WindowOf day (z .tips + k) hours
+  pub stop-window : (hours : Window) → WindowOf day (stopPlace day k) hours → WindowOf day (layout .tips + k) hours
   stop-window hours h = rw place-at h
 
-  pub stop-minutes : {minutes : ℕ} → minutes ≡ service day (stopPlace day k) → minutes ≡ service day (z .tips + k)
+  pub stop-minutes : {minutes : ℕ} → minutes ≡ service day (stopPlace day k) → minutes ≡ service day (layout .tips + k)
   stop-minutes e = rw place-at e
 
-  pub stop-visited : (t : Trip) (r : Driven) → DrivenTo (visitFault day t (z .tips + k)) (visited day t (z .tips + k)) r
+  pub stop-visited : (t : Trip) (r : Driven) → DrivenTo (visitFault day t (layout .tips + k)) (visited day t (layout .tips + k)) r
       → DrivenTo (visitFault day t (stopPlace day k)) (visited day t (stopPlace day k)) r
   stop-visited t r d = rw place-at at d
 
-  pub stop-place : k ≤ z .stops → z .tips + k < z .places
+  pub stop-place : k ≤ layout .stops → layout .tips + k < layout .places
   stop-place h = omega (arith, l .tipsAre, l .stopsAre, l .placesAre)
 
 -- a vehicle that has not rested should have, where it is back after the rest window's closing

@@ -1,8 +1,7 @@
 -- What a word does to the counts, a drive, and how large each can get. It serves the contracts of this crate's own functions; no definition
 -- of the check rests on it. Assumes nothing.
-use Prim.Native.Nat.{ℕ, _+_, _*_, _<_, _≤_}
+use Prim.Native.Nat.{ℕ, _*_, _<_, _≤_}
 use mathlib.Core.Path.{_≡_}
-use mathlib.Core.Bool.{true, false}
 use mathlib.Core.List.{List}
 use Rattle.rules.specs.Fields.{places, loadLimit, dayLimit, stopLimit}
 use Rattle.rules.specs.PlanWords.{left}
@@ -11,26 +10,6 @@ use Rattle.rules.specs.declared.walk.Tally.{Tally}
 use Rattle.rules.specs.declared.walk.Trip.{Trip}
 use Rattle.trips.specs.declared.cargo.Limits.{Limits}
 use Rattle.trips.specs.declared.trip.Driven.{Driven}
-
--- one vehicle more, which is out
-abbrev pub oneOut : Tally → Tally
-oneOut y =
-    record { inside = true; vehicles = y .vehicles + 1; served = y .served; left = y .left; last = y .last; distance = y .distance }
-
--- one stop more is served
-abbrev pub oneServed : Tally → Tally
-oneServed y =
-    record { inside = y .inside; vehicles = y .vehicles; served = y .served + 1; left = y .left; last = y .last; distance = y .distance }
-
--- a stop is left out
-abbrev pub oneLeft : Tally → ℕ → Tally
-oneLeft y k =
-    record { inside = y .inside; vehicles = y .vehicles; served = y .served; left = y .left + 1; last = k; distance = y .distance }
-
--- the vehicle is back, and its distance counts
-abbrev pub oneBack : Tally → ℕ → Tally
-oneBack y driven =
-    record { inside = false; vehicles = y .vehicles; served = y .served; left = y .left; last = y .last; distance = y .distance + driven }
 
 -- a drive that ends in a trip, or in a fault that is not 0
 pub record DrivenTo (fault : ℕ) (trip : Trip) (r : Driven) : Type 0 where

@@ -60,14 +60,14 @@ pub struct Limits {
 }
 
 // The limits of a day, read once.
-pub fn limits_of(day: &[u32], z: day::fields::Layout) -> Limits
-    requires { ⌜ LayoutOf (now day) z ⌝ }
+pub fn limits_of(day: &[u32], layout: day::fields::Layout) -> Limits
+    requires { ⌜ LayoutOf (now day) layout ⌝ }
     ensures { λ r. ⌜ LimitsOf (now (day .entry)) r ⌝ }
 {
     Limits {
-        load: day::fields::load_limit(day, z),
-        kg: day::fields::day_limit(day, z),
-        visits: day::fields::stop_limit(day, z),
+        load: day::fields::load_limit(day, layout),
+        kg: day::fields::day_limit(day, layout),
+        visits: day::fields::stop_limit(day, layout),
     }
 }
 

@@ -2,8 +2,8 @@
 // a block it is slower.
 ghost use mathlib.Core.Path.{_≡_};
 ghost use Prim.Native.Nat.{_+_, _<_};
-ghost use Rattle.rules.specs.Check.{untold};
-ghost use Rattle.trips.specs.Trips.{oneOut, oneServed, oneLeft, oneBack, TallyWithin};
+ghost use Rattle.rules.specs.Check.{untold, oneOut, oneServed, oneLeft, oneBack};
+ghost use Rattle.trips.specs.Trips.{TallyWithin};
 use rules::walk::Tally;
 
 // Before the first word.

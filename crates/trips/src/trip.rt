@@ -54,12 +54,12 @@ pub fn same_trip(t: Trip) -> Trip
 }
 
 // At the depot when it opens.
-pub fn leave(day: &[u32], z: day::fields::Layout) -> Trip
-    requires { ⌜ LayoutOf (now day) z ⌝ }
+pub fn leave(day: &[u32], layout: day::fields::Layout) -> Trip
+    requires { ⌜ LayoutOf (now day) layout ⌝ }
     ensures { λ r. ⌜ r ≡ leaving (now (day .entry)) ⌝ }
 {
     Trip {
-        minute: day::fields::depot_window(day, z).opening,
+        minute: day::fields::depot_window(day, layout).opening,
         place: 0,
         rested: false,
         distance: 0,
@@ -69,16 +69,16 @@ pub fn leave(day: &[u32], z: day::fields::Layout) -> Trip
 // To a place, for its service; too late is 11.
 fn visit(
     day: &[u32],
-    z: day::fields::Layout,
+    layout: day::fields::Layout,
     t: Trip,
     place: usize,
     hours: day::fields::Window,
     minutes: u32,
 ) -> Driven
-    requires { ⌜ LayoutOf (now day) z × TripWithin (now day) 4096 t × (place < z .places) × WindowOf (now day) place hours × (minutes ≡ service (now day) place) ⌝ }
+    requires { ⌜ LayoutOf (now day) layout × TripWithin (now day) 4096 t × (place < layout .places) × WindowOf (now day) place hours × (minutes ≡ service (now day) place) ⌝ }
     ensures { λ r. ⌜ DrivenTo (visitFault (now (day .entry)) t place) (visited (now (day .entry)) t place) r ⌝ }
 {
-    let leg = day::fields::leg_from_legs(day, z, t.place, place);
+    let leg = day::fields::leg_from_legs(day, layout, t.place, place);
     let start = later(t.minute + leg.minutes, hours.opening);
     if hours.closing < start {
         return at_fault(11);
@@ -95,34 +95,34 @@ fn visit(
 }
 
 // To stop k.
-pub fn visit_stop(day: &[u32], z: day::fields::Layout, t: Trip, k: usize) -> Driven
-    requires { ⌜ LayoutOf (now day) z × TripWithin (now day) 4096 t × (0 < k) × (k ≤ z .stops) ⌝ }
+pub fn visit_stop(day: &[u32], layout: day::fields::Layout, t: Trip, k: usize) -> Driven
+    requires { ⌜ LayoutOf (now day) layout × TripWithin (now day) 4096 t × (0 < k) × (k ≤ layout .stops) ⌝ }
     ensures { λ r. ⌜ DrivenTo (visitFault (now (day .entry)) t (stopPlace (now (day .entry)) k)) (visited (now (day .entry)) t (stopPlace (now (day .entry)) k)) r ⌝ }
 {
-    let hours = day::fields::stop_window(day, z, k);
-    let minutes = day::fields::stop_service(day, z, k);
-    visit(day, z, t, z.tips + k, hours, minutes)
+    let hours = day::fields::stop_window(day, layout, k);
+    let minutes = day::fields::stop_service(day, layout, k);
+    visit(day, layout, t, layout.tips + k, hours, minutes)
 }
 
 // To tip k.
-pub fn visit_tip(day: &[u32], z: day::fields::Layout, t: Trip, k: usize) -> Driven
-    requires { ⌜ LayoutOf (now day) z × TripWithin (now day) 4096 t × (0 < k) × (k ≤ z .tips) ⌝ }
+pub fn visit_tip(day: &[u32], layout: day::fields::Layout, t: Trip, k: usize) -> Driven
+    requires { ⌜ LayoutOf (now day) layout × TripWithin (now day) 4096 t × (0 < k) × (k ≤ layout .tips) ⌝ }
     ensures { λ r. ⌜ DrivenTo (visitFault (now (day .entry)) t k) (visited (now (day .entry)) t k) r ⌝ }
 {
-    let hours = day::fields::tip_window(day, z, k);
-    let minutes = day::fields::tip_service(day, z, k);
-    visit(day, z, t, k, hours, minutes)
+    let hours = day::fields::tip_window(day, layout, k);
+    let minutes = day::fields::tip_service(day, layout, k);
+    visit(day, layout, t, k, hours, minutes)
 }
 
 // A rest where the vehicle is; a second one, or one that begins too late, is 12.
-pub fn rest(day: &[u32], z: day::fields::Layout, t: Trip) -> Driven
-    requires { ⌜ LayoutOf (now day) z × TripWithin (now day) 4096 t ⌝ }
+pub fn rest(day: &[u32], layout: day::fields::Layout, t: Trip) -> Driven
+    requires { ⌜ LayoutOf (now day) layout × TripWithin (now day) 4096 t ⌝ }
     ensures { λ r. ⌜ DrivenTo (restFault (now (day .entry)) t) (restedAt (now (day .entry)) t) r ⌝ }
 {
     if t.rested {
         return at_fault(12);
     }
-    let hours = day::fields::rest_window(day, z);
+    let hours = day::fields::rest_window(day, layout);
     let start = later(t.minute, hours.opening);
     if hours.closing < start {
         return at_fault(12);
@@ -130,7 +130,7 @@ pub fn rest(day: &[u32], z: day::fields::Layout, t: Trip) -> Driven
     Driven {
         fault: 0,
         trip: Trip {
-            minute: start + day::fields::rest_minutes(day, z),
+            minute: start + day::fields::rest_minutes(day, layout),
             place: t.place,
             rested: true,
             distance: t.distance,
@@ -139,27 +139,27 @@ pub fn rest(day: &[u32], z: day::fields::Layout, t: Trip) -> Driven
 }
 
 // Whether a vehicle that is back at a minute should have rested.
-fn is_unrested(day: &[u32], z: day::fields::Layout, rested: bool, minute: u32) -> bool
-    requires { ⌜ LayoutOf (now day) z ⌝ }
+fn is_unrested(day: &[u32], layout: day::fields::Layout, rested: bool, minute: u32) -> bool
+    requires { ⌜ LayoutOf (now day) layout ⌝ }
     ensures { λ r. ⌜ r ≡ (not rested && ltb (restClosing (now (day .entry))) minute) ⌝ }
 {
     if rested {
         return false;
     }
-    day::fields::rest_window(day, z).closing < minute
+    day::fields::rest_window(day, layout).closing < minute
 }
 
 // Back to the depot; too late is 11, too late for one who never rested 12.
-pub fn back(day: &[u32], z: day::fields::Layout, t: Trip) -> Driven
-    requires { ⌜ LayoutOf (now day) z × TripWithin (now day) 4096 t ⌝ }
+pub fn back(day: &[u32], layout: day::fields::Layout, t: Trip) -> Driven
+    requires { ⌜ LayoutOf (now day) layout × TripWithin (now day) 4096 t ⌝ }
     ensures { λ r. ⌜ DrivenTo (backFault (now (day .entry)) t) (driven (now (day .entry)) t 0 (arrival (now (day .entry)) t 0)) r ⌝ }
 {
-    let leg = day::fields::leg_from_legs(day, z, t.place, 0);
+    let leg = day::fields::leg_from_legs(day, layout, t.place, 0);
     let minute = t.minute + leg.minutes;
-    if day::fields::depot_window(day, z).closing < minute {
+    if day::fields::depot_window(day, layout).closing < minute {
         return at_fault(11);
     }
-    if is_unrested(day, z, t.rested, minute) {
+    if is_unrested(day, layout, t.rested, minute) {
         return at_fault(12);
     }
     Driven {

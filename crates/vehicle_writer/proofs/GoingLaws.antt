@@ -39,7 +39,7 @@ use Rattle.greedy_laws.specs.States.{SmallTrip, SmallCargo, unrouted}
 use Rattle.greedy_laws.specs.Rooms.{Paid, Room}
 use Rattle.next_task.specs.declared.tasks.Next.{Next}
 use Rattle.next_task.specs.declared.tasks.Next.the-variants as Nexts
-use Rattle.greedy_laws.proofs.Decided.{known, bit-most}
+use Rattle.laws.proofs.Decided.{known, bit-most}
 use Rattle.greedy_laws.proofs.Driving.{resting-due, resting-not, resting-trip, resting-cargo, resting-taken, end-none, reached-end}
 use Rattle.greedy_laws.proofs.GreedyRoom.{tasks-counted, rested-paid, rested-room, reached-room}
 use Rattle.greedy_laws.proofs.NextTasks.{IsNext, takes, empties, waits, next-some}
@@ -95,23 +95,23 @@ named (Nexts.Stop k) e = (serve k, refl)
 named (Nexts.Tip x) e = (empty x, refl)
 named Nexts.Home e = absurd (true≢false (sym e))
 
-module _ {day before : List ℕ} {z : Layout} {number : ℕ} {p part : List ℕ} {at : ℕ} {s : State} {next : Next} where
+module _ {day before : List ℕ} {layout : Layout} {number : ℕ} {p part : List ℕ} {at : ℕ} {s : State} {next : Next} where
   -- what the vehicle has for its numbers
-  pub going-small : Going day z before number p part at s next → SmallTrip day 2147483648 (s .trip)
+  pub going-small : Going day layout before number p part at s next → SmallTrip day 2147483648 (s .trip)
   going-small g =
       subst (SmallTrip day 2147483648) (sym (g .tripIs))
       (truck-small day before (resting day (g .truck)) (rested-small day before (g .truck) (g .reached)) (rested-routes day before (g .truck) (g .reached)) (rested-room day before (g .truck) (g .reached)))
 
-  pub going-cargo : Going day z before number p part at s next → SmallCargo (s .cargo)
+  pub going-cargo : Going day layout before number p part at s next → SmallCargo (s .cargo)
   going-cargo g = subst SmallCargo (sym (g .cargoIs)) (rested-small day before (g .truck) (g .reached) .cargo)
 
-  going-next : (g : Going day z before number p part at s next) → (task : Task) → nextOf next ≡ some task → IsNext day (resting day (g .truck)) task
+  going-next : (g : Going day layout before number p part at s next) → (task : Task) → nextOf next ≡ some task → IsNext day (resting day (g .truck)) task
   going-next g task e = next-some day (resting day (g .truck)) task (sym (g .nextIs) ∙ e)
 
-  going-at : (g : Going day z before number p part at s next) → at ≡ length (resting day (g .truck) .tasks) + 1
+  going-at : (g : Going day layout before number p part at s next) → at ≡ length (resting day (g .truck) .tasks) + 1
   going-at g = omega (arith, g .text .count, length-map (resting day (g .truck) .tasks) taskWord)
 
-  going-room : (g : Going day z before number p part at s next) → isTask next ≡ true → at + 1 < 5 * unmet (stops day) before
+  going-room : (g : Going day layout before number p part at s next) → isTask next ≡ true → at + 1 < 5 * unmet (stops day) before
   going-room g e =
       let n = named next e in
       let w = next-room day before (resting day (g .truck)) (n .0) (going-next g (n .0) (n .1)) (rested-routes day before (g .truck) (g .reached)) (rested-paid day before (g .truck) (g .reached)) in
@@ -122,14 +122,14 @@ serve-new : (day : List ℕ) (v : Truck) (k : ℕ) → nextTask day v ≡ some (
 unfolding Fresh stopsOn
 serve-new day v k e = next-new day v (serve k) (next-some day v (serve k) e) .0
 
-pub going-doable : (day : List ℕ) (z : Layout) (before : List ℕ) (number : ℕ) (p part : List ℕ) (at : ℕ) (s : State) (next : Next) → LayoutOf day z
-    → Going day z before number p part at s next → Doable (s .left .words) next
-going-doable day z before number p part at s (Nexts.Stop k) l g =
+pub going-doable : (day : List ℕ) (layout : Layout) (before : List ℕ) (number : ℕ) (p part : List ℕ) (at : ℕ) (s : State) (next : Next) → LayoutOf day layout
+    → Going day layout before number p part at s next → Doable (s .left .words) next
+going-doable day layout before number p part at s (Nexts.Stop k) l g =
     let v = resting day (g .truck) in
     let new = serve-new day v k (sym (g .nextIs)) in
     ap (λ (f : ℕ → Bool). f k) (g .leftIs .are) ∙ unrouted-new (stops day) (v .taken) k (g .nextIn .0) (omega (arith, g .nextIn .1, l .stopsAre)) new
-going-doable day z before number p part at s (Nexts.Tip x) l g = tt
-going-doable day z before number p part at s Nexts.Home l g = tt
+going-doable day layout before number p part at s (Nexts.Tip x) l g = tt
+going-doable day layout before number p part at s Nexts.Home l g = tt
 
 -- the task that was before the vehicle, and the state behind it
 record Behind (day : List ℕ) (v : Truck) (next : Next) (r : State) : Type 0 where
@@ -140,10 +140,10 @@ record Behind (day : List ℕ) (v : Truck) (next : Next) (r : State) : Type 0 wh
   cargo : r .cargo ≡ doing day v task .cargo
   leftIs : LeftOf day (doing day v task .taken) (r .left)
 
-going-done : (day : List ℕ) (z : Layout) (before : List ℕ) (number : ℕ) (p part : List ℕ) (at : ℕ) (s r : State) (next : Next) → LayoutOf day z
-    → (g : Going day z before number p part at s next) → isTask next ≡ true → Done day s next r → Behind day (resting day (g .truck)) next r
+going-done : (day : List ℕ) (layout : Layout) (before : List ℕ) (number : ℕ) (p part : List ℕ) (at : ℕ) (s r : State) (next : Next) → LayoutOf day layout
+    → (g : Going day layout before number p part at s next) → isTask next ≡ true → Done day s next r → Behind day (resting day (g .truck)) next r
 unfolding cargoAfter metAfter taskWord
-going-done day z before number p part at s r (Nexts.Stop k) l g e d =
+going-done day layout before number p part at s r (Nexts.Stop k) l g e d =
     let v = resting day (g .truck) in
     let new = serve-new day v k (sym (g .nextIs)) in
     record {
@@ -154,7 +154,7 @@ going-done day z before number p part at s r (Nexts.Stop k) l g e d =
       cargo = d .1 ∙ ap (λ (c : Cargo). taking day c k) (g .cargoIs);
       leftIs = left-unmarked day (v .taken) k (s .left) (r .left) (g .leftIs) (g .nextIn .0) (omega (arith, g .nextIn .1, l .stopsAre)) new (d .2);
     }
-going-done day z before number p part at s r (Nexts.Tip x) l g e d =
+going-done day layout before number p part at s r (Nexts.Tip x) l g e d =
     let v = resting day (g .truck) in
     record {
       task = empty x;
@@ -164,7 +164,7 @@ going-done day z before number p part at s r (Nexts.Tip x) l g e d =
       cargo = d .1 ∙ ap emptied (g .cargoIs);
       leftIs = subst (LeftOf day (v .taken)) (sym (d .2)) (g .leftIs);
     }
-going-done day z before number p part at s r Nexts.Home l g e d = absurd (true≢false (sym e))
+going-done day layout before number p part at s r Nexts.Home l g e d = absurd (true≢false (sym e))
 
 -- the words of a vehicle that has rested if due
 pub rest-words : (day : List ℕ) (number : ℕ) {p part : List ℕ} {at end : ℕ} {now : List ℕ} (v : Truck) (t : Trip)
@@ -190,16 +190,16 @@ task-words number {word} tasks task w l e =
     refl
 
 -- the words, the state and the next task behind the task and the rest
-module _ {day before : List ℕ} {z : Layout} {number : ℕ} {p part : List ℕ} {at : ℕ} {s : State} {next : Next} where
-  pub going-step : {word : ℕ} (r after : State) {now : List ℕ} {end : ℕ} (following : Next) → LayoutOf day z → Going day z before number p part at s next → isTask next ≡ true
+module _ {day before : List ℕ} {layout : Layout} {number : ℕ} {p part : List ℕ} {at : ℕ} {s : State} {next : Next} where
+  pub going-step : {word : ℕ} (r after : State) {now : List ℕ} {end : ℕ} (following : Next) → LayoutOf day layout → Going day layout before number p part at s next → isTask next ≡ true
       → at + 1 < length part → word ≡ nextWord next → Done day s next r
       → end ≡ (if due day (r .trip) then at + 1 + 1 else at + 1)
       → now ≡ (if due day (r .trip) then set (set part at word) (at + 1) restWord else set part at word)
       → after .trip ≡ restIfDue day (r .trip) → after .cargo ≡ r .cargo → after .left ≡ r .left
-      → nextOf following ≡ nextBy day (after .trip) (after .cargo) (marked (after .left .words)) → NextWithin z following
-      → Going day z before number p now end after following
+      → nextOf following ≡ nextBy day (after .trip) (after .cargo) (marked (after .left .words)) → NextWithin layout following
+      → Going day layout before number p now end after following
   going-step {word} r after {now} {end} following l g e room w d n x t c m q i =
-      let b = going-done day z before number p part at s r next l g e d in
+      let b = going-done day layout before number p part at s r next l g e d in
       let v = resting day (g .truck) in
       let u = doing day v (b .task) in
       let tripIs : after .trip ≡ resting day u .trip = t ∙ ap (restIfDue day) (b .trip) ∙ sym (resting-trip day u) in
@@ -225,17 +225,17 @@ module _ {day before : List ℕ} {z : Layout} {number : ℕ} {p part : List ℕ}
       }
 
   -- the trip behind the task is small too
-  pub done-small : (r : State) → LayoutOf day z → Going day z before number p part at s next → isTask next ≡ true → Done day s next r
+  pub done-small : (r : State) → LayoutOf day layout → Going day layout before number p part at s next → isTask next ≡ true → Done day s next r
       → SmallTrip day 2147483648 (r .trip) × SmallCargo (r .cargo)
   done-small r l g e d =
-      let b = going-done day z before number p part at s r next l g e d in
+      let b = going-done day layout before number p part at s r next l g e d in
       let v = doing day (resting day (g .truck)) (b .task) in
       let reached = goesOn (g .truck) (b .task) (g .reached) (b .isNext) in
       let small = reached-small day before v reached in
       (subst (SmallTrip day 2147483648) (sym (b .trip)) (truck-small day before v small (reached-routes day before v reached) (reached-room day before v reached)), subst SmallCargo (sym (b .cargo)) (small .cargo))
 
 -- room where some vehicle is under way, and few words so far
-module _ {day : List ℕ} {z : Layout} {part : List ℕ} {at : ℕ} {s : State} {next : Next} (g : SomeGoing day z part at s next) (e : isTask next ≡ true) where
+module _ {day : List ℕ} {layout : Layout} {part : List ℕ} {at : ℕ} {s : State} {next : Next} (g : SomeGoing day layout part at s next) (e : isTask next ≡ true) where
   pub some-space : at + 1 < length part
   some-space = omega (arith, going-room (g .going) e, g .room, g .going .text .size)
 
@@ -247,8 +247,8 @@ pub word-more : {at end : ℕ} (day : List ℕ) (t : Trip) → end ≡ (if due d
 word-more day t e = elim (known (due day t)) [ inl d ↦ omega (arith, rw d at e) | inr d ↦ omega (arith, rw d at e) ]
 
 -- some vehicle is still under way behind a task
-pub still-going : {day : List ℕ} {z : Layout} {part now : List ℕ} {at end : ℕ} {s after : State} {next following : Next} → SomeGoing day z part at s next
-    → GoesOn day z part at s next now end after following → SomeGoing day z now end after following
+pub still-going : {day : List ℕ} {layout : Layout} {part now : List ℕ} {at end : ℕ} {s after : State} {next following : Next} → SomeGoing day layout part at s next
+    → GoesOn day layout part at s next now end after following → SomeGoing day layout now end after following
 still-going g on =
     record { before = g .before; number = g .number; p = g .p; going = on (g .before) (g .number) (g .p) (g .going); some = g .some; room = g .room }
 
@@ -259,7 +259,7 @@ home-none (Nexts.Tip x) e = absurd (true≢false e)
 home-none Nexts.Home e = refl
 
 -- with room for its way back
-module _ {day : List ℕ} {z : Layout} {part : List ℕ} {at : ℕ} {s : State} {next : Next} (g : SomeGoing day z part at s next) where
+module _ {day : List ℕ} {layout : Layout} {part : List ℕ} {at : ℕ} {s : State} {next : Next} (g : SomeGoing day layout part at s next) where
   end-room : at < 5 * unmet (stops day) (g .before)
   end-room =
       let v = g .going .truck in
@@ -272,10 +272,10 @@ module _ {day : List ℕ} {z : Layout} {part : List ℕ} {at : ℕ} {s : State} 
   pub end-few : at < 1280
   end-few = omega (arith, end-room, unmet-most (stops day) (g .before))
 
-pub going-end : {day before : List ℕ} {z : Layout} {number : ℕ} {p part : List ℕ} {at : ℕ} {s : State} {next : Next} → Going day z before number p part at s next
+pub going-end : {day before : List ℕ} {layout : Layout} {number : ℕ} {p part : List ℕ} {at : ℕ} {s : State} {next : Next} → Going day layout before number p part at s next
     → isTask next ≡ false → at < length part → VehicleDone day before number p (set part at backWord) (s .left) (at + 1)
 unfolding roundWords
-going-end {day} {before} {z} {number} {p} {part} {at} {s} {next} g e l =
+going-end {day} {before} {layout} {number} {p} {part} {at} {s} {next} g e l =
     let v = g .truck in
     let end : resting day v ≡ oneVehicle day before = sym (end-none day v (sym (g .nextIs) ∙ home-none next e)) ∙ reached-end day before v (g .reached) in
     record {

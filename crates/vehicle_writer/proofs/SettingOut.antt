@@ -45,11 +45,11 @@ leaving-small {day} t e = subst (SmallTrip day 2147483648) (sym e) (record { pla
 pub empty-small : (c : Cargo) → c ≡ Carried.empty → SmallCargo c
 empty-small c e = subst SmallCargo (sym e) (record { load = omega arith; kg = omega arith; visits = omega arith })
 
-pub first-is : {day : List ℕ} {z : Layout} {before : List ℕ} (start s : State) (next : Next) → LeftOf day before (start .left)
+pub first-is : {day : List ℕ} {layout : Layout} {before : List ℕ} (start s : State) (next : Next) → LeftOf day before (start .left)
     → start .trip ≡ leaving day → start .cargo ≡ Carried.empty
     → s .trip ≡ restIfDue day (start .trip) → s .cargo ≡ start .cargo → s .left ≡ start .left
-    → nextOf next ≡ nextBy day (s .trip) (s .cargo) (marked (s .left .words)) → NextWithin z next → First day z before s next
-first-is {day} {z} {before} start s next h t c t' c' l' q i =
+    → nextOf next ≡ nextBy day (s .trip) (s .cargo) (marked (s .left .words)) → NextWithin layout next → First day layout before s next
+first-is {day} {layout} {before} start s next h t c t' c' l' q i =
     let v = fresh day before in
     let tripIs : s .trip ≡ resting day v .trip = t' ∙ ap (restIfDue day) t ∙ sym (resting-trip day v) in
     let cargoIs : s .cargo ≡ resting day v .cargo = c' ∙ c ∙ sym (resting-cargo day v) in
@@ -68,7 +68,7 @@ first-is {day} {z} {before} start s next h t c t' c' l' q i =
       nextIn = i;
     }
 
-module _ {day : List ℕ} {z : Layout} {before : List ℕ} {s : State} {next : Next} (f : First day z before s next) where
+module _ {day : List ℕ} {layout : Layout} {before : List ℕ} {s : State} {next : Next} (f : First day layout before s next) where
   -- a task: there is room for it, and the vehicle takes a stop
   pub first-room : isTask next ≡ true → 2 < 5 * unmet (stops day) before
   first-room e =
@@ -93,7 +93,7 @@ module _ {day : List ℕ} {z : Layout} {before : List ℕ} {s : State} {next : N
   -- its words so far
   pub first-going : {number : ℕ} {part now : List ℕ} {at word : ℕ} (t : Trip) → 2 < length part → t ≡ leaving day → word ≡ vehicleWord number
       → at ≡ (if due day t then 1 + 1 else 1) → now ≡ (if due day t then set (set part 0 word) 1 restWord else set part 0 word)
-      → Going day z before number part now at s next
+      → Going day layout before number part now at s next
   first-going {number} {part} {now} {at} {word} t l q w n x =
       let v = fresh day before in
       let one : Wrote (vehicleWord number ∷ []) part (set part 0 word) 1 =
@@ -110,18 +110,18 @@ module _ {day : List ℕ} {z : Layout} {before : List ℕ} {s : State} {next : N
       }
 
 -- whatever stops were routed that leave these marks, under another name
-pub out-first : {day : List ℕ} {z : Layout} {m left : Marks} {s : State} {next : Next} → SetsOut day z m s next → m ≡ left → SetsOut day z left s next
-out-first {day} {z} {m} {left} {s} {next} out e = subst (λ (l : Marks). SetsOut day z l s next) e out
+pub out-first : {day : List ℕ} {layout : Layout} {m left : Marks} {s : State} {next : Next} → SetsOut day layout m s next → m ≡ left → SetsOut day layout left s next
+out-first {day} {layout} {m} {left} {s} {next} out e = subst (λ (l : Marks). SetsOut day layout l s next) e out
 
-module _ {day : List ℕ} {z : Layout} {part : List ℕ} {left : Marks} {s : State} {next : Next}
-    (out : SetsOut day z left s next) (some : SomeLeft day part left) (e : isTask next ≡ true) where
+module _ {day : List ℕ} {layout : Layout} {part : List ℕ} {left : Marks} {s : State} {next : Next}
+    (out : SetsOut day layout left s next) (some : SomeLeft day part left) (e : isTask next ≡ true) where
   -- room for the first words, and the vehicle is under way
   pub out-space : 2 < length part
   out-space = omega (arith, first-room (out (some .before) (some .leftIs)) e, some .room)
 
   pub out-going : {now : List ℕ} {at word : ℕ} (number : ℕ) (t : Trip) → t ≡ leaving day → word ≡ vehicleWord number
       → at ≡ (if due day t then 1 + 1 else 1) → now ≡ (if due day t then set (set part 0 word) 1 restWord else set part 0 word)
-      → SomeGoing day z now at s next
+      → SomeGoing day layout now at s next
   out-going number t q w n x =
       let f = out (some .before) (some .leftIs) in
       record {

@@ -24,7 +24,7 @@ pub record LeftOf (day taken : List ℕ) (m : Marks) : Type 0 where
   pub count : onesOf (m .words) ≡ unmet (stops day) taken
 
 -- a vehicle that set out when some stops were routed, has rested if due, and has its next task before it; p is what the part was
-pub record Going (day : List ℕ) (z : Layout) (before : List ℕ) (number : ℕ) (p part : List ℕ) (at : ℕ) (s : State) (next : Next) : Type 0 where
+pub record Going (day : List ℕ) (layout : Layout) (before : List ℕ) (number : ℕ) (p part : List ℕ) (at : ℕ) (s : State) (next : Next) : Type 0 where
   pub truck : Truck
   pub reached : Reached day before truck
   pub tripIs : s .trip ≡ resting day truck .trip
@@ -32,33 +32,33 @@ pub record Going (day : List ℕ) (z : Layout) (before : List ℕ) (number : ℕ
   pub leftIs : LeftOf day (resting day truck .taken) (s .left)
   pub text : Wrote (vehicleWord number ∷ map taskWord (resting day truck .tasks)) p part at
   pub nextIs : nextOf next ≡ nextTask day (resting day truck)
-  pub nextIn : NextWithin z next
+  pub nextIn : NextWithin layout next
 
 -- there is such a vehicle, and room for it: five words for each stop still to be routed, of which there is one at least
-pub record SomeGoing (day : List ℕ) (z : Layout) (part : List ℕ) (at : ℕ) (s : State) (next : Next) : Type 0 where
+pub record SomeGoing (day : List ℕ) (layout : Layout) (part : List ℕ) (at : ℕ) (s : State) (next : Next) : Type 0 where
   pub before : List ℕ
   pub number : ℕ
   pub p : List ℕ
-  pub going : Going day z before number p part at s next
+  pub going : Going day layout before number p part at s next
   pub some : 0 < unmet (stops day) before
   pub room : 5 * unmet (stops day) before ≤ length p
 
 -- each vehicle that stood so now stands so
 abbrev pub GoesOn : List ℕ → Layout → List ℕ → ℕ → State → Next → List ℕ → ℕ → State → Next → Type 0
-GoesOn day z part at s next now end after following =
-    (before : List ℕ) (number : ℕ) (p : List ℕ) → Going day z before number p part at s next → Going day z before number p now end after following
+GoesOn day layout part at s next now end after following =
+    (before : List ℕ) (number : ℕ) (p : List ℕ) → Going day layout before number p part at s next → Going day layout before number p now end after following
 
 -- the state of a fresh vehicle that has rested if due, and its first task
-pub record First (day : List ℕ) (z : Layout) (before : List ℕ) (s : State) (next : Next) : Type 0 where
+pub record First (day : List ℕ) (layout : Layout) (before : List ℕ) (s : State) (next : Next) : Type 0 where
   pub tripIs : s .trip ≡ resting day (fresh day before) .trip
   pub cargoIs : s .cargo ≡ resting day (fresh day before) .cargo
   pub leftIs : LeftOf day (resting day (fresh day before) .taken) (s .left)
   pub nextIs : nextOf next ≡ nextTask day (resting day (fresh day before))
-  pub nextIn : NextWithin z next
+  pub nextIn : NextWithin layout next
 
 -- so it is for whatever stops were routed that leave these marks
 abbrev pub SetsOut : List ℕ → Layout → Marks → State → Next → Type 0
-SetsOut day z m s next = (before : List ℕ) → LeftOf day before m → First day z before s next
+SetsOut day layout m s next = (before : List ℕ) → LeftOf day before m → First day layout before s next
 
 -- the marks are those of some stops still to be routed, with room for them
 pub record SomeLeft (day part : List ℕ) (m : Marks) : Type 0 where
@@ -73,8 +73,8 @@ pub record VehicleDone (day before : List ℕ) (number : ℕ) (p part : List ℕ
 
 -- each vehicle that stood so is now written
 abbrev pub EndsAll : List ℕ → Layout → List ℕ → ℕ → State → Next → List ℕ → Marks → ℕ → Type 0
-EndsAll day z part at s next now m words =
-    (before : List ℕ) (number : ℕ) (p : List ℕ) → Going day z before number p part at s next → VehicleDone day before number p now m words
+EndsAll day layout part at s next now m words =
+    (before : List ℕ) (number : ℕ) (p : List ℕ) → Going day layout before number p part at s next → VehicleDone day before number p now m words
 
 -- nothing is written where the vehicle takes no stop
 pub record VehicleWritten (day before : List ℕ) (number : ℕ) (p part : List ℕ) (m : Marks) (words : ℕ) : Type 0 where

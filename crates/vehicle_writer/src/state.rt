@@ -15,6 +15,9 @@ ghost use Rattle.vehicle_writer.specs.Done.{Done, Doable};
 use day::fields::Layout;
 use marks::Marks;
 use next_task::tasks::Next;
+use plan_words::BACK;
+use plan_words::STOP;
+use plan_words::TIP;
 use rules::walk::Cargo;
 use rules::walk::Trip;
 use ways_home::home::rest_if_due;
@@ -28,11 +31,11 @@ pub struct State {
 }
 
 // A fresh vehicle, at the depot when it opens.
-pub fn fresh_state(day: &[u32], z: Layout, left: Marks) -> State
-    requires { ⌜ LayoutOf (now day) z ⌝ }
+pub fn fresh_state(day: &[u32], layout: Layout, left: Marks) -> State
+    requires { ⌜ LayoutOf (now day) layout ⌝ }
     ensures { λ r. ⌜ (r .trip ≡ leaving (now (day .entry))) × (r .cargo ≡ empty) × (r .left ≡ left) ⌝ }
 {
-    let hours = day::fields::depot_window(day, z);
+    let hours = day::fields::depot_window(day, layout);
     State {
         trip: Trip {
             minute: hours.opening,
@@ -50,16 +53,16 @@ pub fn fresh_state(day: &[u32], z: Layout, left: Marks) -> State
 }
 
 // Stop k is served.
-fn serve_stop(day: &[u32], z: Layout, s: State, k: usize) -> State
-    requires { ⌜ LayoutOf (now day) z × SmallTrip (now day) 2147483648 (s .trip) × SmallCargo (s .cargo) × (0 < k) × (k ≤ z .stops) × (marked (s .left .words) k ≡ true) ⌝ }
+fn serve_stop(day: &[u32], layout: Layout, s: State, k: usize) -> State
+    requires { ⌜ LayoutOf (now day) layout × SmallTrip (now day) 2147483648 (s .trip) × SmallCargo (s .cargo) × (0 < k) × (k ≤ layout .stops) × (marked (s .left .words) k ≡ true) ⌝ }
     ensures { λ r. ⌜ (r .trip ≡ visited (now (day .entry)) (s .trip) (stopPlace (now (day .entry)) k)) × (r .cargo ≡ taking (now (day .entry)) (s .cargo) k) × Unmarked (s .left .words) k (r .left .words) ⌝ }
 {
-    let q = day::fields::stop_quantity(day, z, k);
+    let q = day::fields::stop_quantity(day, layout, k);
     let c = s.cargo;
     let t = s.trip;
     let left = s.left;
     State {
-        trip: visit_stop(day, z, t, k),
+        trip: visit_stop(day, layout, t, k),
         cargo: Cargo {
             load: c.load + q,
             kg: c.kg + q,
@@ -70,17 +73,17 @@ fn serve_stop(day: &[u32], z: Layout, s: State, k: usize) -> State
 }
 
 // The load is emptied at tip x.
-fn empty_load(day: &[u32], z: Layout, s: State, x: usize) -> State
-    requires { ⌜ LayoutOf (now day) z × SmallTrip (now day) 2147483648 (s .trip) × (0 < x) × (x ≤ z .tips) ⌝ }
+fn empty_load(day: &[u32], layout: Layout, s: State, x: usize) -> State
+    requires { ⌜ LayoutOf (now day) layout × SmallTrip (now day) 2147483648 (s .trip) × (0 < x) × (x ≤ layout .tips) ⌝ }
     ensures { λ r. ⌜ (r .trip ≡ visited (now (day .entry)) (s .trip) x) × (r .cargo ≡ emptied (s .cargo)) × (r .left ≡ s .left) ⌝ }
 {
-    let hours = day::fields::tip_window(day, z, x);
-    let minutes = day::fields::tip_service(day, z, x);
+    let hours = day::fields::tip_window(day, layout, x);
+    let minutes = day::fields::tip_service(day, layout, x);
     let c = s.cargo;
     let t = s.trip;
     let left = s.left;
     State {
-        trip: visit(day, z, t, x, hours, minutes),
+        trip: visit(day, layout, t, x, hours, minutes),
         cargo: Cargo {
             load: 0,
             kg: c.kg,
@@ -91,41 +94,41 @@ fn empty_load(day: &[u32], z: Layout, s: State, x: usize) -> State
 }
 
 // The next task is done.
-pub fn do_task(day: &[u32], z: Layout, s: State, next: Next) -> State
-    requires { ⌜ LayoutOf (now day) z × SmallTrip (now day) 2147483648 (s .trip) × SmallCargo (s .cargo) × NextWithin z next × Doable (s .left .words) next ⌝ }
+pub fn do_task(day: &[u32], layout: Layout, s: State, next: Next) -> State
+    requires { ⌜ LayoutOf (now day) layout × SmallTrip (now day) 2147483648 (s .trip) × SmallCargo (s .cargo) × NextWithin layout next × Doable (s .left .words) next ⌝ }
     ensures { λ r. ⌜ Done (now (day .entry)) s next r ⌝ }
 {
     match next {
-        Next::Stop(k) => serve_stop(day, z, s, k),
-        Next::Tip(x) => empty_load(day, z, s, x),
+        Next::Stop(k) => serve_stop(day, layout, s, k),
+        Next::Tip(x) => empty_load(day, layout, s, x),
         Next::Home => s,
     }
 }
 
 // A rest is taken if due.
-pub fn rest_state(day: &[u32], z: Layout, s: State) -> State
-    requires { ⌜ LayoutOf (now day) z × SmallTrip (now day) 4294901760 (s .trip) ⌝ }
+pub fn rest_state(day: &[u32], layout: Layout, s: State) -> State
+    requires { ⌜ LayoutOf (now day) layout × SmallTrip (now day) 4294901760 (s .trip) ⌝ }
     ensures { λ r. ⌜ (r .trip ≡ restIfDue (now (day .entry)) (s .trip)) × (r .cargo ≡ s .cargo) × (r .left ≡ s .left) ⌝ }
 {
     let t = s.trip;
     let c = s.cargo;
     let left = s.left;
     State {
-        trip: rest_if_due(day, z, t),
+        trip: rest_if_due(day, layout, t),
         cargo: c,
         left,
     }
 }
 
 // The word of a task: B or C; E where there is none.
-pub fn word_of(z: Layout, next: Next) -> u32
-    requires { ⌜ NextWithin z next × (z .stops < 256) × (z .tips < 256) ⌝ }
+pub fn word_of(layout: Layout, next: Next) -> u32
+    requires { ⌜ NextWithin layout next × (layout .stops < 256) × (layout .tips < 256) ⌝ }
     ensures { λ r. ⌜ r ≡ nextWord next ⌝ }
 {
     match next {
-        Next::Stop(k) => 2952790016 + k as u32,
-        Next::Tip(x) => 3221225472 + x as u32,
-        Next::Home => 3758096384,
+        Next::Stop(k) => STOP + k as u32,
+        Next::Tip(x) => TIP + x as u32,
+        Next::Home => BACK,
     }
 }
 

@@ -7,8 +7,7 @@ use mathlib.Core.Option.{none, some}
 use native.Mathlib.Omega.{arith}
 use lib.ListN.{length, length-append, length-map, set}
 use borrow.Author.Tests.{ne-eqb}
-use Rattle.rules.specs.Fields.{stops, tips, stopPlace, quantity}
-use Rattle.rules.specs.Accepted.{IsAccepted}
+use Rattle.rules.specs.Fields.{stops, tips, stopPlace, quantity, IsAccepted}
 use Rattle.rules.specs.PlanWords.{vehicleWord, stopWord, tipWord, restWord}
 use Rattle.rules.specs.Plan.{Task, serve, empty, lunch, Round, taskWord, stopsOn}
 use Rattle.rules.specs.Cargo.{cargoAfter}
@@ -22,7 +21,7 @@ use Rattle.laws.specs.Buffer.{Wrote}
 use Rattle.laws.proofs.Buffer.{wrote-put, wrote-same}
 use Rattle.day.proofs.Ranges.{accepted-ranges}
 use Rattle.greedy_laws.specs.States.{SmallTrip}
-use Rattle.greedy_laws.proofs.Decided.{bit-most}
+use Rattle.laws.proofs.Decided.{bit-most}
 use Rattle.greedy_laws.proofs.GreedyRoom.{paid-rest, paid-serve, paid-empty, tasks-counted}
 use Rattle.greedy_laws.proofs.VehicleStops.{stops-append}
 use Rattle.walks.specs.Cabs.{Modest, Riding, Start, Standing, Stands, failed, onRoad, SomeStanding, Drives}

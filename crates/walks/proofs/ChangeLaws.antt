@@ -12,17 +12,17 @@ use Rattle.rules.specs.Fields.{stops}
 use Rattle.rules.specs.PlanWords.{stopWord, tipWord, restWord}
 use Rattle.rules.specs.Plan.{Task, serve, empty, lunch, taskWord, Known}
 use Rattle.rules.specs.Edits.{Edit, before, after, swap, remove, replace, changeStop, changeTip, change}
-use Rattle.greedy_laws.proofs.Decided.{known}
+use Rattle.laws.proofs.Decided.{known}
 use Rattle.walks.specs.Rewalks.{Means, nothing, aStop, aTip, Becomes}
 
 -- which tip gives way
-pub tip-at : (w t at other : ℕ) → t ≡ at → 3221225472 ≤ w → other ≡ (if eqb t at && leb 3221225472 w then other else w)
-tip-at w t at other e l = rw (eq-eqb t at e, le-leb 3221225472 w l) refl
+pub tip-at : (w t at other : ℕ) → t ≡ at → (tipWord 0) ≤ w → other ≡ (if eqb t at && leb (tipWord 0) w then other else w)
+tip-at w t at other e l = rw (eq-eqb t at e, le-leb (tipWord 0) w l) refl
 
-pub tip-kept : (w t at other : ℕ) → t ≡ at → w < 3221225472 → w ≡ (if eqb t at && leb 3221225472 w then other else w)
-tip-kept w t at other e l = rw (eq-eqb t at e, lt-leb 3221225472 w l) refl
+pub tip-kept : (w t at other : ℕ) → t ≡ at → w < tipWord 0 → w ≡ (if eqb t at && leb (tipWord 0) w then other else w)
+tip-kept w t at other e l = rw (eq-eqb t at e, lt-leb (tipWord 0) w l) refl
 
-pub tip-elsewhere : (w t at other : ℕ) → (t ≡ at → ⊥) → w ≡ (if eqb t at && leb 3221225472 w then other else w)
+pub tip-elsewhere : (w t at other : ℕ) → (t ≡ at → ⊥) → w ≡ (if eqb t at && leb (tipWord 0) w then other else w)
 tip-elsewhere w t at other n = rw (ne-eqb t at n) refl
 
 -- words are equal where their numbers are
@@ -67,8 +67,8 @@ module _ (day : List ℕ) (e : Edit) (i j one two t w : ℕ) {first second : ℕ
   moved-stop : (k : ℕ) → w ≡ stopWord k → Known day (serve k) → Becomes day e t (serve k) first second
   unfolding change
   moved-stop k q n =
-      let h : eqb w (stopWord j) ≡ eqb k j = rw q (same-number 2952790016 k j) in
-      let l : eqb w (stopWord i) ≡ eqb k i = rw q (same-number 2952790016 k i) in
+      let h : eqb w (stopWord j) ≡ eqb k j = rw q (same-number (stopWord 0) k j) in
+      let l : eqb w (stopWord i) ≡ eqb k i = rw q (same-number (stopWord 0) k i) in
       elim (known (eqb k j)) [
         | inl a ↦ drops (f ∙ rw (h, a) refl) (g ∙ rw (h, a) refl) (moves k ∙ rw a refl)
         | inr a ↦ elim (known (eqb k i)) [
@@ -107,8 +107,8 @@ module _ (day : List ℕ) (i j t w : ℕ) {first second : ℕ} (iIs : Known day 
       let l : eqb w (stopWord i) ≡ false = rw q (tip-no-stop day x i iIs) in
       stays (subst (λ (y : ℕ). Means day y (empty x ∷ [])) (sym (f ∙ rw (l, h) q)) (aTip x n)) g refl
   swapped (serve k) r q n =
-      let h : eqb w (stopWord j) ≡ eqb k j = rw q (same-number 2952790016 k j) in
-      let l : eqb w (stopWord i) ≡ eqb k i = rw q (same-number 2952790016 k i) in
+      let h : eqb w (stopWord j) ≡ eqb k j = rw q (same-number (stopWord 0) k j) in
+      let l : eqb w (stopWord i) ≡ eqb k i = rw q (same-number (stopWord 0) k i) in
       elim (known (eqb k i)) [
         | inl a ↦ turns (serve j) (subst (λ (x : ℕ). Means day x (serve j ∷ [])) (sym (f ∙ rw (l, a) refl)) (aStop j jIs)) g (rw a refl)
         | inr a ↦ elim (known (eqb k j)) [
@@ -118,16 +118,16 @@ module _ (day : List ℕ) (i j t w : ℕ) {first second : ℕ} (iIs : Known day 
       ]
 
 -- a tip removed or replaced
-module _ (day : List ℕ) (at t w other : ℕ) {first second : ℕ} (f : first ≡ (if eqb t at && leb 3221225472 w then other else w)) (g : second ≡ 0) where
+module _ (day : List ℕ) (at t w other : ℕ) {first second : ℕ} (f : first ≡ (if eqb t at && leb (tipWord 0) w then other else w)) (g : second ≡ 0) where
   below : (k : ℕ) → w ≡ stopWord k → Known day (serve k) → first ≡ w
   unfolding Known
   below k q n = elim (known (eqb t at)) [
-    | inl a ↦ let h : leb 3221225472 w ≡ false = lt-leb 3221225472 w (omega (arith, q, n .1)) in f ∙ rw (a, h) refl
+    | inl a ↦ let h : leb (tipWord 0) w ≡ false = lt-leb (tipWord 0) w (omega (arith, q, n .1)) in f ∙ rw (a, h) refl
     | inr a ↦ f ∙ rw a refl
   ]
 
   above : (x : ℕ) → w ≡ tipWord x → first ≡ (if eqb t at then other else w)
-  above x q = let h : leb 3221225472 w ≡ true = le-leb 3221225472 w (omega (arith, q)) in elim (known (eqb t at)) [ inl a ↦ f ∙ rw (a, h) refl | inr a ↦ f ∙ rw a refl ]
+  above x q = let h : leb (tipWord 0) w ≡ true = le-leb (tipWord 0) w (omega (arith, q)) in elim (known (eqb t at)) [ inl a ↦ f ∙ rw (a, h) refl | inr a ↦ f ∙ rw a refl ]
 
   pub removed : other ≡ 0 → (task : Task) → (w ≡ restWord → ⊥) → w ≡ taskWord task → Known day task → Becomes day (remove at) t task first second
   unfolding taskWord change changeStop changeTip

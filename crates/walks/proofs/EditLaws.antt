@@ -13,7 +13,7 @@ use Rattle.rules.specs.Lists.{Every, times}
 use Rattle.rules.specs.Plan.{Task, serve, empty, lunch, Round, stopsOn, Known}
 use Rattle.rules.specs.Edits.{Edit, before, after, swap, remove, replace, changeStop, changeTip, change, changed}
 use Rattle.laws.proofs.Fresh.{every-append}
-use Rattle.greedy_laws.proofs.Decided.{known}
+use Rattle.laws.proofs.Decided.{known}
 use Rattle.greedy_laws.proofs.GreedyForm.{times-append}
 use Rattle.greedy_laws.proofs.VehicleStops.{stops-append}
 

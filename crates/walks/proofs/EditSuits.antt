@@ -14,7 +14,7 @@ use Rattle.rules.specs.Tests.{if_then_else_}
 use Rattle.rules.specs.Lists.{Every, times}
 use Rattle.rules.specs.Plan.{serve, empty, Round, stopsOn, Known}
 use Rattle.rules.specs.Edits.{Edit, before, after, swap, remove, replace, changeStop}
-use Rattle.greedy_laws.proofs.Decided.{known}
+use Rattle.laws.proofs.Decided.{known}
 use Rattle.walks.proofs.EditLaws.{renamed, Named, Suits, times-all, length-all, changed-known, move-same, move-count}
 
 module _ (day : List ℕ) (tasks : Round) (h : Every (Known day) tasks) where

@@ -36,30 +36,30 @@ means-none (aStop k n) z = absurd (omega (arith, z))
 means-none (aTip x n) z = absurd (omega (arith, z))
 
 pub record StopWord (day : List ℕ) (w : ℕ) (tasks : Round) : Type 0 where
-  pub least : 2952790016 ≤ w
-  pub is : tasks ≡ serve (w - 2952790016) ∷ []
-  pub first : 0 < w - 2952790016
-  pub within : w - 2952790016 ≤ stops day
+  pub least : (stopWord 0) ≤ w
+  pub is : tasks ≡ serve (w - stopWord 0) ∷ []
+  pub first : 0 < w - stopWord 0
+  pub within : w - stopWord 0 ≤ stops day
 
-pub means-stop : {day : List ℕ} {w : ℕ} {tasks : Round} → Means day w tasks → (w ≡ 0 → ⊥) → w < 3221225472 → StopWord day w tasks
+pub means-stop : {day : List ℕ} {w : ℕ} {tasks : Round} → Means day w tasks → (w ≡ 0 → ⊥) → w < tipWord 0 → StopWord day w tasks
 unfolding Known
 means-stop nothing z l = absurd (z refl)
 means-stop (aStop k n) z l =
-    let e : stopWord k - 2952790016 ≡ k = omega arith in
+    let e : stopWord k - stopWord 0 ≡ k = omega arith in
     record { least = omega arith; is = rw e refl; first = rw e (omega (arith, n .0)); within = rw e (n .1) }
 means-stop (aTip x n) z l = absurd (omega (arith, l))
 
 pub record TipWord (day : List ℕ) (w : ℕ) (tasks : Round) : Type 0 where
-  pub is : tasks ≡ empty (w - 3221225472) ∷ []
-  pub first : 0 < w - 3221225472
-  pub within : w - 3221225472 ≤ tips day
+  pub is : tasks ≡ empty (w - tipWord 0) ∷ []
+  pub first : 0 < w - tipWord 0
+  pub within : w - tipWord 0 ≤ tips day
 
-pub means-tip : {day : List ℕ} {w : ℕ} {tasks : Round} → Means day w tasks → (w ≡ 0 → ⊥) → 3221225472 ≤ w → TipWord day w tasks
+pub means-tip : {day : List ℕ} {w : ℕ} {tasks : Round} → Means day w tasks → (w ≡ 0 → ⊥) → (tipWord 0) ≤ w → TipWord day w tasks
 unfolding Known
 means-tip nothing z l = absurd (z refl)
 means-tip (aStop k n) z l = absurd (omega (arith, l, n .1))
 means-tip (aTip x n) z l =
-    let e : tipWord x - 3221225472 ≡ x = omega arith in
+    let e : tipWord x - tipWord 0 ≡ x = omega arith in
     record { is = rw e refl; first = rw e (omega (arith, n .0)); within = rw e (n .1) }
 
 -- no word, and a trial that has failed before
@@ -93,8 +93,8 @@ stop-standing {tasks = tasks} t s =
     }
 
 -- a stop and a tip, behind a rest where one is due
-pub word-stop : {day part mid now : List ℕ} {c e r : Cab} {w : ℕ} → (w ≡ 0 → ⊥) → c .stuck ≡ false → Drives day 0 part c (λ v. some (resting day v)) mid e → w < 3221225472
-    → Drives day 1 mid e (λ v. walkTask day v (serve (w - 2952790016))) now r → WalksWord day part c w now r
+pub word-stop : {day part mid now : List ℕ} {c e r : Cab} {w : ℕ} → (w ≡ 0 → ⊥) → c .stuck ≡ false → Drives day 0 part c (λ v. some (resting day v)) mid e → w < tipWord 0
+    → Drives day 1 mid e (λ v. walkTask day v (serve (w - stopWord 0))) now r → WalksWord day part c w now r
 unfolding walkOn walkNext
 word-stop z g f l h start most more p o tasks m s =
     let t = means-stop m z l in
@@ -102,8 +102,8 @@ word-stop z g f l h start most more p o tasks m s =
     let u = on-road (f start most (1 + more) p (v .v) (standing-fewer (omega (arith, one-stop (t .is))) (v .standing))) in
     rw (t .is, v .is) (h start most more p (resting _ (v .v)) u)
 
-pub word-tip : {day part mid now : List ℕ} {c e r : Cab} {w : ℕ} → (w ≡ 0 → ⊥) → c .stuck ≡ false → Drives day 0 part c (λ v. some (resting day v)) mid e → 3221225472 ≤ w
-    → Drives day 0 mid e (λ v. walkTask day v (empty (w - 3221225472))) now r → WalksWord day part c w now r
+pub word-tip : {day part mid now : List ℕ} {c e r : Cab} {w : ℕ} → (w ≡ 0 → ⊥) → c .stuck ≡ false → Drives day 0 part c (λ v. some (resting day v)) mid e → (tipWord 0) ≤ w
+    → Drives day 0 mid e (λ v. walkTask day v (empty (w - tipWord 0))) now r → WalksWord day part c w now r
 unfolding walkOn walkNext
 word-tip z g f l h start most more p o tasks m s =
     let t = means-tip m z l in

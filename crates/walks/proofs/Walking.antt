@@ -20,7 +20,7 @@ use Rattle.rules.specs.Build.{Truck, fresh, doing, resting}
 use Rattle.rules.specs.WalkedAgain.{inserting, emptiedFirst, exceeds, servingThen, walkTask, walkNext, walkOn, walkHome, doneBy, walkedAgain}
 use Rattle.laws.proofs.Fresh.{every-append}
 use Rattle.laws.proofs.Tests.{both-true, only-second}
-use Rattle.greedy_laws.proofs.Decided.{known, known-option}
+use Rattle.laws.proofs.Decided.{known, known-option}
 use Rattle.greedy_laws.proofs.Driving.{resting-keeps}
 use Rattle.greedy_laws.specs.Rooms.{Paid, Room}
 use Rattle.greedy_laws.proofs.GreedyRoom.{paid-fresh, paid-rest, paid-serve, paid-empty, paid-room}

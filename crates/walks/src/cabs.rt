@@ -4,15 +4,17 @@ ghost use mathlib.Core.Bool.{_&&_};
 ghost use mathlib.Core.Option.{some};
 ghost use Prim.Native.Nat.{_+_, _<_, _≤_};
 ghost use lib.Dec.{ltb};
-ghost use Rattle.rules.specs.Fields.{stopPlace, loadLimit, quantity};
-ghost use Rattle.rules.specs.Accepted.{IsAccepted};
+ghost use Rattle.rules.specs.Fields.{loadLimit, quantity, IsAccepted};
 ghost use Rattle.rules.specs.Plan.{serve, empty};
 ghost use Rattle.rules.specs.Tips.{nearestTip};
 ghost use Rattle.rules.specs.Build.{doing, resting};
-ghost use Rattle.rules.specs.WalkedAgain.{inserting, exceeds, walkTask, walkHome};
+ghost use Rattle.rules.specs.WalkedAgain.{inserting, walkTask, walkHome};
 ghost use Rattle.day.specs.Layout.{LayoutOf};
 ghost use Rattle.walks.specs.Cabs.{SomeStanding, Drives};
 use day::fields::Layout;
+use plan_words::REST;
+use plan_words::STOP;
+use plan_words::TIP;
 use rules::walk::Trip;
 use ways_home::home::is_due;
 use ways_home::home::rest_if_due;
@@ -29,16 +31,16 @@ pub struct Cab {
 }
 
 // A rest is taken, and written, where one is due.
-pub fn rest_cab(day: &[u32], z: Layout, c: Cab, part: &mut [u32]) -> Cab
-    requires { ⌜ LayoutOf (now day) z × IsAccepted (now day) × SomeStanding (now day) 0 (now part) c ⌝ }
+pub fn rest_cab(day: &[u32], layout: Layout, c: Cab, part: &mut [u32]) -> Cab
+    requires { ⌜ LayoutOf (now day) layout × IsAccepted (now day) × SomeStanding (now day) 0 (now part) c ⌝ }
     ensures { λ r. ⌜ Drives (now (day .entry)) 0 (now (part .entry)) c (λ v. some (resting (now (day .entry)) v)) (now (part .exit)) r ⌝ }
 {
     let t = c.trip;
-    if is_due(day, z, t) {
+    if is_due(day, layout, t) {
         let at = c.at;
-        part[at] = 3489660928;
+        part[at] = REST;
         return Cab {
-            trip: rest_if_due(day, z, t),
+            trip: rest_if_due(day, layout, t),
             load: c.load,
             at: at + 1,
             stuck: false,
@@ -48,17 +50,17 @@ pub fn rest_cab(day: &[u32], z: Layout, c: Cab, part: &mut [u32]) -> Cab
 }
 
 // The load is emptied at tip x.
-fn empty_cab(day: &[u32], z: Layout, c: Cab, x: usize, part: &mut [u32]) -> Cab
-    requires { ⌜ LayoutOf (now day) z × IsAccepted (now day) × SomeStanding (now day) 0 (now part) c × (0 < c .load) × (0 < x) × (x ≤ z .tips) ⌝ }
+fn empty_cab(day: &[u32], layout: Layout, c: Cab, x: usize, part: &mut [u32]) -> Cab
+    requires { ⌜ LayoutOf (now day) layout × IsAccepted (now day) × SomeStanding (now day) 0 (now part) c × (0 < c .load) × (0 < x) × (x ≤ layout .tips) ⌝ }
     ensures { λ r. ⌜ Drives (now (day .entry)) 0 (now (part .entry)) c (λ v. some (doing (now (day .entry)) v (empty x))) (now (part .exit)) r ⌝ }
 {
     let t = c.trip;
     let at = c.at;
-    let hours = day::fields::tip_window(day, z, x);
-    let minutes = day::fields::tip_service(day, z, x);
-    part[at] = 3221225472 + x as u32;
+    let hours = day::fields::tip_window(day, layout, x);
+    let minutes = day::fields::tip_service(day, layout, x);
+    part[at] = TIP + x as u32;
     Cab {
-        trip: visit(day, z, t, x, hours, minutes),
+        trip: visit(day, layout, t, x, hours, minutes),
         load: 0,
         at: at + 1,
         stuck: false,
@@ -66,28 +68,28 @@ fn empty_cab(day: &[u32], z: Layout, c: Cab, x: usize, part: &mut [u32]) -> Cab
 }
 
 // Stop k is served.
-fn serve_cab(day: &[u32], z: Layout, c: Cab, k: usize, part: &mut [u32]) -> Cab
-    requires { ⌜ LayoutOf (now day) z × IsAccepted (now day) × SomeStanding (now day) 1 (now part) c × (0 < k) × (k ≤ z .stops) ⌝ }
+fn serve_cab(day: &[u32], layout: Layout, c: Cab, k: usize, part: &mut [u32]) -> Cab
+    requires { ⌜ LayoutOf (now day) layout × IsAccepted (now day) × SomeStanding (now day) 1 (now part) c × (0 < k) × (k ≤ layout .stops) ⌝ }
     ensures { λ r. ⌜ Drives (now (day .entry)) 1 (now (part .entry)) c (λ v. some (doing (now (day .entry)) v (serve k))) (now (part .exit)) r ⌝ }
 {
     let t = c.trip;
     let at = c.at;
-    part[at] = 2952790016 + k as u32;
+    part[at] = STOP + k as u32;
     Cab {
-        trip: visit_stop(day, z, t, k),
-        load: c.load + day::fields::stop_quantity(day, z, k),
+        trip: visit_stop(day, layout, t, k),
+        load: c.load + day::fields::stop_quantity(day, layout, k),
         at: at + 1,
         stuck: false,
     }
 }
 
 // The nearest open tip is inserted, and a rest behind it where one is due; without an open tip the trial has failed.
-fn insert_tip(day: &[u32], z: Layout, c: Cab, part: &mut [u32]) -> Cab
-    requires { ⌜ LayoutOf (now day) z × IsAccepted (now day) × SomeStanding (now day) 0 (now part) c × (0 < c .load) ⌝ }
+fn insert_tip(day: &[u32], layout: Layout, c: Cab, part: &mut [u32]) -> Cab
+    requires { ⌜ LayoutOf (now day) layout × IsAccepted (now day) × SomeStanding (now day) 0 (now part) c × (0 < c .load) ⌝ }
     ensures { λ r. ⌜ Drives (now (day .entry)) 0 (now (part .entry)) c (λ v. inserting (now (day .entry)) v (nearestTip (now (day .entry)) (v .trip .place) (v .trip .minute))) (now (part .exit)) r ⌝ }
 {
     let t = c.trip;
-    let x = nearest_tip(day, z, t.place, t.minute);
+    let x = nearest_tip(day, layout, t.place, t.minute);
     if x == 0 {
         return Cab {
             trip: t,
@@ -96,56 +98,56 @@ fn insert_tip(day: &[u32], z: Layout, c: Cab, part: &mut [u32]) -> Cab
             stuck: true,
         };
     }
-    let e = empty_cab(day, z, c, x, part);
-    rest_cab(day, z, e, part)
+    let e = empty_cab(day, layout, c, x, part);
+    rest_cab(day, layout, e, part)
 }
 
 // Whether a stop of this quantity would exceed Q, with a load already on.
-fn is_full(day: &[u32], z: Layout, load: u32, q: u32) -> bool
-    requires { ⌜ LayoutOf (now day) z × (load < 134217728) × (q < 134217728) ⌝ }
+fn is_full(day: &[u32], layout: Layout, load: u32, q: u32) -> bool
+    requires { ⌜ LayoutOf (now day) layout × (load < 134217728) × (q < 134217728) ⌝ }
     ensures { λ r. ⌜ r ≡ (ltb 0 load && ltb (loadLimit (now (day .entry))) (load + q)) ⌝ }
 {
     if load == 0 {
         return false;
     }
-    day::fields::load_limit(day, z) < load + q
+    day::fields::load_limit(day, layout) < load + q
 }
 
 // Stop k is served, behind a tip where it would exceed Q.
-pub fn walk_stop(day: &[u32], z: Layout, c: Cab, k: usize, part: &mut [u32]) -> Cab
-    requires { ⌜ LayoutOf (now day) z × IsAccepted (now day) × SomeStanding (now day) 1 (now part) c × (0 < k) × (k ≤ z .stops) ⌝ }
+pub fn walk_stop(day: &[u32], layout: Layout, c: Cab, k: usize, part: &mut [u32]) -> Cab
+    requires { ⌜ LayoutOf (now day) layout × IsAccepted (now day) × SomeStanding (now day) 1 (now part) c × (0 < k) × (k ≤ layout .stops) ⌝ }
     ensures { λ r. ⌜ Drives (now (day .entry)) 1 (now (part .entry)) c (λ v. walkTask (now (day .entry)) v (serve k)) (now (part .exit)) r ⌝ }
 {
-    let q = day::fields::stop_quantity(day, z, k);
-    if is_full(day, z, c.load, q) {
-        let e = insert_tip(day, z, c, part);
+    let q = day::fields::stop_quantity(day, layout, k);
+    if is_full(day, layout, c.load, q) {
+        let e = insert_tip(day, layout, c, part);
         if e.stuck {
             return e;
         }
-        return serve_cab(day, z, e, k, part);
+        return serve_cab(day, layout, e, k, part);
     }
-    serve_cab(day, z, c, k, part)
+    serve_cab(day, layout, c, k, part)
 }
 
 // The load is emptied at tip x; without a load the tip is dropped.
-pub fn walk_tip(day: &[u32], z: Layout, c: Cab, x: usize, part: &mut [u32]) -> Cab
-    requires { ⌜ LayoutOf (now day) z × IsAccepted (now day) × SomeStanding (now day) 0 (now part) c × (0 < x) × (x ≤ z .tips) ⌝ }
+pub fn walk_tip(day: &[u32], layout: Layout, c: Cab, x: usize, part: &mut [u32]) -> Cab
+    requires { ⌜ LayoutOf (now day) layout × IsAccepted (now day) × SomeStanding (now day) 0 (now part) c × (0 < x) × (x ≤ layout .tips) ⌝ }
     ensures { λ r. ⌜ Drives (now (day .entry)) 0 (now (part .entry)) c (λ v. walkTask (now (day .entry)) v (empty x)) (now (part .exit)) r ⌝ }
 {
     if c.load == 0 {
         return c;
     }
-    empty_cab(day, z, c, x, part)
+    empty_cab(day, layout, c, x, part)
 }
 
 // Before the vehicle comes back: a rest where one is due, and a tip where there is a load.
-pub fn walk_home(day: &[u32], z: Layout, c: Cab, part: &mut [u32]) -> Cab
-    requires { ⌜ LayoutOf (now day) z × IsAccepted (now day) × SomeStanding (now day) 0 (now part) c ⌝ }
+pub fn walk_home(day: &[u32], layout: Layout, c: Cab, part: &mut [u32]) -> Cab
+    requires { ⌜ LayoutOf (now day) layout × IsAccepted (now day) × SomeStanding (now day) 0 (now part) c ⌝ }
     ensures { λ r. ⌜ Drives (now (day .entry)) 0 (now (part .entry)) c (λ v. walkHome (now (day .entry)) (some v)) (now (part .exit)) r ⌝ }
 {
-    let rested = rest_cab(day, z, c, part);
+    let rested = rest_cab(day, layout, c, part);
     if rested.load == 0 {
         return rested;
     }
-    insert_tip(day, z, rested, part)
+    insert_tip(day, layout, rested, part)
 }

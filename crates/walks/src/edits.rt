@@ -4,9 +4,13 @@ ghost use mathlib.Core.Bool.{_&&_};
 ghost use lib.Dec.{eqb, leb};
 ghost use Prim.Native.Nat.{ℕ};
 ghost use mathlib.Core.List.{List};
+ghost use Rattle.rules.specs.PlanWords.{tipWord};
 ghost use Rattle.rules.specs.Tests.{if_then_else_};
 ghost use Rattle.rules.specs.Plan.{Task, taskWord, Known};
 ghost use Rattle.walks.specs.Rewalks.{editOf, EditKnown, EditSmall, Becomes};
+use plan_words::REST;
+use plan_words::STOP;
+use plan_words::TIP;
 
 // A stop moved before or behind another, two interchanged, a tip removed or replaced. A tip is named by its number among the vehicle's tasks.
 pub enum Edit {
@@ -66,10 +70,10 @@ fn swap_word(w: u32, stop: u32, other: u32) -> Change
 
 // The tip that is task number `at` gives way to another word, or to none.
 fn tip_word(w: u32, t: usize, at: usize, other: u32) -> Change
-    ensures { λ r. ⌜ (r .first ≡ (if eqb t at && leb 3221225472 w then other else w)) × (r .second ≡ 0) ⌝ }
+    ensures { λ r. ⌜ (r .first ≡ (if eqb t at && leb (tipWord 0) w then other else w)) × (r .second ≡ 0) ⌝ }
 {
     if t == at {
-        if 3221225472 <= w {
+        if TIP <= w {
             return Change {
                 first: other,
                 second: 0,
@@ -91,7 +95,7 @@ pub fn change_word(e: Edit, t: usize, w: u32) -> Change
     requires { ⌜ EditSmall e ⌝ }
     ensures { λ r. ⌜ ((day : List ℕ) (task : Task) → EditKnown day e → w ≡ taskWord task → Known day task → Becomes day (editOf e) t task (r .first) (r .second)) ⌝ }
 {
-    if w == 3489660928 {
+    if w == REST {
         return Change {
             first: 0,
             second: 0,
@@ -99,17 +103,17 @@ pub fn change_word(e: Edit, t: usize, w: u32) -> Change
     }
     match e {
         Edit::Before { stop, moved } => {
-            let i = 2952790016 + stop;
-            let j = 2952790016 + moved;
+            let i = STOP + stop;
+            let j = STOP + moved;
             move_word(w, j, i, j, i)
         }
         Edit::After { stop, moved } => {
-            let i = 2952790016 + stop;
-            let j = 2952790016 + moved;
+            let i = STOP + stop;
+            let j = STOP + moved;
             move_word(w, j, i, i, j)
         }
-        Edit::Swap { stop, other } => swap_word(w, 2952790016 + stop, 2952790016 + other),
+        Edit::Swap { stop, other } => swap_word(w, STOP + stop, STOP + other),
         Edit::Remove { at } => tip_word(w, t, at, 0),
-        Edit::Replace { at, tip } => tip_word(w, t, at, 3221225472 + tip),
+        Edit::Replace { at, tip } => tip_word(w, t, at, TIP + tip),
     }
 }

@@ -2,7 +2,7 @@
 ghost use mathlib.Core.Path.{_≡_};
 ghost use mathlib.Core.Bool.{true, false};
 ghost use Prim.Native.Nat.{_+_, _<_, _≤_};
-ghost use Rattle.rules.specs.Accepted.{IsAccepted};
+ghost use Rattle.rules.specs.Fields.{IsAccepted};
 ghost use Rattle.rules.specs.Plan.{Round};
 ghost use Rattle.rules.specs.Trip.{leaving};
 ghost use Rattle.rules.specs.Edits.{changed};
@@ -16,11 +16,15 @@ use crate::cabs::walk_tip;
 use crate::edits::Edit;
 use crate::edits::change_word;
 use day::fields::Layout;
+use plan_words::BACK;
+use plan_words::STOP;
+use plan_words::TIP;
+use plan_words::VEHICLE;
 use rules::walk::Trip;
 
 // One word is walked: a stop or a tip, or none.
-pub fn walk_word(day: &[u32], z: Layout, c: Cab, w: u32, part: &mut [u32]) -> Cab
-    requires { ⌜ LayoutOf (now day) z × IsAccepted (now day) × SomeWord (now day) (now part) c w ⌝ }
+pub fn walk_word(day: &[u32], layout: Layout, c: Cab, w: u32, part: &mut [u32]) -> Cab
+    requires { ⌜ LayoutOf (now day) layout × IsAccepted (now day) × SomeWord (now day) (now part) c w ⌝ }
     ensures { λ r. ⌜ WalksWord (now (day .entry)) (now (part .entry)) c w (now (part .exit)) r ⌝ }
 {
     if w == 0 {
@@ -29,11 +33,11 @@ pub fn walk_word(day: &[u32], z: Layout, c: Cab, w: u32, part: &mut [u32]) -> Ca
     if c.stuck {
         return c;
     }
-    let rested = rest_cab(day, z, c, part);
-    if w < 3221225472 {
-        return walk_stop(day, z, rested, (w - 2952790016) as usize, part);
+    let rested = rest_cab(day, layout, c, part);
+    if w < TIP {
+        return walk_stop(day, layout, rested, (w - STOP) as usize, part);
     }
-    walk_tip(day, z, rested, (w - 3221225472) as usize, part)
+    walk_tip(day, layout, rested, (w - TIP) as usize, part)
 }
 
 // The word that is walked next, the one that waits behind it, 0 for none, and the task that is looked at then.
@@ -72,11 +76,11 @@ pub fn next_turn(e: Edit, t: usize, w: u32, waiting: u32) -> Turn
 }
 
 // An empty vehicle at the depot; its A word is written.
-pub fn fresh_cab(day: &[u32], z: Layout) -> Cab
-    requires { ⌜ LayoutOf (now day) z ⌝ }
+pub fn fresh_cab(day: &[u32], layout: Layout) -> Cab
+    requires { ⌜ LayoutOf (now day) layout ⌝ }
     ensures { λ r. ⌜ (r .stuck ≡ false) × (r .trip ≡ leaving (now (day .entry))) × (r .load ≡ 0) × (r .at ≡ 1) ⌝ }
 {
-    let hours = day::fields::depot_window(day, z);
+    let hours = day::fields::depot_window(day, layout);
     Cab {
         trip: Trip {
             minute: hours.opening,
@@ -91,17 +95,24 @@ pub fn fresh_cab(day: &[u32], z: Layout) -> Cab
 }
 
 // The tasks of a vehicle, changed and walked again behind its A word.
-fn walk_tasks(day: &[u32], z: Layout, e: Edit, number: u32, tasks: &[u32], part: &mut [u32]) -> Cab
-    requires { ⌜ LayoutOf (now day) z × IsAccepted (now day) × EditSmall e × EditKnown (now day) e × (number < 256) × SomeWalkable (now day) (editOf e) (now tasks) (now part) ⌝ }
+fn walk_tasks(
+    day: &[u32],
+    layout: Layout,
+    e: Edit,
+    number: u32,
+    tasks: &[u32],
+    part: &mut [u32],
+) -> Cab
+    requires { ⌜ LayoutOf (now day) layout × IsAccepted (now day) × EditSmall e × EditKnown (now day) e × (number < 256) × SomeWalkable (now day) (editOf e) (now tasks) (now part) ⌝ }
     ensures { λ r. ⌜ WalksAll (now (day .entry)) (editOf e) number (now (tasks .entry)) (now (part .entry)) (now (part .exit)) r ⌝ }
 {
-    part[0] = 2684354560 + number;
-    let mut c = fresh_cab(day, z);
+    part[0] = VEHICLE + number;
+    let mut c = fresh_cab(day, layout);
     let mut waiting: u32 = 0;
     let mut i: usize = 0;
     while i < tasks.len() {
         let turn = next_turn(e, i, tasks[i], waiting);
-        c = walk_word(day, z, c, turn.word, part);
+        c = walk_word(day, layout, c, turn.word, part);
         waiting = turn.waiting;
         i = turn.next;
     }
@@ -127,19 +138,19 @@ pub fn failed() -> Walked
 }
 
 // The way back, once the tasks are done. The words are counted with the E word, which is not written.
-pub fn come_back(day: &[u32], z: Layout, c: Cab, part: &mut [u32]) -> Walked
-    requires { ⌜ LayoutOf (now day) z × IsAccepted (now day) × SomeDone (now day) (now part) c ⌝ }
+pub fn come_back(day: &[u32], layout: Layout, c: Cab, part: &mut [u32]) -> Walked
+    requires { ⌜ LayoutOf (now day) layout × IsAccepted (now day) × SomeDone (now day) (now part) c ⌝ }
     ensures { λ r. ⌜ ComesBack (now (day .entry)) (now (part .entry)) c (now (part .exit)) r ⌝ }
 {
     if c.stuck {
         return failed();
     }
-    let back = walk_home(day, z, c, part);
+    let back = walk_home(day, layout, c, part);
     if back.stuck {
         return failed();
     }
     let t = back.trip;
-    let leg = day::fields::leg_between(day, z, t.place, 0);
+    let leg = day::fields::leg_between(day, layout, t.place, 0);
     Walked {
         words: back.at + 1,
         distance: t.distance + leg.distance,
@@ -150,21 +161,21 @@ pub fn come_back(day: &[u32], z: Layout, c: Cab, part: &mut [u32]) -> Walked
 // The vehicle walked again: its words at the front of the part.
 pub fn walk_vehicle(
     day: &[u32],
-    z: Layout,
+    layout: Layout,
     e: Edit,
     number: u32,
     tasks: &[u32],
     part: &mut [u32],
 ) -> Walked
-    requires { ⌜ LayoutOf (now day) z × IsAccepted (now day) × EditSmall e × EditKnown (now day) e × (number < 256) × SomeWalkable (now day) (editOf e) (now tasks) (now part) ⌝ }
+    requires { ⌜ LayoutOf (now day) layout × IsAccepted (now day) × EditSmall e × EditKnown (now day) e × (number < 256) × SomeWalkable (now day) (editOf e) (now tasks) (now part) ⌝ }
     ensures { λ r. ⌜ ((ts : Round) → Walkable (now (day .entry)) (editOf e) (now (tasks .entry)) (now (part .entry)) ts → WalkedAs (now (day .entry)) number (changed (editOf e) 0 ts) (now (part .entry)) (now (part .exit)) r) ⌝ }
 {
-    let c = walk_tasks(day, z, e, number, tasks, part);
-    let w = come_back(day, z, c, part);
+    let c = walk_tasks(day, layout, e, number, tasks, part);
+    let w = come_back(day, layout, c, part);
     if w.stuck {
         return w;
     }
     let end = w.words - 1;
-    part[end] = 3758096384;
+    part[end] = BACK;
     w
 }

@@ -61,17 +61,17 @@ pub visit-made : (day : List ℕ) (t : Trip) (place : ℕ) (w : Window) (l : Leg
 visit-made day t place w l hw hl es em = rw (es, em, hw .opens, hl .takes, hl .spans)
 
 -- a stop's place is counted from the tips
-module _ (day : List ℕ) (z : Layout) (k : ℕ) (hz : LayoutOf day z) where
-  pub stop-inside : k ≤ z .stops → z .tips + k < z .places
+module _ (day : List ℕ) (layout : Layout) (k : ℕ) (hz : LayoutOf day layout) where
+  pub stop-inside : k ≤ layout .stops → layout .tips + k < layout .places
   stop-inside h = omega (arith, hz .tipsAre, hz .stopsAre, hz .placesAre)
 
-  pub stop-hours : (w : Window) → WindowOf day (stopPlace day k) w → WindowOf day (z .tips + k) w
+  pub stop-hours : (w : Window) → WindowOf day (stopPlace day k) w → WindowOf day (layout .tips + k) w
   stop-hours w h = rw (hz .tipsAre) h
 
-  pub stop-minutes : {m : ℕ} → m ≡ service day (stopPlace day k) → m ≡ service day (z .tips + k)
+  pub stop-minutes : {m : ℕ} → m ≡ service day (stopPlace day k) → m ≡ service day (layout .tips + k)
   stop-minutes e = rw (hz .tipsAre) e
 
-  pub stop-visited : (t u : Trip) → u ≡ visited day t (z .tips + k) → u ≡ visited day t (stopPlace day k)
+  pub stop-visited : (t u : Trip) → u ≡ visited day t (layout .tips + k) → u ≡ visited day t (stopPlace day k)
   stop-visited t u e = rw (hz .tipsAre) at e
 
 -- home without a tip: too late, rested, unrested
@@ -138,9 +138,9 @@ module _ (day : List ℕ) where
       }
 
 -- behind a tip and a rest, a trip is still at a place and not too late to count
-pub tip-trip : (day : List ℕ) (z : Layout) (most : ℕ) (t u v : Trip) (x : ℕ) → LayoutOf day z → SmallTrip day most t → x ≤ z .tips → u ≡ visited day t x → v ≡ restIfDue day u
-    → LayoutOf day z × (v .place < z .places) × (v .minute < 1073741824)
-tip-trip day z most t u v x hz ht l eu ev =
+pub tip-trip : (day : List ℕ) (layout : Layout) (most : ℕ) (t u v : Trip) (x : ℕ) → LayoutOf day layout → SmallTrip day most t → x ≤ layout .tips → u ≡ visited day t x → v ≡ restIfDue day u
+    → LayoutOf day layout × (v .place < layout .places) × (v .minute < 1073741824)
+tip-trip day layout most t u v x hz ht l eu ev =
     let m = visit-minute day most t u x ht eu in
     (hz, omega (arith, rest-place day u v ev, visit-place day t u x eu, hz .placesAre, hz .tipsAre), omega (arith, rest-minute day 536870912 u v (omega arith) m ev))
 

@@ -57,7 +57,7 @@ module _ (day : List ℕ) (place minute : ℕ) where
   pub tips-few : (k best : ℕ) → best ≡ least (openTip day place minute) (legMinutes day place) k → best ≤ k
   tips-few k best e = least-le _ _ k best e
 
-  pub tips-all : (z : Layout) (k best : ℕ) → LayoutOf day z → best ≡ least (openTip day place minute) (legMinutes day place) k → k ≤ z .tips → z .tips ≤ k
+  pub tips-all : (layout : Layout) (k best : ℕ) → LayoutOf day layout → best ≡ least (openTip day place minute) (legMinutes day place) k → k ≤ layout .tips → layout .tips ≤ k
       → best ≡ nearestTip day place minute
   unfolding nearestTip
-  tips-all z k best h e a b = let all : k ≡ tips day = omega (arith, h .tipsAre) in e ∙ ap (least _ _) all
+  tips-all layout k best h e a b = let all : k ≡ tips day = omega (arith, h .tipsAre) in e ∙ ap (least _ _) all

@@ -17,14 +17,14 @@ fn later(a: u32, b: u32) -> u32
 }
 
 // Whether a rest is due.
-pub fn is_due(day: &[u32], z: Layout, t: Trip) -> bool
-    requires { ⌜ LayoutOf (now day) z ⌝ }
+pub fn is_due(day: &[u32], layout: Layout, t: Trip) -> bool
+    requires { ⌜ LayoutOf (now day) layout ⌝ }
     ensures { λ r. ⌜ r ≡ due (now (day .entry)) t ⌝ }
 {
     if t.rested {
         return false;
     }
-    let hours = day::fields::rest_window(day, z);
+    let hours = day::fields::rest_window(day, layout);
     if t.minute < hours.opening {
         return false;
     }
@@ -32,13 +32,13 @@ pub fn is_due(day: &[u32], z: Layout, t: Trip) -> bool
 }
 
 // After a rest where one is due, else as before.
-pub fn rest_if_due(day: &[u32], z: Layout, t: Trip) -> Trip
-    requires { ⌜ LayoutOf (now day) z × (t .minute < 1073741824) ⌝ }
+pub fn rest_if_due(day: &[u32], layout: Layout, t: Trip) -> Trip
+    requires { ⌜ LayoutOf (now day) layout × (t .minute < 1073741824) ⌝ }
     ensures { λ r. ⌜ r ≡ restIfDue (now (day .entry)) t ⌝ }
 {
-    if is_due(day, z, t) {
+    if is_due(day, layout, t) {
         return Trip {
-            minute: t.minute + day::fields::rest_minutes(day, z),
+            minute: t.minute + day::fields::rest_minutes(day, layout),
             place: t.place,
             rested: true,
             distance: t.distance,
@@ -48,11 +48,18 @@ pub fn rest_if_due(day: &[u32], z: Layout, t: Trip) -> Trip
 }
 
 // After a visit that is known to be in time.
-pub fn visit(day: &[u32], z: Layout, t: Trip, place: usize, hours: Window, minutes: u32) -> Trip
-    requires { ⌜ LayoutOf (now day) z × SmallTrip (now day) 4294901760 t × (place < z .places) × WindowOf (now day) place hours × (minutes ≡ service (now day) place) ⌝ }
+pub fn visit(
+    day: &[u32],
+    layout: Layout,
+    t: Trip,
+    place: usize,
+    hours: Window,
+    minutes: u32,
+) -> Trip
+    requires { ⌜ LayoutOf (now day) layout × SmallTrip (now day) 4294901760 t × (place < layout .places) × WindowOf (now day) place hours × (minutes ≡ service (now day) place) ⌝ }
     ensures { λ r. ⌜ r ≡ visited (now (day .entry)) t place ⌝ }
 {
-    let leg = day::fields::leg_between(day, z, t.place, place);
+    let leg = day::fields::leg_between(day, layout, t.place, place);
     Trip {
         minute: later(t.minute + leg.minutes, hours.opening) + minutes,
         place,
@@ -62,55 +69,55 @@ pub fn visit(day: &[u32], z: Layout, t: Trip, place: usize, hours: Window, minut
 }
 
 // After the service of stop k.
-pub fn visit_stop(day: &[u32], z: Layout, t: Trip, k: usize) -> Trip
-    requires { ⌜ LayoutOf (now day) z × SmallTrip (now day) 4294901760 t × (0 < k) × (k ≤ z .stops) ⌝ }
+pub fn visit_stop(day: &[u32], layout: Layout, t: Trip, k: usize) -> Trip
+    requires { ⌜ LayoutOf (now day) layout × SmallTrip (now day) 4294901760 t × (0 < k) × (k ≤ layout .stops) ⌝ }
     ensures { λ r. ⌜ r ≡ visited (now (day .entry)) t (stopPlace (now (day .entry)) k) ⌝ }
 {
-    let hours = day::fields::stop_window(day, z, k);
-    let minutes = day::fields::stop_service(day, z, k);
-    visit(day, z, t, z.tips + k, hours, minutes)
+    let hours = day::fields::stop_window(day, layout, k);
+    let minutes = day::fields::stop_service(day, layout, k);
+    visit(day, layout, t, layout.tips + k, hours, minutes)
 }
 
 // Whether the depot is reached in time, and in time for lunch.
-fn is_home_direct(day: &[u32], z: Layout, t: Trip) -> bool
-    requires { ⌜ LayoutOf (now day) z × (t .place < z .places) × (t .minute < 1073741824) ⌝ }
+fn is_home_direct(day: &[u32], layout: Layout, t: Trip) -> bool
+    requires { ⌜ LayoutOf (now day) layout × (t .place < layout .places) × (t .minute < 1073741824) ⌝ }
     ensures { λ r. ⌜ r ≡ homeDirect (now (day .entry)) t ⌝ }
 {
-    let leg = day::fields::leg_between(day, z, t.place, 0);
+    let leg = day::fields::leg_between(day, layout, t.place, 0);
     let back = t.minute + leg.minutes;
-    if day::fields::depot_window(day, z).closing < back {
+    if day::fields::depot_window(day, layout).closing < back {
         return false;
     }
     if t.rested {
         return true;
     }
-    back <= day::fields::rest_window(day, z).closing
+    back <= day::fields::rest_window(day, layout).closing
 }
 
 // Whether the depot is reached by way of a tip; 0 is no tip.
-fn is_home_by_tip(day: &[u32], z: Layout, t: Trip, x: usize) -> bool
-    requires { ⌜ LayoutOf (now day) z × SmallTrip (now day) 4294901760 t × (x ≤ z .tips) ⌝ }
+fn is_home_by_tip(day: &[u32], layout: Layout, t: Trip, x: usize) -> bool
+    requires { ⌜ LayoutOf (now day) layout × SmallTrip (now day) 4294901760 t × (x ≤ layout .tips) ⌝ }
     ensures { λ r. ⌜ r ≡ homeByTip (now (day .entry)) t x ⌝ }
 {
     if x == 0 {
         return false;
     }
-    let hours = day::fields::tip_window(day, z, x);
-    let minutes = day::fields::tip_service(day, z, x);
-    let emptied = visit(day, z, t, x, hours, minutes);
-    let rested = rest_if_due(day, z, emptied);
-    is_home_direct(day, z, rested)
+    let hours = day::fields::tip_window(day, layout, x);
+    let minutes = day::fields::tip_service(day, layout, x);
+    let emptied = visit(day, layout, t, x, hours, minutes);
+    let rested = rest_if_due(day, layout, emptied);
+    is_home_direct(day, layout, rested)
 }
 
 // Whether there is a way home with a load.
-pub fn is_way_home(day: &[u32], z: Layout, t: Trip, load: u32) -> bool
-    requires { ⌜ LayoutOf (now day) z × SmallTrip (now day) 4294901760 t ⌝ }
+pub fn is_way_home(day: &[u32], layout: Layout, t: Trip, load: u32) -> bool
+    requires { ⌜ LayoutOf (now day) layout × SmallTrip (now day) 4294901760 t ⌝ }
     ensures { λ r. ⌜ r ≡ wayHome (now (day .entry)) t load ⌝ }
 {
-    let rested = rest_if_due(day, z, t);
+    let rested = rest_if_due(day, layout, t);
     if load == 0 {
-        return is_home_direct(day, z, rested);
+        return is_home_direct(day, layout, rested);
     }
-    let x = crate::tips::nearest_tip(day, z, rested.place, rested.minute);
-    is_home_by_tip(day, z, rested, x)
+    let x = crate::tips::nearest_tip(day, layout, rested.place, rested.minute);
+    is_home_by_tip(day, layout, rested, x)
 }

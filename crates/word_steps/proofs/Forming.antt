@@ -1,13 +1,13 @@
 -- Laws of a word's form: which word a number is, whether it has the form where it stands, and its step then. Assumes nothing.
-use Prim.Native.Nat.{ℕ, _+_, _/_, _%_, _<_, _≤_}
-use mathlib.Core.Path.{_≡_, refl, sym, ap, _∙_}
+use Prim.Native.Nat.{ℕ, _+_, _<_, _≤_}
+use mathlib.Core.Path.{_≡_, refl, sym, _∙_}
 use mathlib.Core.Bool.{Bool, true, false, not, _&&_}
 use mathlib.Core.List.{List}
 use native.Mathlib.Omega.{arith}
 use lib.Dec.{eqb, ltb, leb}
 use lib.ListN.{getD}
 use borrow.Author.Tests.{eq-eqb, ne-eqb, lt-leb, le-leb, not-false}
-use Rattle.rules.specs.PlanWords.{Word, vehicle, stop, tip, rest, back, left, stray, stopWord, tipWord, restWord, backWord, wordOf}
+use Rattle.rules.specs.PlanWords.{Word, vehicle, stop, tip, rest, back, left, stray, stopWord, tipWord, wordOf}
 use Rattle.rules.specs.Check.{within, wellFormed}
 use Rattle.laws.proofs.Tests.{both-true}
 use Rattle.day.specs.Layout.{LayoutOf}
@@ -16,7 +16,9 @@ use Rattle.word_steps.specs.Steps.{isMetIn, formedFault, faultBy, StepOf
 use Rattle.word_steps.specs.declared.steps.State.{State}
 use Rattle.word_steps.specs.declared.steps.Step.{Step}
 use Rattle.word_steps.proofs.Stepping.{step-fault}
-use Rattle.plan_laws.proofs.WordForms.{stop-form, tip-form, within-both}
+use Rattle.plan_words.specs.Indexes.{IndexFrom}
+use Rattle.plan_words.proofs.WordForms.{stop-indexed, tip-indexed}
+use Rattle.plan_laws.proofs.Passing.{within-both}
 
 -- a number from 1 to the most
 pub within-low : (most k : ℕ) → k < 1 → false ≡ within most k
@@ -32,16 +34,16 @@ module _ (day : List ℕ) (s : State) where
   abbrev formed : Word → Bool
   formed w = wellFormed day (s .tally) (s .cargo) w
 
-  module _ (z : Layout) (k : ℕ) (known b : Bool) (l : LayoutOf day z) where
-    pub stop-formed : known ≡ within (z .stops) k → b ≡ (s .tally .inside && known) → b ≡ formed (stop k)
+  module _ (layout : Layout) (k : ℕ) (known b : Bool) (l : LayoutOf day layout) where
+    pub stop-formed : known ≡ within (layout .stops) k → b ≡ (s .tally .inside && known) → b ≡ formed (stop k)
     unfolding wellFormed
     stop-formed e f = f ∙ rw (e, l .stopsAre)
 
-    pub tip-formed : known ≡ within (z .tips) k → b ≡ (s .tally .inside && known) → b ≡ formed (tip k)
+    pub tip-formed : known ≡ within (layout .tips) k → b ≡ (s .tally .inside && known) → b ≡ formed (tip k)
     unfolding wellFormed
     tip-formed e f = f ∙ rw (e, l .tipsAre)
 
-    pub left-formed : (out : Bool) → known ≡ within (z .stops) k → out ≡ (not (s .tally .inside) && known) → b ≡ (out && ltb (s .tally .last) k) → b ≡ formed (left k)
+    pub left-formed : (out : Bool) → known ≡ within (layout .stops) k → out ≡ (not (s .tally .inside) && known) → b ≡ (out && ltb (s .tally .last) k) → b ≡ formed (left k)
     unfolding wellFormed
     left-formed out e o f = f ∙ rw (o, e, l .stopsAre)
 
@@ -69,14 +71,14 @@ module _ (most k : ℕ) (known b inside : Bool) (e : known ≡ within most k) (f
   known-most = known-number .1
 
 -- a stop's number is a byte
-module _ (day : List ℕ) (z : Layout) (l : LayoutOf day z) (k : ℕ) (known b : Bool) (e : known ≡ within (z .stops) k) (h : not b ≡ false) where
+module _ (day : List ℕ) (layout : Layout) (l : LayoutOf day layout) (k : ℕ) (known b : Bool) (e : known ≡ within (layout .stops) k) (h : not b ≡ false) where
   pub stop-below : (inside : Bool) → b ≡ (inside && known) → k < 256
-  stop-below inside f = omega (arith, known-most (z .stops) k known b inside e f h, l .stopsAre)
+  stop-below inside f = omega (arith, known-most (layout .stops) k known b inside e f h, l .stopsAre)
 
   pub left-below : (outside out beyond : Bool) → out ≡ (outside && known) → b ≡ (out && beyond) → k < 256
   left-below outside out beyond o f =
       let is-out : out ≡ true = both-true out beyond (sym f ∙ not-false b h) .0 in
-      omega (arith, known-most (z .stops) k known out outside e o (rw is-out), l .stopsAre)
+      omega (arith, known-most (layout .stops) k known out outside e o (rw is-out), l .stopsAre)
 
 -- a vehicle is out
 pub is-inside : (inside other b : Bool) → b ≡ (inside && other) → not b ≡ false → inside ≡ true
@@ -114,33 +116,6 @@ module _ (day met : List ℕ) (s : State) (w : Word) (r : Step) (b : Bool) (e : 
   unfolding faultBy
   goes-on h m x = rw (← e, h, m) x
 
--- which word a number is
-module _ (w : ℕ) where
-  pub word-stop : w / 256 ≡ 11534336 → wordOf w ≡ stop (w % 256)
-  unfolding wordOf
-  word-stop h = rw (eq-eqb _ _ h)
-
-  pub word-tip : w / 256 ≡ 12582912 → wordOf w ≡ tip (w % 256)
-  unfolding wordOf
-  word-tip h = rw h
-
-  pub word-rest : w ≡ restWord → wordOf w ≡ rest
-  unfolding wordOf
-  word-rest h = rw h
-
-  pub word-back : w ≡ backWord → wordOf w ≡ back
-  unfolding wordOf
-  word-back h = rw h
-
-  pub word-left : (w ≡ restWord → ⊥) → (w ≡ backWord → ⊥) → w / 256 ≡ 15728640 → wordOf w ≡ left (w % 256)
-  unfolding wordOf
-  word-left r b h = rw (ne-eqb _ _ r, ne-eqb _ _ b, h)
-
-  pub word-stray : (w / 256 ≡ 11534336 → ⊥) → (w / 256 ≡ 12582912 → ⊥) → (w ≡ restWord → ⊥) → (w ≡ backWord → ⊥)
-      → (w / 256 ≡ 10485760 → ⊥) → (w / 256 ≡ 15728640 → ⊥) → wordOf w ≡ stray
-  unfolding wordOf
-  word-stray s t r b v l = rw (ne-eqb _ _ s, ne-eqb _ _ t, ne-eqb _ _ r, ne-eqb _ _ b, ne-eqb _ _ v, ne-eqb _ _ l)
-
 -- the step of the word that a number is
 module _ (day met : List ℕ) (s : State) (w : ℕ) (r : Step) where
   pub as-word : (x : Word) → wordOf w ≡ x → StepOf (faultBy day met s x) day s x r → StepOf (faultBy day met s (wordOf w)) day s (wordOf w) r
@@ -150,16 +125,10 @@ module _ (day met : List ℕ) (s : State) (w : ℕ) (r : Step) where
   unfolding wellFormed
   as-stray e f = rw e (misformed day met s stray r false refl refl f)
 
--- a word in the range of the stops' words, or of the tips', by its distance from the first
-module _ (day : List ℕ) (z : Layout) (l : LayoutOf day z) (w r : ℕ) where
-  pub stop-ranged : (r + 2952790017) % 4294967296 ≡ w → r < z .stops → wordOf w ≡ stop (r + 1)
-  stop-ranged e h = ap wordOf whole ∙ stop-form (r + 1) (omega (arith, l .stopsAre))
-    where
-      whole : w ≡ stopWord (r + 1)
-      whole = omega (arith, l .stopsAre)
+-- a word by its distance from the first stop's word, or from the first tip's
+module _ (day : List ℕ) (layout : Layout) (l : LayoutOf day layout) (w r : ℕ) where
+  pub stop-ranged : IndexFrom (stopWord 1) w r → r < layout .stops → wordOf w ≡ stop (r + 1)
+  stop-ranged e h = stop-indexed w r (omega (arith, l .stopsAre)) e
 
-  pub tip-ranged : (r + 3221225473) % 4294967296 ≡ w → r < z .tips → wordOf w ≡ tip (r + 1)
-  tip-ranged e h = ap wordOf whole ∙ tip-form (r + 1) (omega (arith, l .tipsAre))
-    where
-      whole : w ≡ tipWord (r + 1)
-      whole = omega (arith, l .tipsAre)
+  pub tip-ranged : IndexFrom (tipWord 1) w r → r < layout .tips → wordOf w ≡ tip (r + 1)
+  tip-ranged e h = tip-indexed w r (omega (arith, l .tipsAre)) e

@@ -10,11 +10,11 @@ use Rattle.rules.specs.Fields.{stopPlace, quantity}
 use Rattle.rules.specs.PlanWords.{Word, vehicle, stop, tip, rest, back, left}
 use Rattle.rules.specs.Cargo.{empty, loaded, emptied, overLimits, cargoFault, cargoAfter}
 use Rattle.rules.specs.Trip.{leaving, arrival, driven, visited, restedAt, visitFault, restFault, backFault}
-use Rattle.rules.specs.Check.{tallyAfter}
+use Rattle.rules.specs.Check.{oneOut, oneServed, oneLeft, oneBack, tallyAfter}
 use Rattle.rules.specs.declared.walk.Cargo.{Cargo}
 use Rattle.rules.specs.declared.walk.Tally.{Tally}
 use Rattle.rules.specs.declared.walk.Trip.{Trip}
-use Rattle.trips.specs.Trips.{oneOut, oneServed, oneLeft, oneBack, DrivenTo}
+use Rattle.trips.specs.Trips.{DrivenTo}
 use Rattle.trips.specs.declared.trip.Driven.{Driven}
 use Rattle.word_steps.specs.Steps.{stopIn, formedFault, StepOf, Within}
 use Rattle.word_steps.specs.declared.steps.State.{State}

@@ -59,15 +59,15 @@ pub fn at_fault(number: u32) -> Step
 }
 
 // B, a stop is served.
-pub fn serve(day: &[u32], z: day::fields::Layout, limits: Limits, s: State, k: usize) -> Step
-    requires { ⌜ LayoutOf (now day) z × LimitsOf (now day) limits × Within (now day) 4096 s × (0 < k) × (k ≤ z .stops) ⌝ }
+pub fn serve(day: &[u32], layout: day::fields::Layout, limits: Limits, s: State, k: usize) -> Step
+    requires { ⌜ LayoutOf (now day) layout × LimitsOf (now day) limits × Within (now day) 4096 s × (0 < k) × (k ≤ layout .stops) ⌝ }
     ensures { λ r. ⌜ StepOf (formedFault (now (day .entry)) s (stop k)) (now (day .entry)) s (stop k) r ⌝ }
 {
-    let cargo = load_on(s.cargo, day::fields::stop_quantity(day, z, k));
+    let cargo = load_on(s.cargo, day::fields::stop_quantity(day, layout, k));
     if is_over(day, limits, cargo) {
         return at_fault(9);
     }
-    let drive = visit_stop(day, z, s.trip, k);
+    let drive = visit_stop(day, layout, s.trip, k);
     let tally = one_served(s.tally);
     let trip = drive.trip;
     Step {
@@ -78,11 +78,11 @@ pub fn serve(day: &[u32], z: day::fields::Layout, limits: Limits, s: State, k: u
 }
 
 // C, the load is tipped.
-pub fn empty_out(day: &[u32], z: day::fields::Layout, s: State, k: usize) -> Step
-    requires { ⌜ LayoutOf (now day) z × Within (now day) 4096 s × (0 < k) × (k ≤ z .tips) ⌝ }
+pub fn empty_out(day: &[u32], layout: day::fields::Layout, s: State, k: usize) -> Step
+    requires { ⌜ LayoutOf (now day) layout × Within (now day) 4096 s × (0 < k) × (k ≤ layout .tips) ⌝ }
     ensures { λ r. ⌜ StepOf (formedFault (now (day .entry)) s (tip k)) (now (day .entry)) s (tip k) r ⌝ }
 {
-    let drive = visit_tip(day, z, s.trip, k);
+    let drive = visit_tip(day, layout, s.trip, k);
     let tally = same_tally(s.tally);
     let cargo = tip_out(s.cargo);
     let trip = drive.trip;
@@ -94,11 +94,11 @@ pub fn empty_out(day: &[u32], z: day::fields::Layout, s: State, k: usize) -> Ste
 }
 
 // D, the vehicle rests.
-pub fn take_rest(day: &[u32], z: day::fields::Layout, s: State) -> Step
-    requires { ⌜ LayoutOf (now day) z × Within (now day) 4096 s ⌝ }
+pub fn take_rest(day: &[u32], layout: day::fields::Layout, s: State) -> Step
+    requires { ⌜ LayoutOf (now day) layout × Within (now day) 4096 s ⌝ }
     ensures { λ r. ⌜ StepOf (formedFault (now (day .entry)) s rest) (now (day .entry)) s rest r ⌝ }
 {
-    let drive = rest(day, z, s.trip);
+    let drive = rest(day, layout, s.trip);
     let tally = same_tally(s.tally);
     let cargo = same_cargo(s.cargo);
     let trip = drive.trip;
@@ -110,14 +110,14 @@ pub fn take_rest(day: &[u32], z: day::fields::Layout, s: State) -> Step
 }
 
 // E, the vehicle is back.
-pub fn come_back(day: &[u32], z: day::fields::Layout, s: State) -> Step
-    requires { ⌜ LayoutOf (now day) z × Within (now day) 4096 s × (s .tally .inside ≡ true) ⌝ }
+pub fn come_back(day: &[u32], layout: day::fields::Layout, s: State) -> Step
+    requires { ⌜ LayoutOf (now day) layout × Within (now day) 4096 s × (s .tally .inside ≡ true) ⌝ }
     ensures { λ r. ⌜ StepOf (formedFault (now (day .entry)) s back) (now (day .entry)) s back r ⌝ }
 {
     if 0 < s.cargo.load {
         return at_fault(10);
     }
-    let drive = back(day, z, s.trip);
+    let drive = back(day, layout, s.trip);
     if drive.fault != 0 {
         return at_fault(drive.fault);
     }
@@ -132,8 +132,8 @@ pub fn come_back(day: &[u32], z: day::fields::Layout, s: State) -> Step
 }
 
 // A, a vehicle leaves.
-pub fn set_out(day: &[u32], z: day::fields::Layout, s: State, k: u32) -> Step
-    requires { ⌜ LayoutOf (now day) z × Within (now day) 4096 s ⌝ }
+pub fn set_out(day: &[u32], layout: day::fields::Layout, s: State, k: u32) -> Step
+    requires { ⌜ LayoutOf (now day) layout × Within (now day) 4096 s ⌝ }
     ensures { λ r. ⌜ StepOf (formedFault (now (day .entry)) s (vehicle k)) (now (day .entry)) s (vehicle k) r ⌝ }
 {
     Step {
@@ -142,7 +142,7 @@ pub fn set_out(day: &[u32], z: day::fields::Layout, s: State, k: u32) -> Step
         state: State {
             tally: one_out(s.tally),
             cargo: nothing(),
-            trip: leave(day, z),
+            trip: leave(day, layout),
         },
     }
 }

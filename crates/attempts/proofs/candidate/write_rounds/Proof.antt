@@ -14,10 +14,10 @@ use Rattle.attempts.proofs.candidate.write_rounds.Statement.{statement}
 use Rattle.attempts.proofs.candidate.write_rounds.Tie as tie
 
 abbrev Inv-loop : tie.InvT-loop
-Inv-loop day z e one other plan starts count work₀ at₀ v₀ work at v = (v ≤ count) × (length work ≡ length work₀) × ((rounds : List Round) → Trying day plan starts (trialOf e one other) rounds → count ≡ length rounds → Written day (trialOf e one other) rounds work₀ work v at)
+Inv-loop day layout e one other plan starts count work₀ at₀ v₀ work at v = (v ≤ count) × (length work ≡ length work₀) × ((rounds : List Round) → Trying day plan starts (trialOf e one other) rounds → count ≡ length rounds → Written day (trialOf e one other) rounds work₀ work v at)
 
 abbrev μ-loop : tie.MeasureT-loop
-μ-loop day z e one other plan starts count work₀ at₀ v₀ work at v = count - v
+μ-loop day layout e one other plan starts count work₀ at₀ v₀ work at v = count - v
 
 loop-holds : tie.Need-loop-holds Inv-loop μ-loop
 loop-holds c = (omega arith, refl, λ rounds t n. written-start)

@@ -5,10 +5,6 @@ use Rattle.attempts.proofs.ShorterLaws.{vehicles-of, some-one, some-oth
 use borrow.Author.Needs.{needs}
 use Rattle.attempts.proofs.tries.is_shorter.Statement.{statement}
 use Rattle.attempts.proofs.tries.is_shorter.Tie as tie
-use Rattle.attempts.proofs.tries.is_shorter.Reads as reads
-use Rattle.attempts.proofs.tries.is_shorter.Lts as lts
-use Rattle.attempts.proofs.tries.retry.Reads as retry-reads
-use Rattle.attempts.proofs.tries.wide.Reads as wide-reads
 
 sub-v : tie.Need-sub-v
 sub-v c = let s = c .before .before .before .before .before .before .before .pre .4 in omega (arith, vehicles-of (s .measured) .oneIs)

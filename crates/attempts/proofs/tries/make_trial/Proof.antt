@@ -4,12 +4,6 @@ use Rattle.attempts.proofs.KeptLaws.{candidate-fits, tried-none, tried-
 use borrow.Author.Needs.{needs}
 use Rattle.attempts.proofs.tries.make_trial.Statement.{statement}
 use Rattle.attempts.proofs.tries.make_trial.Tie as tie
-use Rattle.attempts.proofs.tries.make_trial.Reads as reads
-use Rattle.attempts.proofs.tries.make_trial.Lts as lts
-use Rattle.attempts.proofs.candidate.write_candidate.Reads as write-candidate-reads
-use Rattle.attempts.proofs.tries.is_shorter.Reads as is-shorter-reads
-use Rattle.attempts.proofs.tries.judge_candidate.Reads as judge-candidate-reads
-use Rattle.attempts.proofs.tries.not_kept.Reads as not-kept-reads
 
 write-candidate-requires : tie.Need-write-candidate-requires
 write-candidate-requires c κs = let s = c .before .before .before .before .before .before .before .before .before .before .before .before .pre .4 in (c .before .before .before .before .before .before .before .before .before .before .before .before .pre .0, c .before .before .before .before .before .before .before .before .before .before .before .before .pre .1, c .before .before .before .before .before .before .before .before .before .before .before .before .pre .2, c .before .before .before .before .before .before .before .before .before .before .before .before .pre .3, record { rounds = s .rounds; trying = s .made .measured .trying; counted = s .made .counted }, omega (arith, c .before .before .before .before .before .before .before .before .before .before .before .before .pre .5, c .before .before .before .before .is-shorter .kept .1 .1 .1 .1 .1 .1 .1 .0))

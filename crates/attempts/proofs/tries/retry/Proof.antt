@@ -8,10 +8,6 @@ use Rattle.attempts.proofs.TryLaws.{trying-laid, retry-walkable, retry-
 use borrow.Author.Needs.{needs}
 use Rattle.attempts.proofs.tries.retry.Statement.{statement}
 use Rattle.attempts.proofs.tries.retry.Tie as tie
-use Rattle.attempts.proofs.tries.retry.Reads as reads
-use Rattle.attempts.proofs.tries.retry.Lts as lts
-use Rattle.tracks.proofs.measure.measure.Reads as measure-reads
-use Rattle.tracks.proofs.span.span_of.Reads as span-of-reads
 
 mul-from : tie.Need-mul-from
 mul-from c = let s = c .before .before .before .before .before .pre .4 in omega (arith, s .inside, few-vehicles (s .trying))

@@ -6,10 +6,10 @@ use Rattle.builder.proofs.fleet.write_vehicles.Statement.{statement}
 use Rattle.builder.proofs.fleet.write_vehicles.Tie as tie
 
 abbrev Inv-loop : tie.InvT-loop
-Inv-loop day z plan₀ left₀ at₀ number₀ words₀ plan left at number words = Underway day plan₀ plan left at number words
+Inv-loop day layout plan₀ left₀ at₀ number₀ words₀ plan left at number words = Underway day plan₀ plan left at number words
 
 abbrev μ-loop : tie.MeasureT-loop
-μ-loop day z plan₀ left₀ at₀ number₀ words₀ plan left at number words = 256 - number
+μ-loop day layout plan₀ left₀ at₀ number₀ words₀ plan left at number words = 256 - number
 
 all-to-requires : tie.Need-all-to-requires Inv-loop μ-loop
 all-to-requires c κs = omega (arith, c .before .before .pre .1)

@@ -8,10 +8,10 @@ use Rattle.checker.proofs.run.check_each.Statement.{statement}
 use Rattle.checker.proofs.run.check_each.Tie as tie
 
 abbrev Inv-loop : tie.InvT-loop
-Inv-loop day z limits plan s₀ met₀ i₀ s met i = (i ≤ length plan) × Reached day plan i s met
+Inv-loop day layout limits plan s₀ met₀ i₀ s met i = (i ≤ length plan) × Reached day plan i s met
 
 abbrev μ-loop : tie.MeasureT-loop
-μ-loop day z limits plan s₀ met₀ i₀ s met i = length plan - i
+μ-loop day layout limits plan s₀ met₀ i₀ s met i = length plan - i
 
 loop-holds : tie.Need-loop-holds Inv-loop μ-loop
 loop-holds c = (search needs, search reached-start)

@@ -6,7 +6,7 @@ use Rattle.day.proofs.Readers.{leg-at, leg-read}
 use Rattle.day.proofs.fields.leg_between.Statement.{statement}
 use Rattle.day.proofs.fields.leg_between.Tie as tie
 
-inside : (c : tie.After-struct-known) → c .before .args .z .legs + c .before .args .p * c .before .args .z .places + c .before .args .q < length (c .before .args .day .now)
+inside : (c : tie.After-struct-known) → c .before .args .layout .legs + c .before .args .p * c .before .args .layout .places + c .before .args .q < length (c .before .args .day .now)
 inside c = leg-at _ _ _ _ (c .before .pre .0) (c .before .pre .1) (c .before .pre .2)
 
 mul-w : tie.Need-mul-w

@@ -7,7 +7,7 @@ use Rattle.day.proofs.Readers.{leg-at, leg-cut}
 use Rattle.day.proofs.fields.leg_from_legs.Statement.{statement}
 use Rattle.day.proofs.fields.leg_from_legs.Tie as tie
 
-inside : (c : tie.After-struct-known) → c .before .before .args .z .legs + c .before .before .args .p * c .before .before .args .z .places + c .before .before .args .q < length (c .before .before .args .day .now)
+inside : (c : tie.After-struct-known) → c .before .before .args .layout .legs + c .before .before .args .p * c .before .before .args .layout .places + c .before .before .args .q < length (c .before .before .args .day .now)
 inside c = leg-at _ _ _ _ (c .before .before .pre .0) (c .before .before .pre .1) (c .before .before .pre .2)
 
 mul-w : tie.Need-mul-w

@@ -8,10 +8,10 @@ use Rattle.neighbours.proofs.table.fill_keys.Statement.{statement}
 use Rattle.neighbours.proofs.table.fill_keys.Tie as tie
 
 abbrev Inv-loop : tie.InvT-loop
-Inv-loop day z i keys₀ stops j₀ keys j = (j ≤ stops) × KeysTo day i j keys
+Inv-loop day layout i keys₀ stops j₀ keys j = (j ≤ stops) × KeysTo day i j keys
 
 abbrev μ-loop : tie.MeasureT-loop
-μ-loop day z i keys₀ stops j₀ keys j = stops - j
+μ-loop day layout i keys₀ stops j₀ keys j = stops - j
 
 loop-holds : tie.Need-loop-holds Inv-loop μ-loop
 loop-holds c = (search needs, search keys-none)

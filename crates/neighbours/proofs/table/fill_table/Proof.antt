@@ -7,10 +7,10 @@ use Rattle.neighbours.proofs.table.fill_table.Statement.{statement}
 use Rattle.neighbours.proofs.table.fill_table.Tie as tie
 
 abbrev Inv-loop : tie.InvT-loop
-Inv-loop day z k table₀ stops i₀ table i = (i ≤ stops) × RowsTo day k i table
+Inv-loop day layout k table₀ stops i₀ table i = (i ≤ stops) × RowsTo day k i table
 
 abbrev μ-loop : tie.MeasureT-loop
-μ-loop day z k table₀ stops i₀ table i = stops - i
+μ-loop day layout k table₀ stops i₀ table i = stops - i
 
 loop-holds : tie.Need-loop-holds Inv-loop μ-loop
 loop-holds c = (search needs, search rows-none)

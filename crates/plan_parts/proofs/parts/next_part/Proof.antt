@@ -1,7 +1,7 @@
 -- `plan_parts::parts::next_part` meets its contract: a vehicle leaves, or a stop is left out.
 use native.Mathlib.Omega.{arith}
 use borrow.Author.Needs.{needs}
-use Rattle.plan_laws.proofs.WordForms.{vehicle-read, left-read}
+use Rattle.plan_words.proofs.WordForms.{vehicle-told, left-told}
 use Rattle.plan_parts.proofs.GoingThrough.{part-small, part-byte, part-next, part-out, part-behind, no-part}
 use Rattle.plan_parts.proofs.parts.next_part.Statement.{statement}
 use Rattle.plan_parts.proofs.parts.next_part.Tie as tie
@@ -13,28 +13,28 @@ returns : tie.Need-returns
 returns c = λ e. search no-part
 
 element-write-met : tie.Need-element-write-met
-element-write-met c = search (part-byte, vehicle-read)
+element-write-met c = search (part-byte, vehicle-told)
 
 round-requires : tie.Need-round-requires
-round-requires c κs = (search needs, search needs, search needs, search needs, search (part-out, vehicle-read))
+round-requires c κs = (search needs, search needs, search needs, search needs, search (part-out, vehicle-told))
 
 returns-2 : tie.Need-returns-2
 returns-2 c = search part-behind
 
-returns-3 : tie.Need-returns-3
-returns-3 c = λ e. search no-part
-
 left-word-requires : tie.Need-left-word-requires
 left-word-requires c κs = (search needs, search part-small)
 
-returns-4 : tie.Need-returns-4
-returns-4 c = λ e. search no-part
+returns-3 : tie.Need-returns-3
+returns-3 c = λ e. search no-part
 
 element-write-met-2 : tie.Need-element-write-met-2
-element-write-met-2 c = search (part-byte, left-read)
+element-write-met-2 c = search (part-byte, left-told)
+
+returns-4 : tie.Need-returns-4
+returns-4 c = λ e. record { more = omega arith; most = omega arith; reached = search (part-next, left-told) }
 
 returns-5 : tie.Need-returns-5
-returns-5 c = λ e. record { more = omega arith; most = omega arith; reached = search (part-next, left-read) }
+returns-5 c = λ e. search no-part
 
 pub next-part-spec : {M : Type 1} → statement M
 next-part-spec =
@@ -42,6 +42,8 @@ next-part-spec =
     (tie.spec
     (λ c. search needs)
     (λ c. search needs)
+    (λ c κs. search needs)
+    (λ c κs. search needs)
     vehicle-word-requires
     (λ c κs. search needs)
     returns
@@ -50,10 +52,11 @@ next-part-spec =
     round-requires
     returns-2
     (λ c κs. search needs)
-    returns-3
     left-word-requires
     (λ c κs. search needs)
-    returns-4
+    returns-3
     element-write-met-2
     (λ c. search needs)
+    returns-4
+    (λ c κs. search needs)
     returns-5)

@@ -9,10 +9,10 @@ use Rattle.plan_parts.proofs.parts.round.Statement.{statement}
 use Rattle.plan_parts.proofs.parts.round.Tie as tie
 
 abbrev Inv-loop : tie.InvT-loop
-Inv-loop day z limits y met₀ plan from cargo₀ trip₀ i₀ met cargo trip i = (from ≤ i) × (i ≤ length plan) × Reached day plan i (outWith y cargo trip) met
+Inv-loop day layout limits y met₀ plan from cargo₀ trip₀ i₀ met cargo trip i = (from ≤ i) × (i ≤ length plan) × Reached day plan i (outWith y cargo trip) met
 
 abbrev μ-loop : tie.MeasureT-loop
-μ-loop day z limits y met₀ plan from cargo₀ trip₀ i₀ met cargo trip i = length plan - i
+μ-loop day layout limits y met₀ plan from cargo₀ trip₀ i₀ met cargo trip i = length plan - i
 
 loop-holds : tie.Need-loop-holds Inv-loop μ-loop
 loop-holds c = (search needs, search needs, search out-start)

@@ -41,6 +41,7 @@ are-same-spec =
     (λ c. search needs)
     (λ c. search needs)
     (λ c. search needs)
+    (λ c κs. search needs)
     returns-2
     (λ c. search needs)
     (λ c κs. search needs)

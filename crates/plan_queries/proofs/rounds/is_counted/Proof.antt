@@ -1,4 +1,5 @@
 -- `plan_queries::rounds::is_counted` meets its contract.
+use borrow.Author.Needs.{needs}
 use Rattle.plan_queries.proofs.RoundsCompared.{stop-counts, vehicle-counts}
 use Rattle.plan_queries.proofs.rounds.is_counted.Statement.{statement}
 use Rattle.plan_queries.proofs.rounds.is_counted.Tie as tie
@@ -10,4 +11,4 @@ returns-2 : tie.Need-returns-2
 returns-2 c = search vehicle-counts
 
 pub is-counted-spec : {M : Type 1} → statement M
-is-counted-spec = tie.close (tie.spec returns returns-2)
+is-counted-spec = tie.close (tie.spec (λ c κs. search needs) returns (λ c κs. search needs) returns-2)

@@ -35,6 +35,7 @@ part-length-spec =
     loop-holds
     (λ c. search needs)
     (λ c. search needs)
+    (λ c κs. search needs)
     (λ c. search needs)
     (λ c. search needs)
     returns

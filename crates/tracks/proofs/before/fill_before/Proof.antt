@@ -16,10 +16,10 @@ use Rattle.tracks.proofs.before.fill_before.Statement.{statement}
 use Rattle.tracks.proofs.before.fill_before.Tie as tie
 
 abbrev Inv-loop : tie.InvT-loop
-Inv-loop day z words from before₀ part₀ c₀ i₀ before part c i = (length before ≡ 7206) × RowsKept from before₀ before × ((p : List ℕ) (ts : Round) → Wrote (vehicleWord 0 ∷ []) p part₀ 1 → Walks day words p ts → Filling day before from p part ts i c)
+Inv-loop day layout words from before₀ part₀ c₀ i₀ before part c i = (length before ≡ 7206) × RowsKept from before₀ before × ((p : List ℕ) (ts : Round) → Wrote (vehicleWord 0 ∷ []) p part₀ 1 → Walks day words p ts → Filling day before from p part ts i c)
 
 abbrev μ-loop : tie.MeasureT-loop
-μ-loop day z words from before₀ part₀ c₀ i₀ before part c i = length words - i
+μ-loop day layout words from before₀ part₀ c₀ i₀ before part c i = length words - i
 
 slice-write-part : tie.Need-slice-write-part Inv-loop μ-loop
 slice-write-part c = omega (arith, c .before .before .before .before .pre .2 .walks .room)

@@ -8,10 +8,10 @@ use Rattle.tracks.proofs.behind.fill_behind.Statement.{statement}
 use Rattle.tracks.proofs.behind.fill_behind.Tie as tie
 
 abbrev Inv-loop : tie.InvT-loop
-Inv-loop day z plan from end behind₀ o₀ at₀ behind o at = Filling day plan from end behind₀ behind at o
+Inv-loop day layout plan from end behind₀ o₀ at₀ behind o at = Filling day plan from end behind₀ behind at o
 
 abbrev μ-loop : tie.MeasureT-loop
-μ-loop day z plan from end behind₀ o₀ at₀ behind o at = at
+μ-loop day layout plan from end behind₀ o₀ at₀ behind o at = at
 
 put-row-requires : tie.Need-put-row-requires Inv-loop μ-loop
 put-row-requires c κs = let p = c .before .before .before .before .pre in omega (arith, p .1, p .3, filling-inside (p .2) .1)

@@ -3,9 +3,6 @@ use Rattle.tracks.proofs.MeasureLaws.{cut-early, cut-waiting, cut-fits}
 use borrow.Author.Needs.{needs}
 use Rattle.tracks.proofs.measure.is_cut.Statement.{statement}
 use Rattle.tracks.proofs.measure.is_cut.Tie as tie
-use Rattle.tracks.proofs.measure.is_cut.Reads as reads
-use Rattle.tracks.proofs.measure.is_cut.Lts as lts
-use Rattle.tracks.proofs.behind.is_smooth.Reads as is-smooth-reads
 
 returns : tie.Need-returns
 returns c = cut-early (c .before .args .i) (c .before .args .last) (c .before .args .waiting) (c .before .args .load) (c .before .args .o) (c .if1 .taken)

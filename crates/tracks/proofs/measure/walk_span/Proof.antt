@@ -14,21 +14,12 @@ use Rattle.tracks.specs.Measure.{Cuttable}
 use Rattle.tracks.proofs.MeasureLaws.{midway-failed, left-drives, left-small}
 use Rattle.tracks.proofs.measure.walk_span.Statement.{statement}
 use Rattle.tracks.proofs.measure.walk_span.Tie as tie
-use Rattle.tracks.proofs.measure.walk_span.Reads as reads
-use Rattle.tracks.proofs.measure.walk_span.Lts as lts
-use Rattle.tracks.proofs.behind.onward_at.Reads as onward-at-reads
-use Rattle.tracks.proofs.measure.drive_onward.Reads as drive-onward-reads
-use Rattle.tracks.proofs.measure.is_cut.Reads as is-cut-reads
-use Rattle.walks.proofs.vehicle.come_back.Reads as come-back-reads
-use Rattle.walks.proofs.vehicle.failed.Reads as failed-reads
-use Rattle.walks.proofs.vehicle.next_turn.Reads as next-turn-reads
-use Rattle.walks.proofs.vehicle.walk_word.Reads as walk-word-reads
 
 abbrev Inv-loop : tie.InvT-loop
-Inv-loop day z e span from tasks behind part₀ c₀ waiting₀ i₀ part c waiting i = (i ≤ length tasks) × ((ts : Round) (start : Start) (p : List ℕ) → Cuttable day (editOf e) tasks p from behind (span .first) (span .last) ts → Midway day (editOf e) start p part₀ ts (span .first) 0 c₀ → Midway day (editOf e) start p part ts i waiting c)
+Inv-loop day layout e span from tasks behind part₀ c₀ waiting₀ i₀ part c waiting i = (i ≤ length tasks) × ((ts : Round) (start : Start) (p : List ℕ) → Cuttable day (editOf e) tasks p from behind (span .first) (span .last) ts → Midway day (editOf e) start p part₀ ts (span .first) 0 c₀ → Midway day (editOf e) start p part ts i waiting c)
 
 abbrev μ-loop : tie.MeasureT-loop
-μ-loop day z e span from tasks behind part₀ c₀ waiting₀ i₀ part c waiting i = 2 * length tasks + 2 - steps i waiting
+μ-loop day layout e span from tasks behind part₀ c₀ waiting₀ i₀ part c waiting i = 2 * length tasks + 2 - steps i waiting
 
 loop-holds : tie.Need-loop-holds Inv-loop μ-loop
 loop-holds c = let s = c .before .before .before .before .pre .6 in (omega (arith, s .cuttable .outside .within, ap length (s .cuttable .walkable .are), length-map (s .tasks) taskWord), λ ts start p h m. m)

@@ -8,10 +8,10 @@ use Rattle.tracks.proofs.tables.track.Statement.{statement}
 use Rattle.tracks.proofs.tables.track.Tie as tie
 
 abbrev Inv-loop : tie.InvT-loop
-Inv-loop day z plan starts count tracks₀ work₀ v₀ tracks work v = Tracks day plan starts (length work₀) count v tracks work
+Inv-loop day layout plan starts count tracks₀ work₀ v₀ tracks work v = Tracks day plan starts (length work₀) count v tracks work
 
 abbrev μ-loop : tie.MeasureT-loop
-μ-loop day z plan starts count tracks₀ work₀ v₀ tracks work v = count - v
+μ-loop day layout plan starts count tracks₀ work₀ v₀ tracks work v = count - v
 
 loop-holds : tie.Need-loop-holds Inv-loop μ-loop
 loop-holds c = tracks-start _ _ _ _ _ _ (c .before .before .before .before .before .pre .1)

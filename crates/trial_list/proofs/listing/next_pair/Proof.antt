@@ -8,10 +8,10 @@ use Rattle.trial_list.proofs.listing.next_pair.Statement.{statement}
 use Rattle.trial_list.proofs.listing.next_pair.Tie as tie
 
 abbrev Inv-loop : tie.InvT-loop
-Inv-loop z k table vehicles stops q₀ q = (1 ≤ q .stop) × Passed z k table vehicles q₀ q
+Inv-loop layout k table vehicles stops q₀ q = (1 ≤ q .stop) × Passed layout k table vehicles q₀ q
 
 abbrev μ-loop : tie.MeasureT-loop
-μ-loop z k table vehicles stops q₀ q = pairsLeft (z .stops) k q
+μ-loop layout k table vehicles stops q₀ q = pairsLeft (layout .stops) k q
 
 loop-holds : tie.Need-loop-holds Inv-loop μ-loop
 loop-holds c = (search needs, λ s. refl)

@@ -7,10 +7,10 @@ use Rattle.trial_list.proofs.listing.next_tip.Statement.{statement}
 use Rattle.trial_list.proofs.listing.next_tip.Tie as tie
 
 abbrev Inv-loop : tie.InvT-loop
-Inv-loop z starts count plan p₀ p = TipFits starts count p × Passed z starts plan count p₀ p
+Inv-loop layout starts count plan p₀ p = TipFits starts count p × Passed layout starts plan count p₀ p
 
 abbrev μ-loop : tie.MeasureT-loop
-μ-loop z starts count plan p₀ p = tipsLeft starts plan p
+μ-loop layout starts count plan p₀ p = tipsLeft starts plan p
 
 loop-holds : tie.Need-loop-holds Inv-loop μ-loop
 loop-holds c = (c .before .before .pre .1, λ s. refl)

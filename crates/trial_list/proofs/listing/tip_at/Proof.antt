@@ -35,11 +35,15 @@ tip-at-spec =
     (λ c κs. search needs)
     returns
     number-at-requires-3
+    (λ c. search needs)
     (λ c κs. search needs)
     (λ c κs. search needs)
     returns-2
+    (λ c. search needs)
     (λ c κs. search needs)
     (λ c κs. search needs)
     returns-3
+    (λ c. search needs)
+    (λ c. search needs)
     (λ c κs. search needs)
     returns-4)

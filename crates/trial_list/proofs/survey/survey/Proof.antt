@@ -9,10 +9,10 @@ use Rattle.trial_list.proofs.survey.survey.Statement.{statement}
 use Rattle.trial_list.proofs.survey.survey.Tie as tie
 
 abbrev Inv-loop : tie.InvT-loop
-Inv-loop day z plan starts₀ vehicles₀ distances₀ count₀ at₀ starts vehicles distances count at = Surveys day plan starts vehicles distances count at
+Inv-loop day layout plan starts₀ vehicles₀ distances₀ count₀ at₀ starts vehicles distances count at = Surveys day plan starts vehicles distances count at
 
 abbrev μ-loop : tie.MeasureT-loop
-μ-loop day z plan starts₀ vehicles₀ distances₀ count₀ at₀ starts vehicles distances count at = length plan - at
+μ-loop day layout plan starts₀ vehicles₀ distances₀ count₀ at₀ starts vehicles distances count at = length plan - at
 
 loop-holds : tie.Need-loop-holds Inv-loop μ-loop
 loop-holds c =

@@ -9,10 +9,10 @@ use Rattle.trial_list.proofs.survey.survey_vehicle.Statement.{statement
 use Rattle.trial_list.proofs.survey.survey_vehicle.Tie as tie
 
 abbrev Inv-loop : tie.InvT-loop
-Inv-loop day z plan from number vehicles₀ place₀ distance₀ at₀ vehicles place distance at = Rides day plan from number vehicles₀ vehicles at place distance
+Inv-loop day layout plan from number vehicles₀ place₀ distance₀ at₀ vehicles place distance at = Rides day plan from number vehicles₀ vehicles at place distance
 
 abbrev μ-loop : tie.MeasureT-loop
-μ-loop day z plan from number vehicles₀ place₀ distance₀ at₀ vehicles place distance at = length plan - at
+μ-loop day layout plan from number vehicles₀ place₀ distance₀ at₀ vehicles place distance at = length plan - at
 
 loop-holds : tie.Need-loop-holds Inv-loop μ-loop
 loop-holds c = let p = c .before .before .before .pre in rides-start (p .2) _ _ (p .4)

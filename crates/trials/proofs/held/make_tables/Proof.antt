@@ -5,10 +5,6 @@ use Rattle.trials.proofs.TakeOverLaws.{held-short, held-plan, held-surv
 use borrow.Author.Needs.{needs}
 use Rattle.trials.proofs.held.make_tables.Statement.{statement}
 use Rattle.trials.proofs.held.make_tables.Tie as tie
-use Rattle.trials.proofs.held.make_tables.Reads as reads
-use Rattle.trials.proofs.held.make_tables.Lts as lts
-use Rattle.tracks.proofs.tables.track.Reads as track-reads
-use Rattle.trial_list.proofs.survey.survey.Reads as survey-reads
 
 survey-requires : tie.Need-survey-requires
 survey-requires c κs = let p = c .before .before .before .before .before .before .before .before .before .before .pre .0 in ((p .0, held-short (p .1) (p .2), held-plan (p .1) (p .2)), (c .before .before .before .before .before .before .before .before .before .before .pre .1 .0, c .before .before .before .before .before .before .before .before .before .before .pre .1 .1, c .before .before .before .before .before .before .before .before .before .before .pre .1 .2))

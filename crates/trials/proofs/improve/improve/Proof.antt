@@ -6,11 +6,6 @@ use Rattle.trials.proofs.ImproveLaws.{improved}
 use borrow.Author.Needs.{needs}
 use Rattle.trials.proofs.improve.improve.Statement.{statement}
 use Rattle.trials.proofs.improve.improve.Tie as tie
-use Rattle.trials.proofs.improve.improve.Reads as reads
-use Rattle.trials.proofs.improve.improve.Lts as lts
-use Rattle.builder.proofs.lefts.fill_zeros.Reads as fill-zeros-reads
-use Rattle.neighbours.proofs.table.fill_table.Reads as fill-table-reads
-use Rattle.trials.proofs.search.run_trials.Reads as run-trials-reads
 
 fill-table-requires : tie.Need-fill-table-requires
 fill-table-requires c κs = let p = c .before .before .before .before .pre in (p .0, omega (arith, p .0 .stopsAre, accepted-ranges _ (p .1) .stopsMost), p .2, refl)

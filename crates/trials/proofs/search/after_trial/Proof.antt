@@ -5,11 +5,6 @@ use Rattle.trials.proofs.SearchSteps.{goes-on, kept-plan, keeps-plan}
 use borrow.Author.Needs.{needs}
 use Rattle.trials.proofs.search.after_trial.Statement.{statement}
 use Rattle.trials.proofs.search.after_trial.Tie as tie
-use Rattle.trials.proofs.search.after_trial.Reads as reads
-use Rattle.trials.proofs.search.after_trial.Lts as lts
-use Rattle.trial_list.proofs.listing.first_trial.Reads as first-trial-reads
-use Rattle.trials.proofs.search.going.Reads as going-reads
-use Rattle.trials.proofs.search.take_over.Reads as take-over-reads
 
 take-over-requires : tie.Need-take-over-requires
 take-over-requires c κs = let h = c .before .before .before .before .before .before .before .before .before .before .before .before .before .before .pre .4 in let v = h .held .surveyed in ((c .before .before .before .before .before .before .before .before .before .before .before .before .before .before .pre .0, c .before .before .before .before .before .before .before .before .before .before .before .before .before .before .pre .1, kept-plan h (c .before .before .before .before .before .before .if1 .taken), c .before .before .before .before .before .before .before .before .before .before .before .before .before .before .pre .2, c .before .before .before .before .before .before .before .before .before .before .before .before .before .before .pre .3), (v .startsSize, v .vehiclesSize, v .distancesSize, h .held .tracked .size))

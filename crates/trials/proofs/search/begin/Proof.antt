@@ -5,11 +5,6 @@ use Rattle.trials.proofs.TakeOverLaws.{some-held}
 use borrow.Author.Needs.{needs}
 use Rattle.trials.proofs.search.begin.Statement.{statement}
 use Rattle.trials.proofs.search.begin.Tie as tie
-use Rattle.trials.proofs.search.begin.Reads as reads
-use Rattle.trials.proofs.search.begin.Lts as lts
-use Rattle.trial_list.proofs.listing.first_trial.Reads as first-trial-reads
-use Rattle.trials.proofs.held.make_tables.Reads as make-tables-reads
-use Rattle.trials.proofs.search.going.Reads as going-reads
 
 make-tables-requires : tie.Need-make-tables-requires
 make-tables-requires c κs = let p = c .before .before .before .before .before .before .before .before .before .before .before .before .before .pre .0 in ((p .0, p .1, some-held (record { rounds = _; planAt = p .2 }), p .4), c .before .before .before .before .before .before .before .before .before .before .before .before .before .pre .1)

@@ -5,11 +5,6 @@ use Rattle.trials.proofs.SearchSteps.{held-tables, ends-settled, ends-s
 use borrow.Author.Needs.{needs}
 use Rattle.trials.proofs.search.next_step.Statement.{statement}
 use Rattle.trials.proofs.search.next_step.Tie as tie
-use Rattle.trials.proofs.search.next_step.Reads as reads
-use Rattle.trials.proofs.search.next_step.Lts as lts
-use Rattle.trials.proofs.search.end.Reads as end-reads
-use Rattle.trials.proofs.search.list_next.Reads as list-next-reads
-use Rattle.trials.proofs.search.step_on.Reads as step-on-reads
 
 list-next-requires : tie.Need-list-next-requires
 list-next-requires c κs = let p = c .before .before .before .before .before .before .before .before .before .before .before .pre .0 in let h = c .before .before .before .before .before .before .before .before .before .before .before .pre .1 .0 in (held-tables (p .0) (p .1) (p .2) (p .3) h, (h .going (c .before .before .before .before .before .before .before .before .before .before .before .pre .1 .1)) .fits, h .held .planAt .fits)

@@ -9,17 +9,12 @@ use Rattle.trials.specs.Searches.{Searching}
 use Rattle.trials.proofs.SearchSteps.{is-on, is-off, fewer-left}
 use Rattle.trials.proofs.search.run_trials.Statement.{statement}
 use Rattle.trials.proofs.search.run_trials.Tie as tie
-use Rattle.trials.proofs.search.run_trials.Reads as reads
-use Rattle.trials.proofs.search.run_trials.Lts as lts
-use Rattle.trials.proofs.search.begin.Reads as begin-reads
-use Rattle.trials.proofs.search.is_going.Reads as is-going-reads
-use Rattle.trials.proofs.search.next_step.Reads as next-step-reads
 
 abbrev Inv-loop : tie.InvT-loop
-Inv-loop day z set table work₀ plan₀ starts₀ vehicles₀ driven₀ tracks₀ s₀ work plan starts vehicles driven tracks s = Searching day (set .k) (set .budget) plan starts vehicles driven tracks s × (length plan ≡ length plan₀) × (length work ≡ length work₀)
+Inv-loop day layout set table work₀ plan₀ starts₀ vehicles₀ driven₀ tracks₀ s₀ work plan starts vehicles driven tracks s = Searching day (set .k) (set .budget) plan starts vehicles driven tracks s × (length plan ≡ length plan₀) × (length work ≡ length work₀)
 
 abbrev μ-loop : tie.MeasureT-loop
-μ-loop day z set table work₀ plan₀ starts₀ vehicles₀ driven₀ tracks₀ s₀ work plan starts vehicles driven tracks s = if s .ended then 0 else set .budget - s .made + 1
+μ-loop day layout set table work₀ plan₀ starts₀ vehicles₀ driven₀ tracks₀ s₀ work plan starts vehicles driven tracks s = if s .ended then 0 else set .budget - s .made + 1
 
 begin-requires : tie.Need-begin-requires Inv-loop μ-loop
 begin-requires c κs = ((c .before .before .before .before .before .before .before .before .before .before .before .before .before .before .pre .0 .0, c .before .before .before .before .before .before .before .before .before .before .before .before .before .before .pre .0 .1, c .before .before .before .before .before .before .before .before .before .before .before .before .before .before .pre .1 .0 .0, c .before .before .before .before .before .before .before .before .before .before .before .before .before .before .pre .1 .0 .1, c .before .before .before .before .before .before .before .before .before .before .before .before .before .before .pre .0 .4), c .before .before .before .before .before .before .before .before .before .before .before .before .before .before .pre .1 .1)

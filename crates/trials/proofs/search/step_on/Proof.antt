@@ -4,10 +4,6 @@ use Rattle.trials.proofs.SearchSteps.{trial-names, some-made, after-mad
 use borrow.Author.Needs.{needs}
 use Rattle.trials.proofs.search.step_on.Statement.{statement}
 use Rattle.trials.proofs.search.step_on.Tie as tie
-use Rattle.trials.proofs.search.step_on.Reads as reads
-use Rattle.trials.proofs.search.step_on.Lts as lts
-use Rattle.trials.proofs.search.after_trial.Reads as after-trial-reads
-use Rattle.trials.proofs.search.try_next.Reads as try-next-reads
 
 try-next-requires : tie.Need-try-next-requires
 try-next-requires c κs = let n = trial-names (c .before .before .before .before .before .before .before .before .before .before .before .before .before .before .pre .1) (c .before .before .before .before .before .before .before .before .before .before .before .before .before .before .pre .4) in (c .before .before .before .before .before .before .before .before .before .before .before .before .before .before .pre .0, c .before .before .before .before .before .before .before .before .before .before .before .before .before .before .pre .1, n .small, n .known, some-made (c .before .before .before .before .before .before .before .before .before .before .before .before .before .before .pre .1) (c .before .before .before .before .before .before .before .before .before .before .before .before .before .before .pre .4), c .before .before .before .before .before .before .before .before .before .before .before .before .before .before .pre .2, c .before .before .before .before .before .before .before .before .before .before .before .before .before .before .pre .4 .held .planAt .fits)

@@ -5,10 +5,6 @@ use Rattle.trials.proofs.TakeOverLaws.{slice-size, words-most, copied, 
 use borrow.Author.Needs.{needs}
 use Rattle.trials.proofs.search.take_over.Statement.{statement}
 use Rattle.trials.proofs.search.take_over.Tie as tie
-use Rattle.trials.proofs.search.take_over.Reads as reads
-use Rattle.trials.proofs.search.take_over.Lts as lts
-use Rattle.attempts.proofs.candidate.copy_words.Reads as copy-words-reads
-use Rattle.trials.proofs.held.make_tables.Reads as make-tables-reads
 
 copy-words-requires : tie.Need-copy-words-requires
 copy-words-requires c κs = let s = c .before .before .before .before .before .before .before .before .before .before .pre .0 .2 in omega (arith, slice-size (s .planAt), words-most (s .planAt), room-is (c .before .before .before .before .before .before .before .before .before .before .pre .0 .0) (c .before .before .before .before .before .before .before .before .before .before .pre .0 .3))

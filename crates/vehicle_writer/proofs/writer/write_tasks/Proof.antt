@@ -4,16 +4,17 @@ use borrow.Author.Needs.{needs}
 use lib.ListN.{length-set}
 use mathlib.Core.Path.{sym, _∙_}
 use native.Mathlib.Omega.{arith}
+use Rattle.rules.specs.PlanWords.{backWord}
 use Rattle.vehicle_writer.proofs.GoingLaws.{some-few, still-going, end-space, end-few, going-end}
 use Rattle.vehicle_writer.specs.Going.{GoesOn}
 use Rattle.vehicle_writer.proofs.writer.write_tasks.Statement.{statement}
 use Rattle.vehicle_writer.proofs.writer.write_tasks.Tie as tie
 
 abbrev Inv-loop : tie.InvT-loop
-Inv-loop day z part₀ from s₀ next₀ at₀ part s next at = GoesOn day z part₀ at₀ s₀ next₀ part at s next
+Inv-loop day layout part₀ from s₀ next₀ at₀ part s next at = GoesOn day layout part₀ at₀ s₀ next₀ part at s next
 
 abbrev μ-loop : tie.MeasureT-loop
-μ-loop day z part₀ from s₀ next₀ at₀ part s next at = 1280 - at
+μ-loop day layout part₀ from s₀ next₀ at₀ part s next at = 1280 - at
 
 loop-holds : tie.Need-loop-holds Inv-loop μ-loop
 loop-holds c = λ before number p g. g
@@ -40,7 +41,7 @@ same-length : tie.Need-same-length Inv-loop μ-loop
 same-length c =
     let old = c .before .before .before .before .before .before .pre .1 .going in
     let g = c .before .before .before .loop .inv _ _ _ old in
-    length-set (c .before .before .before .loop .part) (c .before .before .before .loop .at) 3758096384 ∙ g .text .size ∙ sym (old .text .size)
+    length-set (c .before .before .before .loop .part) (c .before .before .before .loop .at) backWord ∙ g .text .size ∙ sym (old .text .size)
 
 returns : tie.Need-returns Inv-loop μ-loop
 returns c = λ before number p g. going-end (c .before .before .before .loop .inv before number p g) (sym (c .before .before .is-task .ensures) ∙ c .before .if1 .left) (end-space (still-going (c .before .before .before .before .before .before .pre .1) (c .before .before .before .loop .inv)))

@@ -4,6 +4,7 @@ use borrow.Author.Needs.{needs}
 use lib.ListN.{length-set}
 use mathlib.Core.Path.{refl, sym, _∙_}
 use native.Mathlib.Omega.{arith}
+use Rattle.rules.specs.PlanWords.{vehicleWord}
 use Rattle.vehicle_writer.proofs.SettingOut.{out-first, out-space, out-going, first-some, first-none, first-going, written-some, written-none}
 use Rattle.vehicle_writer.proofs.writer.write_vehicle.Statement.{statement}
 use Rattle.vehicle_writer.proofs.writer.write_vehicle.Tie as tie
@@ -15,7 +16,7 @@ write-rest-requires : tie.Need-write-rest-requires
 write-rest-requires c κs =
     let p = c .before .before .before .before .before .before .before .before .before .pre in
     let space = out-space (out-first (c .before .before .before .before .set-out .ensures) (c .before .before .before .before .before .before .fresh-state .ensures .2)) (p .2) (sym (c .before .before .before .is-task .ensures) ∙ c .before .before .if1 .taken) in
-    (p .0, omega (arith, length-set (c .before .before .before .before .before .before .before .before .before .args .part .now) 0 (2684354560 + c .before .before .before .before .before .before .before .before .before .args .number)))
+    (p .0, omega (arith, length-set (c .before .before .before .before .before .before .before .before .before .args .part .now) 0 ((vehicleWord 0) + c .before .before .before .before .before .before .before .before .before .args .number)))
 
 write-tasks-requires : tie.Need-write-tasks-requires
 write-tasks-requires c κs =

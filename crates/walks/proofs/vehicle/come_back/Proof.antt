@@ -7,11 +7,6 @@ use Rattle.walks.proofs.WalkLaws.{some-served}
 use borrow.Author.Needs.{needs}
 use Rattle.walks.proofs.vehicle.come_back.Statement.{statement}
 use Rattle.walks.proofs.vehicle.come_back.Tie as tie
-use Rattle.walks.proofs.vehicle.come_back.Reads as reads
-use Rattle.walks.proofs.vehicle.come_back.Lts as lts
-use Rattle.day.proofs.fields.leg_between.Reads as leg-between-reads
-use Rattle.walks.proofs.cabs.walk_home.Reads as walk-home-reads
-use Rattle.walks.proofs.vehicle.failed.Reads as failed-reads
 
 returns : tie.Need-returns
 returns c = back-failed _ (c .before .if1 .taken) (c .failed .ensures)

@@ -14,10 +14,10 @@ use Rattle.walks.proofs.vehicle.walk_tasks.Statement.{statement}
 use Rattle.walks.proofs.vehicle.walk_tasks.Tie as tie
 
 abbrev Inv-loop : tie.InvT-loop
-Inv-loop day z e number tasks part₀ c₀ waiting₀ i₀ part c waiting i = (i ≤ length tasks) × ((p : List ℕ) (ts : Round) → Wrote (vehicleWord number ∷ []) p part₀ 1 → Walkable day (editOf e) tasks p ts → Midway day (editOf e) (atDepot number) p part ts i waiting c)
+Inv-loop day layout e number tasks part₀ c₀ waiting₀ i₀ part c waiting i = (i ≤ length tasks) × ((p : List ℕ) (ts : Round) → Wrote (vehicleWord number ∷ []) p part₀ 1 → Walkable day (editOf e) tasks p ts → Midway day (editOf e) (atDepot number) p part ts i waiting c)
 
 abbrev μ-loop : tie.MeasureT-loop
-μ-loop day z e number tasks part₀ c₀ waiting₀ i₀ part c waiting i = 2 * length tasks + 2 - steps i waiting
+μ-loop day layout e number tasks part₀ c₀ waiting₀ i₀ part c waiting i = 2 * length tasks + 2 - steps i waiting
 
 add-part : tie.Need-add-part Inv-loop μ-loop
 add-part c = omega (arith, c .before .before .before .pre .4)

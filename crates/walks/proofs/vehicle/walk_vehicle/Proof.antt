@@ -5,10 +5,6 @@ use Rattle.walks.proofs.HomeLaws.{walked-failed, back-room, walked-back
 use borrow.Author.Needs.{needs}
 use Rattle.walks.proofs.vehicle.walk_vehicle.Statement.{statement}
 use Rattle.walks.proofs.vehicle.walk_vehicle.Tie as tie
-use Rattle.walks.proofs.vehicle.walk_vehicle.Reads as reads
-use Rattle.walks.proofs.vehicle.walk_vehicle.Lts as lts
-use Rattle.walks.proofs.vehicle.come_back.Reads as come-back-reads
-use Rattle.walks.proofs.vehicle.walk_tasks.Reads as walk-tasks-reads
 
 come-back-requires : tie.Need-come-back-requires
 come-back-requires c κs = let s = c .before .before .before .before .before .before .before .before .pre .5 in (c .before .before .before .before .before .before .before .before .pre .0, c .before .before .before .before .before .before .before .before .pre .1, record { start = _; most = _; p = _; o = _; stands = c .before .before .before .walk-tasks .ensures (s .tasks) (s .walkable) .stands })

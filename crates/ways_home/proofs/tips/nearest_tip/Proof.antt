@@ -10,10 +10,10 @@ use Rattle.ways_home.proofs.tips.nearest_tip.Statement.{statement}
 use Rattle.ways_home.proofs.tips.nearest_tip.Tie as tie
 
 abbrev Inv-loop : tie.InvT-loop
-Inv-loop day z place minute tips best₀ k₀ best k = (k ≤ tips) × (best ≤ k) × (best ≡ least (openTip day place minute) (legMinutes day place) k)
+Inv-loop day layout place minute tips best₀ k₀ best k = (k ≤ tips) × (best ≤ k) × (best ≡ least (openTip day place minute) (legMinutes day place) k)
 
 abbrev μ-loop : tie.MeasureT-loop
-μ-loop day z place minute tips best₀ k₀ best k = tips - k
+μ-loop day layout place minute tips best₀ k₀ best k = tips - k
 
 loop-holds : tie.Need-loop-holds Inv-loop μ-loop
 loop-holds c = (search needs, search needs, tips-none _ _ _)

@@ -1,8 +1,8 @@
--- `day_words::words::window_fault` meets its contract.
+-- `day_faults::words::window_fault` meets its contract.
 use borrow.Author.Needs.{needs}
 use Rattle.day.proofs.WordFaults.{window-kind, window-backward, window-late, window-right}
-use Rattle.day_words.proofs.words.window_fault.Statement.{statement}
-use Rattle.day_words.proofs.words.window_fault.Tie as tie
+use Rattle.day_faults.proofs.words.window_fault.Statement.{statement}
+use Rattle.day_faults.proofs.words.window_fault.Tie as tie
 
 returns : tie.Need-returns
 returns c = search window-kind

@@ -1,7 +1,7 @@
--- `day_words::words::leg_fault` meets its contract.
+-- `day_faults::words::leg_fault` meets its contract.
 use Rattle.day.proofs.WordFaults.{leg-kind, leg-long, leg-right}
-use Rattle.day_words.proofs.words.leg_fault.Statement.{statement}
-use Rattle.day_words.proofs.words.leg_fault.Tie as tie
+use Rattle.day_faults.proofs.words.leg_fault.Statement.{statement}
+use Rattle.day_faults.proofs.words.leg_fault.Tie as tie
 
 returns : tie.Need-returns
 returns c = search leg-kind

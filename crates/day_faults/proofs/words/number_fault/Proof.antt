@@ -1,8 +1,8 @@
--- `day_words::words::number_fault` meets its contract.
+-- `day_faults::words::number_fault` meets its contract.
 use borrow.Author.Needs.{needs}
 use Rattle.day.proofs.WordFaults.{lone-kind, lone-low, lone-high, lone-right}
-use Rattle.day_words.proofs.words.number_fault.Statement.{statement}
-use Rattle.day_words.proofs.words.number_fault.Tie as tie
+use Rattle.day_faults.proofs.words.number_fault.Statement.{statement}
+use Rattle.day_faults.proofs.words.number_fault.Tie as tie
 
 returns : tie.Need-returns
 returns c = search lone-kind

@@ -1,7 +1,7 @@
--- `day_words::words::stay_fault` meets its contract.
+-- `day_faults::words::stay_fault` meets its contract.
 use Rattle.day.proofs.WordFaults.{stay-kind, stay-moves, stay-right}
-use Rattle.day_words.proofs.words.stay_fault.Statement.{statement}
-use Rattle.day_words.proofs.words.stay_fault.Tie as tie
+use Rattle.day_faults.proofs.words.stay_fault.Statement.{statement}
+use Rattle.day_faults.proofs.words.stay_fault.Tie as tie
 
 returns : tie.Need-returns
 returns c = search stay-kind

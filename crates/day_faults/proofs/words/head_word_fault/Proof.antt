@@ -1,10 +1,10 @@
--- `day_words::words::head_word_fault` meets its contract.
+-- `day_faults::words::head_word_fault` meets its contract.
 use borrow.Author.Needs.{needs}
 use Rattle.rules.specs.DayFile.{headForm}
 use Rattle.laws.proofs.Tests.{branches}
 use Rattle.day.proofs.WordFaults.{form-fault}
-use Rattle.day_words.proofs.words.head_word_fault.Statement.{statement}
-use Rattle.day_words.proofs.words.head_word_fault.Tie as tie
+use Rattle.day_faults.proofs.words.head_word_fault.Statement.{statement}
+use Rattle.day_faults.proofs.words.head_word_fault.Tie as tie
 
 returns : tie.Need-returns
 unfolding headForm

@@ -1,9 +1,9 @@
--- `day_words::words::leg_word_fault` meets its contract.
+-- `day_faults::words::leg_word_fault` meets its contract.
 use borrow.Author.Needs.{needs}
 use Rattle.laws.proofs.Tests.{branches}
 use Rattle.day.proofs.WordFaults.{form-fault}
-use Rattle.day_words.proofs.words.leg_word_fault.Statement.{statement}
-use Rattle.day_words.proofs.words.leg_word_fault.Tie as tie
+use Rattle.day_faults.proofs.words.leg_word_fault.Statement.{statement}
+use Rattle.day_faults.proofs.words.leg_word_fault.Tie as tie
 
 returns : tie.Need-returns
 returns c = search (form-fault, branches)

@@ -1,2 +1,0 @@
-// What is wrong with one word of a day.
-pub mod words;
