@@ -8,7 +8,8 @@ use std::process::{Command, Stdio};
 use crate::page::{blocks, links, read, Block, ROOT};
 use crate::scratch::Scratch;
 
-const PAGES: [&str; 8] = [
+pub const PAGES: [&str; 10] = [
+    "CONTRIBUTING.md",
     "README.md",
     "docs/DECISIONS.md",
     "docs/FORMAT.md",
@@ -16,6 +17,7 @@ const PAGES: [&str; 8] = [
     "docs/INTEGRATE.md",
     "docs/NEXT.md",
     "docs/PROMISES.md",
+    "docs/changes/rules.md",
     "examples/README.md",
 ];
 

@@ -3,6 +3,7 @@
 
 mod calls;
 mod day_m;
+mod documents;
 mod forms;
 mod guides;
 mod help;
