@@ -55,6 +55,20 @@ module _ (k : ℕ) (h : k < 256) where
   pub left-form : wordOf (leftWord k) ≡ left k
   left-form = left-read (leftWord k) (omega arith) ∙ ap left (omega arith)
 
+-- and what it says once the code has made it
+module _ (k : ℕ) {word : ℕ} (h : k < 256) where
+  pub vehicle-made : word ≡ vehicleWord k → wordOf word ≡ vehicle k
+  vehicle-made e = ap wordOf e ∙ vehicle-form k h
+
+  pub stop-made : word ≡ stopWord k → wordOf word ≡ stop k
+  stop-made e = ap wordOf e ∙ stop-form k h
+
+  pub tip-made : word ≡ tipWord k → wordOf word ≡ tip k
+  tip-made e = ap wordOf e ∙ tip-form k h
+
+  pub left-made : word ≡ leftWord k → wordOf word ≡ left k
+  left-made e = ap wordOf e ∙ left-form k h
+
 pub rest-form : wordOf restWord ≡ rest
 rest-form = rest-read restWord refl
 
