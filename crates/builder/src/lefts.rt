@@ -8,7 +8,7 @@ ghost use Rattle.builder.specs.Lefts.{LeavesAll};
 use marks::Marks;
 use marks::lowest;
 use marks::unmark;
-use plan_words::LEFT;
+use plan_words::left_word;
 
 // The F words of the stops still to be routed, rising, from place `from` on; how many words there are then.
 pub fn write_lefts(left: Marks, part: &mut [u32], from: usize) -> usize
@@ -20,7 +20,7 @@ pub fn write_lefts(left: Marks, part: &mut [u32], from: usize) -> usize
     let mut at = from;
     let mut k = lowest(m);
     while k < 256 {
-        part[at] = LEFT + (k as u32);
+        part[at] = left_word(k);
         m = unmark(m, k);
         k = lowest(m);
         at += 1;

@@ -8,12 +8,14 @@ use Rattle.rules.specs.Lists.{Every}
 use Rattle.rules.specs.PlanWords.{Word, vehicle, stop, tip, rest, back, left, stray, numberOf}
 use Rattle.rules.specs.PlanWords.{vehicleWord, stopWord, tipWord, restWord, backWord, leftWord, wordOf, readPlan}
 use Rattle.rules.specs.Plan.{Task, serve, empty, lunch, Round, taskWord, wordFor, roundWords, roundsWords, planWords}
-use Rattle.plan_words.specs.Said.{says}
+use Rattle.laws.specs.Buffer.{Wrote}
+use Rattle.laws.proofs.Buffer.{wrote-same}
+use Rattle.plan_words.specs.Said.{says, Said}
 use Rattle.plan_words.proofs.WordForms.{Apart, isVehicle, isStop, isTip, isRest, isBack, isLeft, isStray, apart}
 use Rattle.plan_words.proofs.WordForms.{vehicle-read, stop-read, tip-read, left-read}
 
 -- the word that says this; no word of a plan is stray
-unfoldable pub saying : Word → ℕ
+unfoldable saying : Word → ℕ
 saying (vehicle k) = vehicleWord k
 saying (stop k) = stopWord k
 saying (tip k) = tipWord k
@@ -22,7 +24,7 @@ saying back = backWord
 saying (left k) = leftWord k
 saying stray = 0
 
-unfoldable pub Kept : Word → Type 0
+unfoldable Kept : Word → Type 0
 Kept (vehicle k) = Unit {0}
 Kept (stop k) = Unit {0}
 Kept (tip k) = Unit {0}
@@ -46,11 +48,11 @@ once w is (isLeft k h kind e) u = omega (arith, known-word w k left (λ i j q. c
 once w is (isStray r) u = absurd u
 
 -- a word is known by what it says
-pub said-once : (w : ℕ) → Kept (wordOf w) → w ≡ saying (wordOf w)
+said-once : (w : ℕ) → Kept (wordOf w) → w ≡ saying (wordOf w)
 said-once w = once w (wordOf w) (apart w)
 
 -- and so are the words of a list
-pub said-all : (ws : List ℕ) → Every Kept (readPlan ws) → ws ≡ map saying (readPlan ws)
+said-all : (ws : List ℕ) → Every Kept (readPlan ws) → ws ≡ map saying (readPlan ws)
 unfolding Every
 said-all [] h = refl
 said-all (w ∷ ws) h = ap₂ (λ (x : ℕ) (xs : List ℕ). x ∷ xs) (said-once w (h .0)) (said-all ws (h .1))
@@ -103,6 +105,9 @@ says-saying from (tasks ∷ rounds) lefts =
     ∙ sym (append-assoc (map taskWord tasks ++ (backWord ∷ [])) (roundsWords (suc from) rounds) (map leftWord lefts)))
 
 -- words that say what a plan says are the plan's
-pub plan-said : (ws : List ℕ) (rounds : List Round) (lefts : List ℕ) → readPlan ws ≡ says 0 rounds lefts → ws ≡ planWords rounds lefts
+plan-said : (ws : List ℕ) (rounds : List Round) (lefts : List ℕ) → readPlan ws ≡ says 0 rounds lefts → ws ≡ planWords rounds lefts
 unfolding planWords
 plan-said ws rounds lefts e = said-all ws (rw e (says-kept 0 rounds lefts)) ∙ ap (map saying) e ∙ says-saying 0 rounds lefts
+
+pub plan-wrote : (rounds : List Round) (lefts : List ℕ) {p part : List ℕ} {n : ℕ} → Said (says 0 rounds lefts) p part n → Wrote (planWords rounds lefts) p part n
+plan-wrote rounds lefts s = wrote-same (s .text) (plan-said (s .words) rounds lefts (s .reads)) refl

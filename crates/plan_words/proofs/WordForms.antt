@@ -6,7 +6,8 @@ use mathlib.Core.Logic.{inl, inr}
 use native.Mathlib.Omega.{arith}
 use lib.Dec.{eqb}
 use borrow.Author.Tests.{eq-eqb, ne-eqb, eqb-true}
-use Rattle.rules.specs.PlanWords.{Word, vehicle, stop, tip, rest, back, left, stray, kindOf, numberOf, vehicleKind, stopKind, tipKind, leftKind, vehicleWord, stopWord, tipWord, restWord, backWord, leftWord, wordOf, sameWord}
+use Rattle.rules.specs.PlanWords.{Word, vehicle, stop, tip, rest, back, left, stray, kindOf, numberOf, vehicleKind, stopKind, tipKind, leftKind}
+use Rattle.rules.specs.PlanWords.{vehicleWord, stopWord, tipWord, restWord, backWord, leftWord, wordOf, sameWord}
 use Rattle.laws.proofs.Decided.{known}
 use Rattle.plan_words.specs.Indexes.{IndexFrom}
 
