@@ -17,9 +17,9 @@ pub fn write_vehicles(day: &[u32], layout: Layout, plan: &mut [u32]) -> Written
     let mut number = 0;
     let mut words = 1;
     while words != 0 {
-        let w = write_vehicle(day, layout, left, number + 1, &mut plan[at..]);
-        left = w.left;
-        words = w.words;
+        let written = write_vehicle(day, layout, left, number + 1, &mut plan[at..]);
+        left = written.left;
+        words = written.words;
         at += words;
         number += 1;
     }

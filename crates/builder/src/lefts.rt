@@ -16,13 +16,13 @@ pub fn write_lefts(left: Marks, part: &mut [u32], from: usize) -> usize
     ensures count { λ r. ⌜ r ≤ from + onesOf (left .words) ⌝ }
     ensures text { λ r. ⌜ LeavesAll (now (part .entry)) from left (now (part .exit)) r ⌝ }
 {
-    let mut m = left;
+    let mut others = left;
     let mut at = from;
-    let mut k = lowest(m);
-    while k < 256 {
-        part[at] = left_word(k);
-        m = unmark(m, k);
-        k = lowest(m);
+    let mut stop = lowest(others);
+    while stop < 256 {
+        part[at] = left_word(stop);
+        others = unmark(others, stop);
+        stop = lowest(others);
         at += 1;
     }
     at

@@ -1,10 +1,10 @@
--- A word is known by what it says, and so is a plan. A word that carried more than kind and number would be known by these and by what else
--- it carries: only this file would tell. Assumes nothing.
+-- A word is known by what it says, and so is a plan. Where words carry more than kind and number, these laws need that too, and no other law
+-- does. Assumes nothing.
 use Prim.Native.Nat.{ℕ, suc}
-use mathlib.Core.Path.{_≡_, refl, sym, ap, ap₂, _∙_}
-use mathlib.Core.List.{List, [], _∷_, _++_, map, append-assoc}
+use mathlib.Core.Path.{_≡_, refl, sym, ap, ap₂, _∙_, subst}
+use mathlib.Core.List.{List, [], _∷_, _++_, map, append-assoc, nil≢cons, head-eq-of-cons-eq, tail-eq-of-cons-eq}
+use mathlib.Core.Option.{Option, none, some, Option·some-ne-none, Option·some-injective}
 use native.Mathlib.Omega.{arith}
-use Rattle.rules.specs.Lists.{Every}
 use Rattle.rules.specs.PlanWords.{Word, vehicle, stop, tip, rest, back, left, stray, numberOf}
 use Rattle.rules.specs.PlanWords.{vehicleWord, stopWord, tipWord, restWord, backWord, leftWord, wordOf, readPlan}
 use Rattle.rules.specs.Plan.{Task, serve, empty, lunch, Round, taskWord, wordFor, roundWords, roundsWords, planWords}
@@ -14,100 +14,74 @@ use Rattle.plan_words.specs.Said.{says, Said}
 use Rattle.plan_words.proofs.WordForms.{Apart, isVehicle, isStop, isTip, isRest, isBack, isLeft, isStray, apart}
 use Rattle.plan_words.proofs.WordForms.{vehicle-read, stop-read, tip-read, left-read}
 
--- the word that says this; no word of a plan is stray
-unfoldable saying : Word → ℕ
-saying (vehicle k) = vehicleWord k
-saying (stop k) = stopWord k
-saying (tip k) = tipWord k
-saying rest = restWord
-saying back = backWord
-saying (left k) = leftWord k
-saying stray = 0
+-- the one word that says this; of a stray word there is no telling
+unfoldable saying : Word → Option ℕ
+saying (vehicle k) = some (vehicleWord k)
+saying (stop k) = some (stopWord k)
+saying (tip k) = some (tipWord k)
+saying rest = some restWord
+saying back = some backWord
+saying (left k) = some (leftWord k)
+saying stray = none
 
-unfoldable Kept : Word → Type 0
-Kept (vehicle k) = Unit {0}
-Kept (stop k) = Unit {0}
-Kept (tip k) = Unit {0}
-Kept rest = Unit {0}
-Kept back = Unit {0}
-Kept (left k) = Unit {0}
-Kept stray = ⊥
+-- a word of a kind is known by its number
+by-number : (w k v : ℕ) (kind : ℕ → Word) → ((i j : ℕ) → kind i ≡ kind j → i ≡ j) → (word : ℕ → ℕ) → w ≡ word (numberOf w)
+    → wordOf w ≡ kind (numberOf w) → wordOf w ≡ kind k → some (word k) ≡ some v → w ≡ v
+by-number w k v kind same word whole r e u = whole ∙ ap word (same (numberOf w) k (sym r ∙ e)) ∙ Option·some-injective _ _ u
 
--- a word by its kind, and by its number as it is said
-known-word : (w k : ℕ) (kind : ℕ → Word) → ((i j : ℕ) → kind i ≡ kind j → i ≡ j) → wordOf w ≡ kind (numberOf w) → wordOf w ≡ kind k → numberOf w ≡ k
-known-word w k kind same r e = same (numberOf w) k (sym r ∙ e)
-
-once : (w : ℕ) (is : Word) → Apart w is → Kept is → w ≡ saying is
-unfolding saying Kept
-once w is (isVehicle k h kind e) u = omega (arith, known-word w k vehicle (λ i j q. cc) (vehicle-read w kind) e)
-once w is (isStop k h kind e) u = omega (arith, known-word w k stop (λ i j q. cc) (stop-read w kind) e)
-once w is (isTip k h kind e) u = omega (arith, known-word w k tip (λ i j q. cc) (tip-read w kind) e)
-once w is (isRest e r) u = e
-once w is (isBack e r) u = e
-once w is (isLeft k h kind e) u = omega (arith, known-word w k left (λ i j q. cc) (left-read w kind) e)
-once w is (isStray r) u = absurd u
+once : (w v : ℕ) (is : Word) → Apart w is → saying is ≡ some v → w ≡ v
+unfolding saying
+once w v is (isVehicle k h kind e) u = by-number w k v vehicle (λ i j q. cc) vehicleWord (omega arith) (vehicle-read w kind) e u
+once w v is (isStop k h kind e) u = by-number w k v stop (λ i j q. cc) stopWord (omega arith) (stop-read w kind) e u
+once w v is (isTip k h kind e) u = by-number w k v tip (λ i j q. cc) tipWord (omega arith) (tip-read w kind) e u
+once w v is (isRest e r) u = e ∙ Option·some-injective _ _ u
+once w v is (isBack e r) u = e ∙ Option·some-injective _ _ u
+once w v is (isLeft k h kind e) u = by-number w k v left (λ i j q. cc) leftWord (omega arith) (left-read w kind) e u
+once w v is (isStray r) u = absurd (Option·some-ne-none v (sym u))
 
 -- a word is known by what it says
-said-once : (w : ℕ) → Kept (wordOf w) → w ≡ saying (wordOf w)
-said-once w = once w (wordOf w) (apart w)
+said-once : (w v : ℕ) (is : Word) → saying is ≡ some v → wordOf w ≡ is → w ≡ v
+said-once w v is u e = once w v is (subst (Apart w) e (apart w)) u
 
--- and so are the words of a list
-said-all : (ws : List ℕ) → Every Kept (readPlan ws) → ws ≡ map saying (readPlan ws)
-unfolding Every
-said-all [] h = refl
-said-all (w ∷ ws) h = ap₂ (λ (x : ℕ) (xs : List ℕ). x ∷ xs) (said-once w (h .0)) (said-all ws (h .1))
+-- words that say all this are these
+abbrev Are : List Word → List ℕ → Type 0
+Are what ws = (vs : List ℕ) → readPlan vs ≡ what → vs ≡ ws
 
--- no word of a plan is stray, and each says its task, its vehicle or its stop
-task-kept : (task : Task) → Kept (wordFor task)
-unfolding Kept
-task-kept (serve k) = tt
-task-kept (empty k) = tt
-task-kept lunch = tt
+are-none : Are [] []
+are-none [] e = refl
+are-none (v ∷ vs) e = absurd (nil≢cons (sym e))
 
-task-saying : (task : Task) → saying (wordFor task) ≡ taskWord task
+are-next : (is : Word) (w : ℕ) (what : List Word) (ws : List ℕ) → saying is ≡ some w → Are what ws → Are (is ∷ what) (w ∷ ws)
+are-next is w what ws u others [] e = absurd (nil≢cons e)
+are-next is w what ws u others (v ∷ vs) e =
+    ap₂ (λ (x : ℕ) (xs : List ℕ). x ∷ xs) (said-once v w is u (head-eq-of-cons-eq e)) (others vs (tail-eq-of-cons-eq e))
+
+lefts-are : (lefts : List ℕ) → Are (map left lefts) (map leftWord lefts)
+unfolding saying
+lefts-are [] = are-none
+lefts-are (k ∷ lefts) = are-next (left k) (leftWord k) _ _ refl (lefts-are lefts)
+
+task-is : (task : Task) (what : List Word) (ws : List ℕ) → Are what ws → Are (wordFor task ∷ what) (taskWord task ∷ ws)
 unfolding saying taskWord
-task-saying (serve k) = refl
-task-saying (empty k) = refl
-task-saying lunch = refl
+task-is (serve k) what ws = are-next (stop k) (stopWord k) what ws refl
+task-is (empty k) what ws = are-next (tip k) (tipWord k) what ws refl
+task-is lunch what ws = are-next rest restWord what ws refl
 
-lefts-kept : (lefts : List ℕ) → Every Kept (map left lefts)
-unfolding Every Kept
-lefts-kept [] = tt
-lefts-kept (k ∷ lefts) = (tt, lefts-kept lefts)
-
-lefts-saying : (lefts : List ℕ) → map saying (map left lefts) ≡ map leftWord lefts
+tasks-are : (tasks : Round) (what : List Word) (ws : List ℕ) → Are what ws
+    → Are (map wordFor tasks ++ (back ∷ what)) ((map taskWord tasks ++ (backWord ∷ [])) ++ ws)
 unfolding saying
-lefts-saying [] = refl
-lefts-saying (k ∷ lefts) = ap (λ (xs : List ℕ). leftWord k ∷ xs) (lefts-saying lefts)
+tasks-are [] what ws h = are-next back backWord what ws refl h
+tasks-are (task ∷ tasks) what ws h = task-is task _ _ (tasks-are tasks what ws h)
 
-tasks-kept : (tasks : Round) (ws : List Word) → Every Kept ws → Every Kept (map wordFor tasks ++ (back ∷ ws))
-unfolding Every Kept
-tasks-kept [] ws h = (tt, h)
-tasks-kept (task ∷ tasks) ws h = (task-kept task, tasks-kept tasks ws h)
-
-tasks-saying : (tasks : Round) (ws : List Word) → map saying (map wordFor tasks ++ (back ∷ ws)) ≡ (map taskWord tasks ++ (backWord ∷ [])) ++ map saying ws
-unfolding saying
-tasks-saying [] ws = refl
-tasks-saying (task ∷ tasks) ws = ap₂ (λ (x : ℕ) (xs : List ℕ). x ∷ xs) (task-saying task) (tasks-saying tasks ws)
-
-says-kept : (from : ℕ) (rounds : List Round) (lefts : List ℕ) → Every Kept (says from rounds lefts)
-unfolding says Every Kept
-says-kept from [] lefts = lefts-kept lefts
-says-kept from (tasks ∷ rounds) lefts = (tt, tasks-kept tasks _ (says-kept (suc from) rounds lefts))
-
-says-saying : (from : ℕ) (rounds : List Round) (lefts : List ℕ) → map saying (says from rounds lefts) ≡ roundsWords from rounds ++ map leftWord lefts
+says-are : (from : ℕ) (rounds : List Round) (lefts : List ℕ) → Are (says from rounds lefts) (roundsWords from rounds ++ map leftWord lefts)
 unfolding says saying roundsWords roundWords
-says-saying from [] lefts = lefts-saying lefts
-says-saying from (tasks ∷ rounds) lefts =
-    ap (λ (xs : List ℕ). vehicleWord (suc from) ∷ xs)
-    (tasks-saying tasks (says (suc from) rounds lefts)
-    ∙ ap (λ (xs : List ℕ). (map taskWord tasks ++ (backWord ∷ [])) ++ xs) (says-saying (suc from) rounds lefts)
-    ∙ sym (append-assoc (map taskWord tasks ++ (backWord ∷ [])) (roundsWords (suc from) rounds) (map leftWord lefts)))
+says-are from [] lefts = lefts-are lefts
+says-are from (tasks ∷ rounds) lefts =
+    let words = map taskWord tasks ++ (backWord ∷ []) in
+    rw (append-assoc words (roundsWords (suc from) rounds) (map leftWord lefts))
+    (are-next (vehicle (suc from)) (vehicleWord (suc from)) _ _ refl (tasks-are tasks _ _ (says-are (suc from) rounds lefts)))
 
 -- words that say what a plan says are the plan's
-plan-said : (ws : List ℕ) (rounds : List Round) (lefts : List ℕ) → readPlan ws ≡ says 0 rounds lefts → ws ≡ planWords rounds lefts
-unfolding planWords
-plan-said ws rounds lefts e = said-all ws (rw e (says-kept 0 rounds lefts)) ∙ ap (map saying) e ∙ says-saying 0 rounds lefts
-
 pub plan-wrote : (rounds : List Round) (lefts : List ℕ) {p part : List ℕ} {n : ℕ} → Said (says 0 rounds lefts) p part n → Wrote (planWords rounds lefts) p part n
-plan-wrote rounds lefts s = wrote-same (s .text) (plan-said (s .words) rounds lefts (s .reads)) refl
+unfolding planWords
+plan-wrote rounds lefts s = wrote-same (s .text) (says-are 0 rounds lefts (s .words) (s .reads)) refl

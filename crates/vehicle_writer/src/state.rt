@@ -59,70 +59,70 @@ fn fresh_state(day: &[u32], layout: Layout, left: Marks) -> State
     }
 }
 
-// Stop k is served.
-fn serve_stop(day: &[u32], layout: Layout, s: State, k: usize) -> State
-    requires { ⌜ SmallState (now day) layout s × (0 < k) × (k ≤ layout .stops) × (marked (s .left .words) k ≡ true) ⌝ }
-    ensures { λ r. ⌜ Served (now (day .entry)) s k r ⌝ }
+// A stop is served.
+fn serve_stop(day: &[u32], layout: Layout, state: State, stop: usize) -> State
+    requires { ⌜ SmallState (now day) layout state × (0 < stop) × (stop ≤ layout .stops) × (marked (state .left .words) stop ≡ true) ⌝ }
+    ensures { λ r. ⌜ Served (now (day .entry)) state stop r ⌝ }
 {
-    let q = day::fields::stop_quantity(day, layout, k);
-    let c = s.cargo;
-    let t = s.trip;
-    let left = s.left;
+    let kg = day::fields::stop_quantity(day, layout, stop);
+    let cargo = state.cargo;
+    let trip = state.trip;
+    let left = state.left;
     State {
-        trip: visit_stop(day, layout, t, k),
+        trip: visit_stop(day, layout, trip, stop),
         cargo: Cargo {
-            load: c.load + q,
-            kg: c.kg + q,
-            visits: c.visits + 1,
+            load: cargo.load + kg,
+            kg: cargo.kg + kg,
+            visits: cargo.visits + 1,
         },
-        left: marks::unmark(left, k),
+        left: marks::unmark(left, stop),
     }
 }
 
-// The load is emptied at tip x.
-fn empty_load(day: &[u32], layout: Layout, s: State, x: usize) -> State
-    requires { ⌜ SmallState (now day) layout s × (0 < x) × (x ≤ layout .tips) ⌝ }
-    ensures { λ r. ⌜ Emptied (now (day .entry)) s x r ⌝ }
+// The load is emptied at a tip.
+fn empty_load(day: &[u32], layout: Layout, state: State, tip: usize) -> State
+    requires { ⌜ SmallState (now day) layout state × (0 < tip) × (tip ≤ layout .tips) ⌝ }
+    ensures { λ r. ⌜ Emptied (now (day .entry)) state tip r ⌝ }
 {
-    let hours = day::fields::tip_window(day, layout, x);
-    let minutes = day::fields::tip_service(day, layout, x);
-    let c = s.cargo;
-    let t = s.trip;
-    let left = s.left;
+    let hours = day::fields::tip_window(day, layout, tip);
+    let minutes = day::fields::tip_service(day, layout, tip);
+    let cargo = state.cargo;
+    let trip = state.trip;
+    let left = state.left;
     State {
-        trip: visit(day, layout, t, x, hours, minutes),
+        trip: visit(day, layout, trip, tip, hours, minutes),
         cargo: Cargo {
             load: 0,
-            kg: c.kg,
-            visits: c.visits,
+            kg: cargo.kg,
+            visits: cargo.visits,
         },
         left,
     }
 }
 
 // The next task is done.
-pub fn do_task(day: &[u32], layout: Layout, s: State, next: Next) -> State
-    requires { ⌜ SmallState (now day) layout s × NextWithin layout next × Doable (s .left .words) next ⌝ }
-    ensures { λ r. ⌜ Done (now (day .entry)) s next r ⌝ }
+pub fn do_task(day: &[u32], layout: Layout, state: State, next: Next) -> State
+    requires { ⌜ SmallState (now day) layout state × NextWithin layout next × Doable (state .left .words) next ⌝ }
+    ensures { λ r. ⌜ Done (now (day .entry)) state next r ⌝ }
 {
     match next {
-        Next::Stop(k) => serve_stop(day, layout, s, k),
-        Next::Tip(x) => empty_load(day, layout, s, x),
-        Next::Home => s,
+        Next::Stop(stop) => serve_stop(day, layout, state, stop),
+        Next::Tip(tip) => empty_load(day, layout, state, tip),
+        Next::Home => state,
     }
 }
 
 // A rest is taken if due.
-fn rest_state(day: &[u32], layout: Layout, s: State) -> State
-    requires { ⌜ SmallState (now day) layout s ⌝ }
-    ensures { λ r. ⌜ Rested (now (day .entry)) s r ⌝ }
+fn rest_state(day: &[u32], layout: Layout, state: State) -> State
+    requires { ⌜ SmallState (now day) layout state ⌝ }
+    ensures { λ r. ⌜ Rested (now (day .entry)) state r ⌝ }
 {
-    let t = s.trip;
-    let c = s.cargo;
-    let left = s.left;
+    let trip = state.trip;
+    let cargo = state.cargo;
+    let left = state.left;
     State {
-        trip: rest_if_due(day, layout, t),
-        cargo: c,
+        trip: rest_if_due(day, layout, trip),
+        cargo,
         left,
     }
 }
@@ -134,17 +134,17 @@ pub struct Ready {
 }
 
 // A rest is taken if due, and the next task is found.
-pub fn make_ready(day: &[u32], layout: Layout, s: State) -> Ready
-    requires { ⌜ SmallState (now day) layout s ⌝ }
-    ensures { λ r. ⌜ MadeReady (now (day .entry)) layout s r ⌝ }
+pub fn make_ready(day: &[u32], layout: Layout, before: State) -> Ready
+    requires { ⌜ SmallState (now day) layout before ⌝ }
+    ensures { λ r. ⌜ MadeReady (now (day .entry)) layout before r ⌝ }
 {
-    let state = rest_state(day, layout, s);
-    let t = state.trip;
-    let c = state.cargo;
+    let state = rest_state(day, layout, before);
+    let trip = state.trip;
+    let cargo = state.cargo;
     let left = state.left;
     Ready {
         state,
-        next: next_task(day, layout, t, c, left),
+        next: next_task(day, layout, trip, cargo, left),
     }
 }
 
@@ -162,8 +162,8 @@ pub fn word_of(next: Next) -> u32
     ensures { λ r. ⌜ wordOf r ≡ nextSaid next ⌝ }
 {
     match next {
-        Next::Stop(k) => stop_word(k),
-        Next::Tip(x) => tip_word(x),
+        Next::Stop(stop) => stop_word(stop),
+        Next::Tip(tip) => tip_word(tip),
         Next::Home => BACK,
     }
 }

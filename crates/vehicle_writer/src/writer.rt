@@ -20,11 +20,11 @@ use rules::walk::Trip;
 use ways_home::home::is_due;
 
 // The D word where a rest is due; how many words there are then.
-fn write_rest(day: &[u32], layout: Layout, t: Trip, part: &mut [u32], at: usize) -> usize
+fn write_rest(day: &[u32], layout: Layout, trip: Trip, part: &mut [u32], at: usize) -> usize
     requires { ⌜ LayoutOf (now day) layout × (at < length (now part)) ⌝ }
-    ensures { λ r. ⌜ RestSaid (due (now (day .entry)) t) (now (part .entry)) at (now (part .exit)) r ⌝ }
+    ensures { λ r. ⌜ RestSaid (due (now (day .entry)) trip) (now (part .entry)) at (now (part .exit)) r ⌝ }
 {
-    if is_due(day, layout, t) {
+    if is_due(day, layout, trip) {
         part[at] = REST;
         return at + 1;
     }
@@ -67,13 +67,13 @@ fn write_tasks(day: &[u32], layout: Layout, first: Ready, part: &mut [u32], from
     let mut ready = first;
     let mut at = from;
     while has_task(ready) {
-        let g = write_task(day, layout, ready, part, at);
-        ready = g.ready;
-        at = g.at;
+        let progress = write_task(day, layout, ready, part, at);
+        ready = progress.ready;
+        at = progress.at;
     }
     part[at] = BACK;
-    let s = ready.state;
-    let left = s.left;
+    let state = ready.state;
+    let left = state.left;
     Written {
         left,
         words: at + 1,
@@ -86,8 +86,8 @@ fn write_start(day: &[u32], layout: Layout, number: u32, part: &mut [u32]) -> us
     ensures { λ r. ⌜ StartSaid (now (day .entry)) number (now (part .entry)) (now (part .exit)) r ⌝ }
 {
     part[0] = vehicle_word(number);
-    let t = leave_depot(day, layout);
-    write_rest(day, layout, t, part, 1)
+    let trip = leave_depot(day, layout);
+    write_rest(day, layout, trip, part, 1)
 }
 
 // One vehicle, with the stops still to be routed; nothing is written where it takes none.

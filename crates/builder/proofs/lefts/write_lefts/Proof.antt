@@ -7,10 +7,10 @@ use Rattle.builder.proofs.lefts.write_lefts.Statement.{statement}
 use Rattle.builder.proofs.lefts.write_lefts.Tie as tie
 
 abbrev Inv-loop : tie.InvT-loop
-Inv-loop part₀ from m₀ at₀ k₀ part m at k = Turn part₀ from m₀ part m at k
+Inv-loop part₀ from others₀ at₀ stop₀ part others at stop = Turn part₀ from others₀ part others at stop
 
 abbrev μ-loop : tie.MeasureT-loop
-μ-loop part₀ from m₀ at₀ k₀ part m at k = onesOf (m .words)
+μ-loop part₀ from others₀ at₀ stop₀ part others at stop = onesOf (others .words)
 
 loop-holds : tie.Need-loop-holds Inv-loop μ-loop
 loop-holds c = search turn-first
