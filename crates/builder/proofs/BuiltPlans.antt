@@ -116,7 +116,7 @@ module _ (day plan : List ℕ) {layout : Layout} (i : LayoutOf day layout) where
     short-buffer = rw short refl
 
   module _ (l : 5 * layout .stops ≤ length plan) where
-    pub long : ltb (length plan) (5 * stops day) ≡ false
+    long : ltb (length plan) (5 * stops day) ≡ false
     long = le-ltb (length plan) (5 * stops day) (omega (arith, i .stopsAre))
 
     pub long-buffer : {now : List ℕ} → now ≡ planned day (greedyPlan day) plan → now ≡ builtBuffer day plan

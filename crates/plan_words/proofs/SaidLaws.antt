@@ -6,9 +6,9 @@ use native.Mathlib.Omega.{arith}
 use lib.ListN.{length, length-map, take, drop, set}
 use borrow.Rule.Slice.PartMut.{putMid}
 use Rattle.rules.specs.PlanWords.{Word, vehicle, back, left, wordOf}
-use Rattle.rules.specs.Plan.{Round, wordFor}
+use Rattle.rules.specs.Plan.{Task, Round, wordFor}
 use Rattle.laws.proofs.Buffer.{wrote-none, wrote-put, wrote-lend, wrote-same}
-use Rattle.plan_words.specs.Said.{says, roundSaid, Said}
+use Rattle.plan_words.specs.Said.{says, tasksSaid, roundSaid, Said}
 
 -- nothing is written yet
 pub said-none : (p : List ℕ) → Said [] p p 0
@@ -41,6 +41,10 @@ module _ {what : List Word} {p part : List ℕ} {n : ℕ} (s : Said what p part 
   -- the same under other names
   pub said-same : {other : List Word} {m : ℕ} → what ≡ other → n ≡ m → Said other p part m
   said-same e q = record { words = s .words; text = wrote-same (s .text) refl q; reads = s .reads ∙ e }
+
+-- one task more
+pub tasks-more : (number : ℕ) (tasks : Round) (task : Task) → tasksSaid number tasks ++ (wordFor task ∷ []) ≡ tasksSaid number (tasks ++ (task ∷ []))
+tasks-more number tasks task = ap (λ (ws : List Word). vehicle number ∷ ws) (sym (map-append wordFor tasks (task ∷ [])))
 
 -- one vehicle in front of others, and the stops left out behind all
 pub says-next : (from : ℕ) (tasks : Round) (rounds : List Round) (lefts : List ℕ)

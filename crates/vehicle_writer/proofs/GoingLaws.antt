@@ -3,7 +3,7 @@
 use Prim.Native.Nat.{ℕ, _+_, _*_, _≤_, _<_}
 use mathlib.Core.Path.{_≡_, refl, sym, ap, _∙_, subst, fun-ext}
 use mathlib.Core.Bool.{Bool, true, false, not, and-false, true≢false}
-use mathlib.Core.List.{List, [], _∷_, _++_, map-append}
+use mathlib.Core.List.{List, [], _∷_, _++_}
 use mathlib.Core.Logic.{inl, inr}
 use mathlib.Core.Option.{some}
 use native.Mathlib.Omega.{arith}
@@ -12,7 +12,7 @@ use lib.ListN.{length, length-map, set, length-set}
 use borrow.Author.Tests.{lt-ltb}
 use Rattle.rules.specs.Lists.{mem, unmet}
 use Rattle.rules.specs.Fields.{stops, stopPlace}
-use Rattle.rules.specs.PlanWords.{Word, vehicle, rest, wordOf, restWord}
+use Rattle.rules.specs.PlanWords.{vehicle, rest, wordOf, restWord}
 use Rattle.rules.specs.Plan.{Task, serve, empty, lunch, Round, stopsOn, wordFor}
 use Rattle.rules.specs.Cargo.{cargoAfter, emptied}
 use Rattle.rules.specs.Trip.{visited}
@@ -30,7 +30,7 @@ use Rattle.laws.proofs.Lists.{mem-same, mem-other, unmet-less}
 use Rattle.laws.proofs.Marks.{without-same, without-other}
 use Rattle.marks.specs.declared.Marks.{Marks}
 use Rattle.plan_words.specs.Said.{tasksSaid, Said}
-use Rattle.plan_words.proofs.SaidLaws.{said-count, said-put, said-same}
+use Rattle.plan_words.proofs.SaidLaws.{said-count, said-put, said-same, tasks-more}
 use Rattle.plan_words.proofs.WordForms.{rest-form}
 use Rattle.day.specs.Layout.{LayoutOf}
 use Rattle.day.specs.declared.fields.Layout.{Layout}
@@ -72,13 +72,15 @@ left-unmarked day taken k m r h l g e u =
       count = omega (arith, u .count, h .count, unmet-less (stops day) k taken l g e);
     }
 
--- a vehicle's trip, by the number of its tasks, is small
-truck-small : (day before : List ℕ) (v : Truck) → SmallTruck day v → Routes day before v → Room (v .tasks) → SmallTrip day 2147483648 (v .trip)
-truck-small day before v q r w =
+-- the numbers of a vehicle's state are small: its distance by the number of its tasks
+truck-small : {day before : List ℕ} {layout : Layout} {s : State} (v : Truck) → LayoutOf day layout → s .trip ≡ v .trip → s .cargo ≡ v .cargo
+    → SmallTruck day v → Routes day before v → Room (v .tasks) → SmallState day layout s
+truck-small {day} {before} v l t c q r w =
+    let far : v .trip .distance < 2147483648 = omega (arith, q .distance, w .size, r .visits, routes-unmet day before v r, unmet-most (stops day) before) in
     record {
-      place = q .place;
-      minute = q .minute;
-      distance = omega (arith, q .distance, w .size, r .visits, routes-unmet day before v r, unmet-most (stops day) before);
+      layoutIs = l;
+      trip = subst (SmallTrip day 2147483648) (sym t) (record { place = q .place; minute = q .minute; distance = far });
+      cargo = subst SmallCargo (sym c) (q .cargo);
     }
 
 -- room for a task and a rest behind it: a stop is still to be routed, or a stop pays for the tip
@@ -112,13 +114,8 @@ module _ {day before : List ℕ} {layout : Layout} {number : ℕ} {p part : List
 
   going-small : LayoutOf day layout → SmallState day layout (r .state)
   going-small l =
-      let small = rested-small day before (g .truck) (g .reached) in
-      record {
-        layoutIs = l;
-        trip = subst (SmallTrip day 2147483648) (sym (g .ready .tripIs))
-            (truck-small day before here small going-routes (rested-room day before (g .truck) (g .reached)));
-        cargo = subst SmallCargo (sym (g .ready .cargoIs)) (small .cargo);
-      }
+      truck-small here l (g .ready .tripIs) (g .ready .cargoIs) (rested-small day before (g .truck) (g .reached)) going-routes
+      (rested-room day before (g .truck) (g .reached))
 
   pub going-at : at ≡ length (here .tasks) + 1
   going-at = omega (arith, said-count (g .text), length-map (here .tasks) wordFor)
@@ -194,13 +191,7 @@ module _ {day before : List ℕ} {layout : Layout} {number : ℕ} {p part : List
       let b = going-done in
       let v = doing day (resting day (g .truck)) (b .task) in
       let reached = goesOn (g .truck) (b .task) (g .reached) (b .isNext) in
-      let small = reached-small day before v reached in
-      record {
-        layoutIs = l;
-        trip = subst (SmallTrip day 2147483648) (sym (b .trip))
-            (truck-small day before v small (reached-routes day before v reached) (reached-room day before v reached));
-        cargo = subst SmallCargo (sym (b .cargo)) (small .cargo);
-      }
+      truck-small v l (b .trip) (b .cargo) (reached-small day before v reached) (reached-routes day before v reached) (reached-room day before v reached)
 
 -- a D word where a rest is due
 pub rest-put : {isDue asked : Bool} {part : List ℕ} {at : ℕ} → asked ≡ isDue → asked ≡ true → at < length part
@@ -230,15 +221,14 @@ pub rest-words : (day : List ℕ) (number : ℕ) {p part now : List ℕ} {at end
 rest-words day number {p} {part} {now} {at} {end} v t s q w =
     let said = w .says (tasksSaid number (v .tasks)) p s in
     elim (known (due day (v .trip))) [
-      | inl d ↦ rw (resting-due day v d) (said-same (rw (q, d) at said) (ap (λ (ws : List Word). vehicle number ∷ ws) (sym (map-append wordFor (v .tasks) (lunch ∷ [])))) refl)
+      | inl d ↦ rw (resting-due day v d) (said-same (rw (q, d) at said) (tasks-more number (v .tasks) lunch) refl)
       | inr d ↦ rw (resting-not day v d) (rw (q, d) at said)
     ]
 
 -- and behind a task
 task-words : (number word : ℕ) {p part : List ℕ} {at : ℕ} (tasks : Round) (task : Task) → Said (tasksSaid number tasks) p part at
     → at < length part → wordOf word ≡ wordFor task → Said (tasksSaid number (tasks ++ (task ∷ []))) p (set part at word) (at + 1)
-task-words number word tasks task s l e =
-    said-same (said-put s word e l) (ap (λ (ws : List Word). vehicle number ∷ ws) (sym (map-append wordFor tasks (task ∷ [])))) refl
+task-words number word tasks task s l e = said-same (said-put s word e l) (tasks-more number tasks task) refl
 
 -- a vehicle with a task before it: its room, and what its next task asks for
 module _ {day : List ℕ} {layout : Layout} {part : List ℕ} {at : ℕ} {r : Ready} (a : TaskAhead day layout part at r) where
