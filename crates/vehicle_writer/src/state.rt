@@ -19,6 +19,9 @@ use plan_words::stop_word;
 use plan_words::tip_word;
 use rules::walk::Cargo;
 use rules::walk::Trip;
+use trips::cargo::load_on;
+use trips::cargo::nothing;
+use trips::cargo::tip_out;
 use ways_home::home::rest_if_due;
 use ways_home::home::visit;
 use ways_home::home::visit_stop;
@@ -50,11 +53,7 @@ fn fresh_state(day: &[u32], layout: Layout, left: Marks) -> State
 {
     State {
         trip: leave_depot(day, layout),
-        cargo: Cargo {
-            load: 0,
-            kg: 0,
-            visits: 0,
-        },
+        cargo: nothing(),
         left,
     }
 }
@@ -70,11 +69,7 @@ fn serve_stop(day: &[u32], layout: Layout, state: State, stop: usize) -> State
     let left = state.left;
     State {
         trip: visit_stop(day, layout, trip, stop),
-        cargo: Cargo {
-            load: cargo.load + kg,
-            kg: cargo.kg + kg,
-            visits: cargo.visits + 1,
-        },
+        cargo: load_on(cargo, kg),
         left: marks::unmark(left, stop),
     }
 }
@@ -91,11 +86,7 @@ fn empty_load(day: &[u32], layout: Layout, state: State, tip: usize) -> State
     let left = state.left;
     State {
         trip: visit(day, layout, trip, tip, hours, minutes),
-        cargo: Cargo {
-            load: 0,
-            kg: cargo.kg,
-            visits: cargo.visits,
-        },
+        cargo: tip_out(cargo),
         left,
     }
 }

@@ -13,8 +13,6 @@ serve-stop-spec =
     (tie.spec
     (λ c κs. search needs)
     (λ c κs. search needs)
-    (λ c. search needs)
-    (λ c. search needs)
-    (λ c. search needs)
+    (λ c κs. search needs)
     (λ c κs. search needs)
     returns)
