@@ -1,9 +1,11 @@
 -- The greedy plan in the plan's buffer, and what the call says of it.
 -- Assumes nothing.
 use Prim.Native.Nat.{ℕ, _+_, _-_, _*_, _≤_, _<_}
-use mathlib.Core.Path.{_≡_, sym, ap, ap₂, _∙_}
+use mathlib.Core.Path.{_≡_, refl, sym, ap, ap₂, _∙_}
+use mathlib.Core.Bool.{true, false}
 use mathlib.Core.List.{List, [], _∷_, _++_, append-assoc}
 use native.Mathlib.Omega.{arith}
+use lib.Dec.{ltb}
 use lib.ListN.{length, take, drop, replicate, getD, length-append, length-replicate}
 use lib.Seq.{drop-drop, take-at}
 use borrow.Author.Tests.{lt-ltb, le-ltb}
@@ -12,7 +14,6 @@ use Rattle.rules.specs.Lists.{total}
 use Rattle.rules.specs.Buffer.{over}
 use Rattle.rules.specs.DayFile.{wordsOf, judgeDay}
 use Rattle.rules.specs.Fields.{tips, stops, IsAccepted}
-use Rattle.rules.specs.Plan.{roundsWords, planWords}
 use Rattle.rules.specs.Lawful.{distanceFrom, totals}
 use Rattle.rules.specs.Check.{checkWords, checkPlan}
 use Rattle.rules.specs.Build.{greedyRounds, greedyLefts, greedyPlan, routed}
@@ -30,22 +31,24 @@ use Rattle.day.specs.declared.fields.Layout.{Layout}
 use Rattle.day.proofs.Answered.{refused-not-given, given-accepted}
 use Rattle.day.proofs.Ranges.{accepted-ranges}
 use Rattle.marks.specs.declared.Marks.{Marks}
-use Rattle.vehicle_writer.specs.Going.{LeftOf}
+use Rattle.plan_words.specs.Said.{says}
+use Rattle.plan_words.proofs.SaidLaws.{said-same, says-lefts}
+use Rattle.plan_words.proofs.SaidOnce.{plan-wrote}
+use Rattle.builder.specs.Fleet.{AllWritten}
 use Rattle.builder.specs.Lefts.{LeavesAll}
 use Rattle.greedy_laws.proofs.GreedyLawful.{greedy-answer}
 use Rattle.greedy_laws.proofs.GreedyRoom.{greedy-room}
 use Rattle.greedy_laws.proofs.LeftOut.{remaining-count}
 
--- the words of the vehicles and behind them those of the stops left out are the plan
-module _ {day p part now : List ℕ} {m : Marks} {words end : ℕ} (w : Wrote (roundsWords 0 (greedyRounds day)) p part words)
-    (h : LeftOf day (routed day (stops day + 1) []) m) (l : LeavesAll part words m now end) where
-  pub plan-words : Wrote (greedyPlan day) p now end
-  unfolding greedyPlan planWords
-  plan-words = l (stops day) (routed day (stops day + 1) []) (roundsWords 0 (greedyRounds day)) p (omega arith) (h .are) w
-
--- as many stops are left out as marks are left
-pub lefts-are : {day : List ℕ} {m : Marks} → LeftOf day (routed day (stops day + 1) []) m → onesOf (m .words) ≡ length (greedyLefts day)
-lefts-are {day} h = h .count ∙ sym (remaining-count (routed day (stops day + 1) []) (stops day))
+-- what the words of the vehicles say, and behind them those of the stops left out, is what the plan's say: so they are the plan's
+plan-words : {day p part now : List ℕ} {m : Marks} {words end : ℕ} → AllWritten day p part m words → LeavesAll part words m now end
+    → Wrote (greedyPlan day) p now end
+unfolding greedyPlan
+plan-words {day} {p} w l =
+    let rounds = greedyRounds day in
+    let lefts = greedyLefts day in
+    let said = l (stops day) (routed day (stops day + 1) []) (says 0 rounds []) p (omega arith) (w .leftIs .are) (w .text) in
+    plan-wrote rounds lefts (said-same said (says-lefts 0 rounds lefts) refl)
 
 -- zeros behind the words
 over-later : (ws p : List ℕ) (n to : ℕ) → length ws ≡ n → n ≤ to → drop to (over ws p) ≡ drop to p
@@ -59,49 +62,69 @@ over-later ws p n to e l =
     split : to ≡ n + (to - n)
     split = omega arith
 
-pub filled : (day : List ℕ) {p part now : List ℕ} {end : ℕ} (to : ℕ) → Wrote (greedyPlan day) p part end → to ≡ 5 * stops day → end ≤ to
+filled : (day : List ℕ) {p part now : List ℕ} {end : ℕ} (to : ℕ) → Wrote (greedyPlan day) p part end → to ≡ 5 * stops day → end ≤ to
     → now ≡ (take end part ++ replicate (to - end) 0) ++ drop to part → now ≡ planned day (greedyPlan day) p
 unfolding planned
 filled day {p} {part} {now} {end} to w e l x =
+    let plan = greedyPlan day in
+    let rest = 5 * stops day - length plan in
+    let same : to - end ≡ rest = omega (arith, w .count) in
+    let size : length (plan ++ replicate rest 0) ≡ to =
+    omega (arith, w .count, length-append plan (replicate rest 0), length-replicate {A = ℕ} rest 0) in
     x
-    ∙ ap₂ (λ (a b : List ℕ). (a ++ replicate (to - end) 0) ++ b) (ap (take end) (w .text) ∙ over-front (greedyPlan day) p end (sym (w .count)))
-    (ap (drop to) (w .text) ∙ over-later (greedyPlan day) p end to (sym (w .count)) l)
-    ∙ ap (λ (k : ℕ). (greedyPlan day ++ replicate k 0) ++ drop to p) same
-    ∙ sym (over-drop (greedyPlan day ++ replicate (5 * stops day - length (greedyPlan day)) 0) p to size)
-  where
-    same : to - end ≡ 5 * stops day - length (greedyPlan day)
-    same = omega (arith, w .count)
+    ∙ ap₂ (λ (a b : List ℕ). (a ++ replicate (to - end) 0) ++ b) (ap (take end) (w .text) ∙ over-front plan p end (sym (w .count)))
+    (ap (drop to) (w .text) ∙ over-later plan p end to (sym (w .count)) l)
+    ∙ ap (λ (k : ℕ). (plan ++ replicate k 0) ++ drop to p) same
+    ∙ sym (over-drop (plan ++ replicate rest 0) p to size)
 
-    size : length (greedyPlan day ++ replicate (5 * stops day - length (greedyPlan day)) 0) ≡ to
-    size = omega (arith, w .count, length-append (greedyPlan day) (replicate (5 * stops day - length (greedyPlan day)) 0), length-replicate {A = ℕ} (5 * stops day - length (greedyPlan day)) 0)
+-- the vehicles are written
+module _ {day p part : List ℕ} {m : Marks} {words : ℕ} (w : AllWritten day p part m words) where
+  -- as many stops are left out as marks are left
+  pub lefts-are : {lefts : ℕ} → lefts ≡ onesOf (m .words) → lefts ≡ length (greedyLefts day)
+  lefts-are e = e ∙ w .leftIs .count ∙ sym (remaining-count (routed day (stops day + 1) []) (stops day))
 
-pub planned-length : (day p : List ℕ) → 5 * stops day ≤ length p → length (planned day (greedyPlan day) p) ≡ length p
+  -- and the stops left out
+  module _ {now : List ℕ} {end : ℕ} (l : LeavesAll part words m now end) where
+    pub plan-size : end ≡ length (greedyPlan day)
+    plan-size = plan-words w l .count
+
+    pub plan-filled : {layout : Layout} {after : List ℕ} → LayoutOf day layout → end ≤ words + onesOf (m .words)
+        → after ≡ (take end now ++ replicate (5 * layout .stops - end) 0) ++ drop (5 * layout .stops) now → after ≡ planned day (greedyPlan day) p
+    plan-filled {layout} i n x =
+        let to : 5 * layout .stops ≡ 5 * stops day = ap (λ (k : ℕ). 5 * k) (i .stopsAre) in
+        filled day (5 * layout .stops) (plan-words w l) to (omega (arith, w .leftIs .count, w .room)) x
+
+planned-length : (day p : List ℕ) → 5 * stops day ≤ length p → length (planned day (greedyPlan day) p) ≡ length p
 unfolding planned
 planned-length day p l =
     let plan = greedyPlan day in
-    length-over _ p (omega (arith, greedy-room day, length-append plan (replicate (5 * stops day - length plan) 0), length-replicate {A = ℕ} (5 * stops day - length plan) 0))
-
-pub plan-fits : (day p : List ℕ) {now : List ℕ} {words : ℕ} → words ≡ length (greedyPlan day) → now ≡ planned day (greedyPlan day) p → 5 * stops day ≤ length p
-    → words ≤ length now
-plan-fits day p e x l = omega (arith, greedy-room day, ap length x, planned-length day p l)
-
--- the words that are needed, by the layout
-pub need-is : {day : List ℕ} {layout : Layout} → LayoutOf day layout → 5 * layout .stops ≡ 5 * stops day
-need-is l = ap (λ (n : ℕ). 5 * n) (l .stopsAre)
+    let rest = 5 * stops day - length plan in
+    length-over _ p (omega (arith, greedy-room day, length-append plan (replicate rest 0), length-replicate {A = ℕ} rest 0))
 
 -- the answer and the buffer where it is too short, and where it is long enough
-module _ (day : List ℕ) {room need : ℕ} (e : need ≡ 5 * stops day) (l : room < need) where
-  pub short-answer : refused 14 need ≡ builtAnswer day room
-  unfolding builtAnswer
-  short-answer = let less : room < 5 * stops day = omega arith in rw (lt-ltb room (5 * stops day) less) (ap (refused 14) e)
+module _ (day plan : List ℕ) {layout : Layout} (i : LayoutOf day layout) where
+  module _ (l : length plan < 5 * layout .stops) where
+    short : ltb (length plan) (5 * stops day) ≡ true
+    short = lt-ltb (length plan) (5 * stops day) (omega (arith, i .stopsAre))
 
-pub short-buffer : (day plan : List ℕ) {need : ℕ} → need ≡ 5 * stops day → length plan < need → plan ≡ builtBuffer day plan
-unfolding builtBuffer
-short-buffer day plan e l = let less : length plan < 5 * stops day = omega arith in rw (lt-ltb (length plan) (5 * stops day) less)
+    pub short-answer : refused 14 (5 * layout .stops) ≡ builtAnswer day (length plan)
+    unfolding builtAnswer
+    short-answer = rw short (ap (λ (n : ℕ). refused 14 (5 * n)) (i .stopsAre))
 
-pub long-buffer : (day plan : List ℕ) {need : ℕ} {now : List ℕ} → need ≡ 5 * stops day → need ≤ length plan → now ≡ planned day (greedyPlan day) plan → now ≡ builtBuffer day plan
-unfolding builtBuffer
-long-buffer day plan e l x = let less : 5 * stops day ≤ length plan = omega arith in x ∙ rw (le-ltb (length plan) (5 * stops day) less)
+    pub short-buffer : plan ≡ builtBuffer day plan
+    unfolding builtBuffer
+    short-buffer = rw short refl
+
+  module _ (l : 5 * layout .stops ≤ length plan) where
+    long : ltb (length plan) (5 * stops day) ≡ false
+    long = le-ltb (length plan) (5 * stops day) (omega (arith, i .stopsAre))
+
+    pub long-buffer : {now : List ℕ} → now ≡ planned day (greedyPlan day) plan → now ≡ builtBuffer day plan
+    unfolding builtBuffer
+    long-buffer x = x ∙ rw long refl
+
+    pub plan-fits : {now : List ℕ} {words : ℕ} → words ≡ length (greedyPlan day) → now ≡ planned day (greedyPlan day) plan → words ≤ length now
+    plan-fits e x = omega (arith, greedy-room day, ap length x, planned-length day plan (omega (arith, i .stopsAre)))
 
 -- the check of the plan as it stands in the buffer
 planned-front : (day p : List ℕ) (n : ℕ) → n ≡ length (greedyPlan day) → take n (planned day (greedyPlan day) p) ≡ greedyPlan day
@@ -124,12 +147,12 @@ module _ (day p : List ℕ) (a : IsAccepted day) {now : List ℕ} {words : ℕ} 
       ∙ words-answer day a
 
   -- it is lawful, so it is answered with its distance
-  pub long-answer : {d v s lefts : ℕ} → answer ≡ Answers.Lawful d v s → lefts ≡ length (greedyLefts day) → 5 * stops day ≤ length p
-      → given (d ∷ 0 ∷ 0 ∷ lefts ∷ words ∷ []) ≡ builtAnswer day (length p)
+  pub long-answer : {layout : Layout} {d v s lefts : ℕ} → LayoutOf day layout → 5 * layout .stops ≤ length p → answer ≡ Answers.Lawful d v s
+      → lefts ≡ length (greedyLefts day) → given (d ∷ 0 ∷ 0 ∷ lefts ∷ words ∷ []) ≡ builtAnswer day (length p)
   unfolding builtAnswer totals
-  long-answer {d} {v} {s} {lefts} e m l =
+  long-answer {layout} {d} {v} {s} {lefts} i l e m =
       let same : d ≡ total (distanceFrom day 0) (greedyRounds day) = ap (λ (xs : List ℕ). getD xs 1 0) (sym (ap answerValues e) ∙ plan-answer) in
-      rw (le-ltb (length p) (5 * stops day) l) (ap (λ (k : ℕ). given (k ∷ 0 ∷ 0 ∷ lefts ∷ words ∷ [])) same ∙ ap₂ (λ (i j : ℕ). given (total (distanceFrom day 0) (greedyRounds day) ∷ 0 ∷ 0 ∷ i ∷ j ∷ [])) m w)
+      rw (long day p i l, same, m, w) refl
 
   -- and not refused
   pub not-refused : {k i : ℕ} → answer ≡ Answers.Refused k i → ⊥

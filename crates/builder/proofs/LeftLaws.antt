@@ -8,19 +8,20 @@ use mathlib.Core.Logic.{inl, inr}
 use native.Mathlib.Decide.{ℕ-discrete, decLt}
 use native.Mathlib.Nat.{eq-or-lt-of-le}
 use native.Mathlib.Omega.{arith}
-use lib.ListN.{length, set}
+use lib.ListN.{length, set, length-set}
 use Rattle.rules.specs.Lists.{mem}
-use Rattle.rules.specs.PlanWords.{leftWord}
+use Rattle.rules.specs.PlanWords.{Word, left, leftWord}
 use Rattle.rules.specs.Build.{remaining}
-use Rattle.laws.specs.Buffer.{Wrote}
-use Rattle.laws.specs.Marks.{without, Lowest, marked, Unmarked}
-use Rattle.laws.proofs.Buffer.{wrote-put, wrote-same}
-use Rattle.laws.proofs.Marks.{without-same, without-other, upTo-low, upTo-out}
+use Rattle.laws.specs.Marks.{without, onesOf, Lowest, marked, Unmarked}
+use Rattle.laws.proofs.Marks.{without-same, without-other, upTo-low, upTo-out, unmark-words}
 use Rattle.marks.specs.declared.Marks.{Marks}
+use Rattle.plan_words.specs.Said.{Said}
+use Rattle.plan_words.proofs.SaidLaws.{said-put, said-same}
+use Rattle.plan_words.proofs.WordForms.{left-made}
 use Rattle.greedy_laws.specs.States.{unrouted}
 use Rattle.laws.proofs.Decided.{known}
 use Rattle.next_task.proofs.TaskLaws.{unrouted-in}
-use Rattle.builder.specs.Lefts.{listed, Leaving}
+use Rattle.builder.specs.Lefts.{listed, Leaving, LeavesAll, LeavesOn}
 
 -- of numbers that are not marked none is listed
 listed-none : (m : ℕ → Bool) (k r : ℕ) → ((j : ℕ) → j < k + r → m j ≡ false) → listed m k r ≡ []
@@ -70,74 +71,113 @@ unfolding unrouted
 unrouted-high n taken j l = rw (upTo-out n j l) refl
 
 -- none of the words is written yet
-pub leaving-none : (n : ℕ) (taken : List ℕ) {ws p part : List ℕ} {at : ℕ} {left : Marks}
-    → marked (left .words) ≡ unrouted n taken → Wrote ws p part at → Leaving n ws p (marked (left .words)) part at left
-leaving-none n taken {ws} {p} {part} {at} {left} e w = record {
+leaving-none : (n : ℕ) (taken : List ℕ) {what : List Word} {p part : List ℕ} {at : ℕ} {m : Marks}
+    → marked (m .words) ≡ unrouted n taken → Said what p part at → Leaving n what p (marked (m .words)) part at m
+leaving-none n taken {what} {p} {part} {at} {m} e s = record {
   written = [];
-  text = wrote-same w (sym (append-nil ws)) refl;
-  all = refl;
-  low = ap (λ (m : ℕ → Bool). m 0) e ∙ unrouted-low n taken;
-  high = λ j l. ap (λ (m : ℕ → Bool). m j) e ∙ unrouted-high n taken j l;
+  text = said-same s (sym (append-nil what)) refl;
+  whole = refl;
+  low = ap (λ (q : ℕ → Bool). q 0) e ∙ unrouted-low n taken;
+  high = λ j l. ap (λ (q : ℕ → Bool). q j) e ∙ unrouted-high n taken j l;
 }
 
 -- the word of the lowest marked stop is written, and its mark taken off
-pub leaving-next : {n : ℕ} {ws p part : List ℕ} {m : ℕ → Bool} {at : ℕ} {left : Marks} (k : ℕ) (after : Marks)
-    → Leaving n ws p m part at left → Lowest (marked (left .words)) 256 k → k < 256 → at < length part
-    → Unmarked (left .words) k (after .words) → Leaving n ws p m (set part at (leftWord k)) (at + 1) after
-leaving-next {n} {ws} {p} {part} {m} {at} {left} k after g lowest few space u = record {
+leaving-next : {n : ℕ} {what : List Word} {p part : List ℕ} {all : ℕ → Bool} {at : ℕ} {m : Marks} (k word : ℕ) (after : Marks)
+    → Leaving n what p all part at m → Lowest (marked (m .words)) 256 k → k < 256 → word ≡ leftWord k → at < length part
+    → Unmarked (m .words) k (after .words) → Leaving n what p all (set part at word) (at + 1) after
+leaving-next {n} {what} {p} {part} {all} {at} {m} k word after g lowest few e space u = record {
   written = g .written ++ (k ∷ []);
   text =
-      wrote-same (wrote-put (g .text) (leftWord k) (omega (arith, g .text .size)))
-      (append-assoc ws (map leftWord (g .written)) (leftWord k ∷ [])
-      ∙ ap (λ (vs : List ℕ). ws ++ vs) (sym (map-append leftWord (g .written) (k ∷ []))))
+      said-same (said-put (g .text) word (left-made k few e) space)
+      (append-assoc what (map left (g .written)) (left k ∷ [])
+      ∙ ap (λ (ws : List Word). what ++ ws) (sym (map-append left (g .written) (k ∷ []))))
       refl;
-  all =
+  whole =
       append-assoc (g .written) (k ∷ []) (listed (marked (after .words)) 1 n)
       ∙ ap (λ (ks : List ℕ). g .written ++ ks)
       (ap (λ (q : ℕ → Bool). k ∷ listed q 1 n) (u .marks) ∙ sym first)
-      ∙ g .all;
+      ∙ g .whole;
   low = off 0 (g .low);
   high = λ j l. off j (g .high j l);
 }
   where
-    on : marked (left .words) k ≡ true
+    on : marked (m .words) k ≡ true
     on = lowest .isMarked few
 
     from : Dec (0 < k) → 0 < k
     from (yes l) = l
     from (no l) =
         let z : k ≡ 0 = omega arith in
-        absurd (true≢false (sym on ∙ ap (marked (left .words)) z ∙ g .low))
+        absurd (true≢false (sym on ∙ ap (marked (m .words)) z ∙ g .low))
 
     to : Dec (n < k) → k ≤ n
     to (yes l) = absurd (true≢false (sym on ∙ g .high k l))
     to (no l) = omega arith
 
-    first : listed (marked (left .words)) 1 n ≡ k ∷ listed (without (marked (left .words)) k) 1 n
-    first = listed-lowest (marked (left .words)) k 1 n (from (decLt 0 k)) (omega (arith, to (decLt n k))) (lowest .below) on
+    first : listed (marked (m .words)) 1 n ≡ k ∷ listed (without (marked (m .words)) k) 1 n
+    first = listed-lowest (marked (m .words)) k 1 n (from (decLt 0 k)) (omega (arith, to (decLt n k))) (lowest .below) on
 
-    other : (j : ℕ) → marked (left .words) j ≡ false → Dec (j ≡ k) → without (marked (left .words)) k j ≡ false
-    other j e (yes q) = without-same (marked (left .words)) k j q
-    other j e (no q) = without-other (marked (left .words)) k j q ∙ e
+    other : (j : ℕ) → marked (m .words) j ≡ false → Dec (j ≡ k) → without (marked (m .words)) k j ≡ false
+    other j e (yes q) = without-same (marked (m .words)) k j q
+    other j e (no q) = without-other (marked (m .words)) k j q ∙ e
 
-    off : (j : ℕ) → marked (left .words) j ≡ false → marked (after .words) j ≡ false
+    off : (j : ℕ) → marked (m .words) j ≡ false → marked (after .words) j ≡ false
     off j e = ap (λ (q : ℕ → Bool). q j) (u .marks) ∙ other j e (ℕ-discrete j k)
 
 -- no mark is left, and the words of all stops that remain are written
-pub leaving-end : (n : ℕ) (taken : List ℕ) (first : Marks) {ws p part : List ℕ} {at : ℕ} {left : Marks} (k : ℕ)
+leaving-end : (n : ℕ) (taken : List ℕ) (first : Marks) {what : List Word} {p part : List ℕ} {at : ℕ} {m : Marks} (k : ℕ)
     → n < 256 → marked (first .words) ≡ unrouted n taken
-    → Leaving n ws p (marked (first .words)) part at left → Lowest (marked (left .words)) 256 k → 256 ≤ k
-    → Wrote (ws ++ map leftWord (remaining taken 1 n)) p part at
-leaving-end n taken first {ws} {p} {part} {at} {left} k few e g lowest none =
-    wrote-same (g .text) (ap (λ (ks : List ℕ). ws ++ map leftWord ks) written) refl
+    → Leaving n what p (marked (first .words)) part at m → Lowest (marked (m .words)) 256 k → 256 ≤ k
+    → Said (what ++ map left (remaining taken 1 n)) p part at
+leaving-end n taken first {what} {p} {part} {at} {m} k few e g lowest none =
+    said-same (g .text) (ap (λ (ks : List ℕ). what ++ map left ks) written) refl
   where
-    done : listed (marked (left .words)) 1 n ≡ []
-    done = listed-none (marked (left .words)) 1 n (λ j l. lowest .below j (omega arith))
+    done : listed (marked (m .words)) 1 n ≡ []
+    done = listed-none (marked (m .words)) 1 n (λ j l. lowest .below j (omega arith))
 
     written : g .written ≡ remaining taken 1 n
     written =
         sym (append-nil (g .written))
         ∙ ap (λ (ks : List ℕ). g .written ++ ks) (sym done)
-        ∙ g .all
-        ∙ ap (λ (m : ℕ → Bool). listed m 1 n) e
+        ∙ g .whole
+        ∙ ap (λ (q : ℕ → Bool). listed q 1 n) e
         ∙ listed-unrouted n taken 1 n (omega arith) (omega arith)
+
+-- a turn of the loop: part was old at first, first were the marks, and stop k is the lowest that is still marked, or 256
+pub record Turn (old : List ℕ) (from : ℕ) (first : Marks) (part : List ℕ) (m : Marks) (at k : ℕ) : Type 0 where
+  pub leaves : LeavesOn old from first part at m
+  pub lowest : Lowest (marked (m .words)) 256 k
+  pub count : at + onesOf (m .words) ≡ from + onesOf (first .words)
+  pub size : length part ≡ length old
+  pub room : from + onesOf (first .words) ≤ length old
+
+pub turn-first : {part : List ℕ} {from : ℕ} (m : Marks) {k : ℕ} → from + onesOf (m .words) ≤ length part → Lowest (marked (m .words)) 256 k
+    → Turn part from m part m from k
+turn-first m room low = record { leaves = λ n taken what p few e s. leaving-none n taken e s; lowest = low; count = refl; size = refl; room = room }
+
+module _ {old : List ℕ} {from : ℕ} {first : Marks} {part : List ℕ} {m : Marks} {at k : ℕ} (t : Turn old from first part m at k) where
+  -- stop k is marked, so there is room for its word
+  module _ (few : k < 256) where
+    pub turn-marked : marked (m .words) k ≡ true
+    turn-marked = t .lowest .isMarked few
+
+    pub turn-space : at < length part
+    turn-space = omega (arith, t .size, t .count, t .room, unmark-words (m .words) k turn-marked .count)
+
+    pub turn-next : {word next : ℕ} (after : Marks) → word ≡ leftWord k → Unmarked (m .words) k (after .words) → Lowest (marked (after .words)) 256 next
+        → Turn old from first (set part at word) after (at + 1) next
+    turn-next {word} after e u low =
+        record {
+          leaves = λ n taken what p h q s. leaving-next k word after (t .leaves n taken what p h q s) (t .lowest) few e turn-space u;
+          lowest = low;
+          count = omega (arith, t .count, u .count);
+          size = length-set part at word ∙ t .size;
+          room = t .room;
+        }
+
+  -- no stop is left
+  pub turn-count : at ≤ from + onesOf (first .words)
+  turn-count = omega (arith, t .count)
+
+  pub turn-last : 256 ≤ k → LeavesAll old from first part at
+  turn-last none = λ n taken what p few e s. leaving-end n taken first k few e (t .leaves n taken what p few e s) (t .lowest) none

@@ -26,9 +26,9 @@ fn write_plan(day: &[u32], layout: Layout, plan: &mut [u32]) -> Size
     ensures size { λ r. ⌜ (r .words ≡ length (greedyPlan (now (day .entry)))) × (r .lefts ≡ length (greedyLefts (now (day .entry)))) ⌝ }
     ensures text { λ r. ⌜ now (plan .exit) ≡ planned (now (day .entry)) (greedyPlan (now (day .entry))) (now (plan .entry)) ⌝ }
 {
-    let w = write_vehicles(day, layout, plan);
-    let left = w.left;
-    let end = write_lefts(left, plan, w.words);
+    let written = write_vehicles(day, layout, plan);
+    let left = written.left;
+    let end = write_lefts(left, plan, written.words);
     fill_zeros(plan, end, 5 * layout.stops);
     Size {
         words: end,

@@ -8,7 +8,7 @@ ghost use Rattle.builder.specs.Lefts.{LeavesAll};
 use marks::Marks;
 use marks::lowest;
 use marks::unmark;
-use plan_words::LEFT;
+use plan_words::left_word;
 
 // The F words of the stops still to be routed, rising, from place `from` on; how many words there are then.
 pub fn write_lefts(left: Marks, part: &mut [u32], from: usize) -> usize
@@ -16,13 +16,13 @@ pub fn write_lefts(left: Marks, part: &mut [u32], from: usize) -> usize
     ensures count { λ r. ⌜ r ≤ from + onesOf (left .words) ⌝ }
     ensures text { λ r. ⌜ LeavesAll (now (part .entry)) from left (now (part .exit)) r ⌝ }
 {
-    let mut m = left;
+    let mut others = left;
     let mut at = from;
-    let mut k = lowest(m);
-    while k < 256 {
-        part[at] = LEFT + (k as u32);
-        m = unmark(m, k);
-        k = lowest(m);
+    let mut stop = lowest(others);
+    while stop < 256 {
+        part[at] = left_word(stop);
+        others = unmark(others, stop);
+        stop = lowest(others);
         at += 1;
     }
     at

@@ -8,13 +8,9 @@ use Rattle.rules.specs.Lists.{Every}
 use Rattle.rules.specs.Fields.{stops}
 use Rattle.rules.specs.PlanWords.{Word, vehicle, back, left, vehicleWord, backWord, leftWord, readPlan}
 use Rattle.rules.specs.Plan.{Round, taskWord, roundWords, roundsWords, Known, wordFor}
+use Rattle.plan_words.specs.Said.{says}
 use Rattle.plan_words.proofs.WordForms.{vehicle-form, back-form, left-form}
 use Rattle.plan_laws.proofs.RoundChecks.{task-form}
-
--- vehicles counted on from a number, then the stops left out
-unfoldable pub says : ℕ → List Round → List ℕ → List Word
-says from [] lefts = map left lefts
-says from (tasks ∷ rounds) lefts = vehicle (suc from) ∷ (map wordFor tasks ++ (back ∷ says (suc from) rounds lefts))
 
 module _ (day : List ℕ) where
   -- a vehicle's tasks and its return, in front of other words

@@ -13,9 +13,10 @@ use Rattle.rules.specs.PlanWords.{Word, vehicle, stop, tip, rest, back, left, s
 use Rattle.rules.specs.Plan.{Task, serve, empty, lunch, Round, planWords, Formed, wordFor}
 use Rattle.rules.specs.Lawful.{Loads, Timed, Lawful, totals}
 use Rattle.rules.specs.Check.{checkPlan, checkWords}
+use Rattle.plan_words.specs.Said.{says}
 use Rattle.plan_laws.proofs.LawfulIff.{lawful-iff, lawful-totals}
 use Rattle.plan_laws.proofs.PlanChecks.{few-rounds}
-use Rattle.plan_laws.proofs.PlanSays.{says, plan-says}
+use Rattle.plan_laws.proofs.PlanSays.{plan-says}
 
 -- the task that a word says
 unfoldable taskFor : Word → Task

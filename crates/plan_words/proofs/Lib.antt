@@ -1,1 +1,3 @@
 pub mod WordForms
+pub mod SaidLaws
+pub mod SaidOnce

@@ -6,7 +6,8 @@ use mathlib.Core.Logic.{inl, inr}
 use native.Mathlib.Omega.{arith}
 use lib.Dec.{eqb}
 use borrow.Author.Tests.{eq-eqb, ne-eqb, eqb-true}
-use Rattle.rules.specs.PlanWords.{Word, vehicle, stop, tip, rest, back, left, stray, kindOf, numberOf, vehicleKind, stopKind, tipKind, leftKind, vehicleWord, stopWord, tipWord, restWord, backWord, leftWord, wordOf, sameWord}
+use Rattle.rules.specs.PlanWords.{Word, vehicle, stop, tip, rest, back, left, stray, kindOf, numberOf, vehicleKind, stopKind, tipKind, leftKind}
+use Rattle.rules.specs.PlanWords.{vehicleWord, stopWord, tipWord, restWord, backWord, leftWord, wordOf, sameWord}
 use Rattle.laws.proofs.Decided.{known}
 use Rattle.plan_words.specs.Indexes.{IndexFrom}
 
@@ -54,6 +55,20 @@ module _ (k : ℕ) (h : k < 256) where
 
   pub left-form : wordOf (leftWord k) ≡ left k
   left-form = left-read (leftWord k) (omega arith) ∙ ap left (omega arith)
+
+-- and what it says once the code has made it
+module _ (k : ℕ) {word : ℕ} (h : k < 256) where
+  pub vehicle-made : word ≡ vehicleWord k → wordOf word ≡ vehicle k
+  vehicle-made e = ap wordOf e ∙ vehicle-form k h
+
+  pub stop-made : word ≡ stopWord k → wordOf word ≡ stop k
+  stop-made e = ap wordOf e ∙ stop-form k h
+
+  pub tip-made : word ≡ tipWord k → wordOf word ≡ tip k
+  tip-made e = ap wordOf e ∙ tip-form k h
+
+  pub left-made : word ≡ leftWord k → wordOf word ≡ left k
+  left-made e = ap wordOf e ∙ left-form k h
 
 pub rest-form : wordOf restWord ≡ rest
 rest-form = rest-read restWord refl

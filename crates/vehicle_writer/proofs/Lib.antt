@@ -1,2 +1,5 @@
+pub mod EndLaws
 pub mod GoingLaws
+pub mod ReadyLaws
 pub mod SettingOut
+pub mod StateLaws

@@ -1,64 +1,77 @@
--- One vehicle's words while they are written. It serves the contracts of this crate's own functions. Assumes nothing.
-use Prim.Native.Nat.{ℕ, _*_, _≤_, _<_}
+-- One vehicle's words while they are written, by what they say. It serves the contracts of this crate's own functions. Assumes nothing.
+use Prim.Native.Nat.{ℕ, _+_, _*_, _≤_, _<_}
 use mathlib.Core.Path.{_≡_}
-use mathlib.Core.List.{List, _∷_, map}
+use mathlib.Core.Bool.{Bool, true}
+use mathlib.Core.List.{List, [], _∷_, _++_}
 use lib.ListN.{length}
+use Rattle.rules.specs.Tests.{if_then_else_}
 use Rattle.rules.specs.Lists.{unmet}
 use Rattle.rules.specs.Fields.{stops}
-use Rattle.rules.specs.PlanWords.{vehicleWord}
-use Rattle.rules.specs.Plan.{taskWord, roundWords}
+use Rattle.rules.specs.PlanWords.{Word, rest}
 use Rattle.rules.specs.Build.{Truck, fresh, resting, nextTask, oneVehicle}
-use Rattle.laws.specs.Buffer.{Wrote}
 use Rattle.laws.specs.Marks.{marked, onesOf}
 use Rattle.marks.specs.declared.Marks.{Marks}
+use Rattle.plan_words.specs.Said.{tasksSaid, roundSaid, Said}
+use Rattle.day.specs.Layout.{LayoutOf}
 use Rattle.day.specs.declared.fields.Layout.{Layout}
-use Rattle.next_task.specs.NextBy.{nextOf, NextWithin}
 use Rattle.greedy_laws.specs.Reached.{Reached}
 use Rattle.greedy_laws.specs.States.{unrouted}
-use Rattle.next_task.specs.declared.tasks.Next.{Next}
-use Rattle.vehicle_writer.specs.declared.state.State.{State}
+use Rattle.next_task.specs.NextBy.{nextOf, NextWithin, isTask}
+use Rattle.vehicle_writer.specs.declared.state.Ready.{Ready}
 
 -- the marks are those of the stops still to be routed, and as many
 pub record LeftOf (day taken : List ℕ) (m : Marks) : Type 0 where
   pub are : marked (m .words) ≡ unrouted (stops day) taken
   pub count : onesOf (m .words) ≡ unmet (stops day) taken
 
--- a vehicle that set out when some stops were routed, has rested if due, and has its next task before it; p is what the part was
-pub record Going (day : List ℕ) (layout : Layout) (before : List ℕ) (number : ℕ) (p part : List ℕ) (at : ℕ) (s : State) (next : Next) : Type 0 where
+-- the code's state is that of a vehicle that has rested if due, and its next task is before it
+pub record IsReady (day : List ℕ) (layout : Layout) (v : Truck) (r : Ready) : Type 0 where
+  pub tripIs : r .state .trip ≡ v .trip
+  pub cargoIs : r .state .cargo ≡ v .cargo
+  pub leftIs : LeftOf day (v .taken) (r .state .left)
+  pub nextIs : nextOf (r .next) ≡ nextTask day v
+  pub nextIn : NextWithin layout (r .next)
+
+-- so it is with a fresh vehicle, for whatever stops were routed that leave these marks
+abbrev pub SetsOut : List ℕ → Layout → Marks → Ready → Type 0
+SetsOut day layout m r = (before : List ℕ) → LeftOf day before m → IsReady day layout (resting day (fresh day before)) r
+
+-- a rest is said behind the other words where one is due
+pub record RestSaid (isDue : Bool) (part : List ℕ) (at : ℕ) (now : List ℕ) (end : ℕ) : Type 0 where
+  pub count : end ≡ (if isDue then at + 1 else at)
+  pub size : length now ≡ length part
+  pub says : (what : List Word) (p : List ℕ) → Said what p part at → Said (if isDue then what ++ (rest ∷ []) else what) p now end
+
+-- the first words of a vehicle stand at the front of the part, for whatever stops were routed
+abbrev pub StartSaid : List ℕ → ℕ → List ℕ → List ℕ → ℕ → Type 0
+StartSaid day number part now at = (before : List ℕ) → Said (tasksSaid number (resting day (fresh day before) .tasks)) part now at
+
+-- a vehicle that set out when some stops were routed is ready for its next task, and its words so far are written; p is what the part was
+pub record Going (day : List ℕ) (layout : Layout) (before : List ℕ) (number : ℕ) (p part : List ℕ) (at : ℕ) (r : Ready) : Type 0 where
   pub truck : Truck
   pub reached : Reached day before truck
-  pub tripIs : s .trip ≡ resting day truck .trip
-  pub cargoIs : s .cargo ≡ resting day truck .cargo
-  pub leftIs : LeftOf day (resting day truck .taken) (s .left)
-  pub text : Wrote (vehicleWord number ∷ map taskWord (resting day truck .tasks)) p part at
-  pub nextIs : nextOf next ≡ nextTask day (resting day truck)
-  pub nextIn : NextWithin layout next
+  pub ready : IsReady day layout (resting day truck) r
+  pub text : Said (tasksSaid number (resting day truck .tasks)) p part at
 
 -- there is such a vehicle, and room for it: five words for each stop still to be routed, of which there is one at least
-pub record SomeGoing (day : List ℕ) (layout : Layout) (part : List ℕ) (at : ℕ) (s : State) (next : Next) : Type 0 where
+pub record SomeGoing (day : List ℕ) (layout : Layout) (part : List ℕ) (at : ℕ) (r : Ready) : Type 0 where
+  pub layoutIs : LayoutOf day layout
   pub before : List ℕ
   pub number : ℕ
   pub p : List ℕ
-  pub going : Going day layout before number p part at s next
+  pub going : Going day layout before number p part at r
   pub some : 0 < unmet (stops day) before
   pub room : 5 * unmet (stops day) before ≤ length p
 
+-- and it has a task before it
+pub record TaskAhead (day : List ℕ) (layout : Layout) (part : List ℕ) (at : ℕ) (r : Ready) : Type 0 where
+  pub some : SomeGoing day layout part at r
+  pub task : isTask (r .next) ≡ true
+
 -- each vehicle that stood so now stands so
-abbrev pub GoesOn : List ℕ → Layout → List ℕ → ℕ → State → Next → List ℕ → ℕ → State → Next → Type 0
-GoesOn day layout part at s next now end after following =
-    (before : List ℕ) (number : ℕ) (p : List ℕ) → Going day layout before number p part at s next → Going day layout before number p now end after following
-
--- the state of a fresh vehicle that has rested if due, and its first task
-pub record First (day : List ℕ) (layout : Layout) (before : List ℕ) (s : State) (next : Next) : Type 0 where
-  pub tripIs : s .trip ≡ resting day (fresh day before) .trip
-  pub cargoIs : s .cargo ≡ resting day (fresh day before) .cargo
-  pub leftIs : LeftOf day (resting day (fresh day before) .taken) (s .left)
-  pub nextIs : nextOf next ≡ nextTask day (resting day (fresh day before))
-  pub nextIn : NextWithin layout next
-
--- so it is for whatever stops were routed that leave these marks
-abbrev pub SetsOut : List ℕ → Layout → Marks → State → Next → Type 0
-SetsOut day layout m s next = (before : List ℕ) → LeftOf day before m → First day layout before s next
+abbrev pub GoesOn : List ℕ → Layout → List ℕ → ℕ → Ready → List ℕ → ℕ → Ready → Type 0
+GoesOn day layout part at r now end after =
+    (before : List ℕ) (number : ℕ) (p : List ℕ) → Going day layout before number p part at r → Going day layout before number p now end after
 
 -- the marks are those of some stops still to be routed, with room for them
 pub record SomeLeft (day part : List ℕ) (m : Marks) : Type 0 where
@@ -68,13 +81,13 @@ pub record SomeLeft (day part : List ℕ) (m : Marks) : Type 0 where
 
 -- the vehicle's words stand at the front of the part, and the marks are those that it leaves
 pub record VehicleDone (day before : List ℕ) (number : ℕ) (p part : List ℕ) (m : Marks) (words : ℕ) : Type 0 where
-  pub text : Wrote (roundWords number (oneVehicle day before .tasks)) p part words
+  pub text : Said (roundSaid number (oneVehicle day before .tasks)) p part words
   pub leftIs : LeftOf day (oneVehicle day before .taken) m
 
 -- each vehicle that stood so is now written
-abbrev pub EndsAll : List ℕ → Layout → List ℕ → ℕ → State → Next → List ℕ → Marks → ℕ → Type 0
-EndsAll day layout part at s next now m words =
-    (before : List ℕ) (number : ℕ) (p : List ℕ) → Going day layout before number p part at s next → VehicleDone day before number p now m words
+abbrev pub EndsAll : List ℕ → Layout → List ℕ → ℕ → Ready → List ℕ → Marks → ℕ → Type 0
+EndsAll day layout part at r now m words =
+    (before : List ℕ) (number : ℕ) (p : List ℕ) → Going day layout before number p part at r → VehicleDone day before number p now m words
 
 -- nothing is written where the vehicle takes no stop
 pub record VehicleWritten (day before : List ℕ) (number : ℕ) (p part : List ℕ) (m : Marks) (words : ℕ) : Type 0 where

@@ -2,24 +2,26 @@
 ghost use mathlib.Core.Path.{_≡_};
 ghost use mathlib.Core.Bool.{true};
 ghost use Prim.Native.Nat.{_<_, _≤_};
-ghost use Rattle.rules.specs.Fields.{stopPlace};
-ghost use Rattle.rules.specs.Cargo.{empty, emptied};
-ghost use Rattle.rules.specs.Trip.{leaving, visited};
-ghost use Rattle.rules.specs.Home.{restIfDue};
-ghost use Rattle.rules.specs.Choice.{taking};
-ghost use Rattle.laws.specs.Marks.{marked, Unmarked};
+ghost use Rattle.rules.specs.PlanWords.{wordOf};
+ghost use Rattle.rules.specs.Cargo.{empty};
+ghost use Rattle.rules.specs.Trip.{leaving};
+ghost use Rattle.laws.specs.Marks.{marked};
 ghost use Rattle.day.specs.Layout.{LayoutOf};
-ghost use Rattle.next_task.specs.NextBy.{NextWithin, nextWord, isTask};
-ghost use Rattle.greedy_laws.specs.States.{SmallTrip, SmallCargo};
-ghost use Rattle.vehicle_writer.specs.Done.{Done, Doable};
+ghost use Rattle.next_task.specs.NextBy.{NextWithin, isTask};
+ghost use Rattle.vehicle_writer.specs.Done.{SmallState, Doable, Fits, nextSaid, Served, Emptied, Done, Rested, MadeReady};
+ghost use Rattle.vehicle_writer.specs.Going.{SetsOut};
 use day::fields::Layout;
 use marks::Marks;
 use next_task::tasks::Next;
+use next_task::tasks::next_task;
 use plan_words::BACK;
-use plan_words::STOP;
-use plan_words::TIP;
+use plan_words::stop_word;
+use plan_words::tip_word;
 use rules::walk::Cargo;
 use rules::walk::Trip;
+use trips::cargo::load_on;
+use trips::cargo::nothing;
+use trips::cargo::tip_out;
 use ways_home::home::rest_if_due;
 use ways_home::home::visit;
 use ways_home::home::visit_stop;
@@ -30,112 +32,138 @@ pub struct State {
     pub left: Marks,
 }
 
-// A fresh vehicle, at the depot when it opens.
-pub fn fresh_state(day: &[u32], layout: Layout, left: Marks) -> State
+// The trip of a fresh vehicle: at the depot when it opens.
+pub fn leave_depot(day: &[u32], layout: Layout) -> Trip
+    requires { ⌜ LayoutOf (now day) layout ⌝ }
+    ensures { λ r. ⌜ r ≡ leaving (now (day .entry)) ⌝ }
+{
+    let hours = day::fields::depot_window(day, layout);
+    Trip {
+        minute: hours.opening,
+        place: 0,
+        rested: false,
+        distance: 0,
+    }
+}
+
+// A fresh vehicle.
+fn fresh_state(day: &[u32], layout: Layout, left: Marks) -> State
     requires { ⌜ LayoutOf (now day) layout ⌝ }
     ensures { λ r. ⌜ (r .trip ≡ leaving (now (day .entry))) × (r .cargo ≡ empty) × (r .left ≡ left) ⌝ }
 {
-    let hours = day::fields::depot_window(day, layout);
     State {
-        trip: Trip {
-            minute: hours.opening,
-            place: 0,
-            rested: false,
-            distance: 0,
-        },
-        cargo: Cargo {
-            load: 0,
-            kg: 0,
-            visits: 0,
-        },
+        trip: leave_depot(day, layout),
+        cargo: nothing(),
         left,
     }
 }
 
-// Stop k is served.
-fn serve_stop(day: &[u32], layout: Layout, s: State, k: usize) -> State
-    requires { ⌜ LayoutOf (now day) layout × SmallTrip (now day) 2147483648 (s .trip) × SmallCargo (s .cargo) × (0 < k) × (k ≤ layout .stops) × (marked (s .left .words) k ≡ true) ⌝ }
-    ensures { λ r. ⌜ (r .trip ≡ visited (now (day .entry)) (s .trip) (stopPlace (now (day .entry)) k)) × (r .cargo ≡ taking (now (day .entry)) (s .cargo) k) × Unmarked (s .left .words) k (r .left .words) ⌝ }
+// A stop is served.
+fn serve_stop(day: &[u32], layout: Layout, state: State, stop: usize) -> State
+    requires { ⌜ SmallState (now day) layout state × (0 < stop) × (stop ≤ layout .stops) × (marked (state .left .words) stop ≡ true) ⌝ }
+    ensures { λ r. ⌜ Served (now (day .entry)) state stop r ⌝ }
 {
-    let q = day::fields::stop_quantity(day, layout, k);
-    let c = s.cargo;
-    let t = s.trip;
-    let left = s.left;
+    let kg = day::fields::stop_quantity(day, layout, stop);
+    let cargo = state.cargo;
+    let trip = state.trip;
+    let left = state.left;
     State {
-        trip: visit_stop(day, layout, t, k),
-        cargo: Cargo {
-            load: c.load + q,
-            kg: c.kg + q,
-            visits: c.visits + 1,
-        },
-        left: marks::unmark(left, k),
+        trip: visit_stop(day, layout, trip, stop),
+        cargo: load_on(cargo, kg),
+        left: marks::unmark(left, stop),
     }
 }
 
-// The load is emptied at tip x.
-fn empty_load(day: &[u32], layout: Layout, s: State, x: usize) -> State
-    requires { ⌜ LayoutOf (now day) layout × SmallTrip (now day) 2147483648 (s .trip) × (0 < x) × (x ≤ layout .tips) ⌝ }
-    ensures { λ r. ⌜ (r .trip ≡ visited (now (day .entry)) (s .trip) x) × (r .cargo ≡ emptied (s .cargo)) × (r .left ≡ s .left) ⌝ }
+// The load is emptied at a tip.
+fn empty_load(day: &[u32], layout: Layout, state: State, tip: usize) -> State
+    requires { ⌜ SmallState (now day) layout state × (0 < tip) × (tip ≤ layout .tips) ⌝ }
+    ensures { λ r. ⌜ Emptied (now (day .entry)) state tip r ⌝ }
 {
-    let hours = day::fields::tip_window(day, layout, x);
-    let minutes = day::fields::tip_service(day, layout, x);
-    let c = s.cargo;
-    let t = s.trip;
-    let left = s.left;
+    let hours = day::fields::tip_window(day, layout, tip);
+    let minutes = day::fields::tip_service(day, layout, tip);
+    let cargo = state.cargo;
+    let trip = state.trip;
+    let left = state.left;
     State {
-        trip: visit(day, layout, t, x, hours, minutes),
-        cargo: Cargo {
-            load: 0,
-            kg: c.kg,
-            visits: c.visits,
-        },
+        trip: visit(day, layout, trip, tip, hours, minutes),
+        cargo: tip_out(cargo),
         left,
     }
 }
 
 // The next task is done.
-pub fn do_task(day: &[u32], layout: Layout, s: State, next: Next) -> State
-    requires { ⌜ LayoutOf (now day) layout × SmallTrip (now day) 2147483648 (s .trip) × SmallCargo (s .cargo) × NextWithin layout next × Doable (s .left .words) next ⌝ }
-    ensures { λ r. ⌜ Done (now (day .entry)) s next r ⌝ }
+pub fn do_task(day: &[u32], layout: Layout, state: State, next: Next) -> State
+    requires { ⌜ SmallState (now day) layout state × NextWithin layout next × Doable (state .left .words) next ⌝ }
+    ensures { λ r. ⌜ Done (now (day .entry)) state next r ⌝ }
 {
     match next {
-        Next::Stop(k) => serve_stop(day, layout, s, k),
-        Next::Tip(x) => empty_load(day, layout, s, x),
-        Next::Home => s,
+        Next::Stop(stop) => serve_stop(day, layout, state, stop),
+        Next::Tip(tip) => empty_load(day, layout, state, tip),
+        Next::Home => state,
     }
 }
 
 // A rest is taken if due.
-pub fn rest_state(day: &[u32], layout: Layout, s: State) -> State
-    requires { ⌜ LayoutOf (now day) layout × SmallTrip (now day) 4294901760 (s .trip) ⌝ }
-    ensures { λ r. ⌜ (r .trip ≡ restIfDue (now (day .entry)) (s .trip)) × (r .cargo ≡ s .cargo) × (r .left ≡ s .left) ⌝ }
+fn rest_state(day: &[u32], layout: Layout, state: State) -> State
+    requires { ⌜ SmallState (now day) layout state ⌝ }
+    ensures { λ r. ⌜ Rested (now (day .entry)) state r ⌝ }
 {
-    let t = s.trip;
-    let c = s.cargo;
-    let left = s.left;
+    let trip = state.trip;
+    let cargo = state.cargo;
+    let left = state.left;
     State {
-        trip: rest_if_due(day, layout, t),
-        cargo: c,
+        trip: rest_if_due(day, layout, trip),
+        cargo,
         left,
     }
 }
 
+// A vehicle that has rested if due, with its next task before it.
+pub struct Ready {
+    pub state: State,
+    pub next: Next,
+}
+
+// A rest is taken if due, and the next task is found.
+pub fn make_ready(day: &[u32], layout: Layout, before: State) -> Ready
+    requires { ⌜ SmallState (now day) layout before ⌝ }
+    ensures { λ r. ⌜ MadeReady (now (day .entry)) layout before r ⌝ }
+{
+    let state = rest_state(day, layout, before);
+    let trip = state.trip;
+    let cargo = state.cargo;
+    let left = state.left;
+    Ready {
+        state,
+        next: next_task(day, layout, trip, cargo, left),
+    }
+}
+
+// A fresh vehicle, ready for its first task.
+pub fn set_out(day: &[u32], layout: Layout, left: Marks) -> Ready
+    requires { ⌜ LayoutOf (now day) layout ⌝ }
+    ensures { λ r. ⌜ SetsOut (now (day .entry)) layout left r ⌝ }
+{
+    make_ready(day, layout, fresh_state(day, layout, left))
+}
+
 // The word of a task: B or C; E where there is none.
-pub fn word_of(layout: Layout, next: Next) -> u32
-    requires { ⌜ NextWithin layout next × (layout .stops < 256) × (layout .tips < 256) ⌝ }
-    ensures { λ r. ⌜ r ≡ nextWord next ⌝ }
+pub fn word_of(next: Next) -> u32
+    requires { ⌜ Fits next ⌝ }
+    ensures { λ r. ⌜ wordOf r ≡ nextSaid next ⌝ }
 {
     match next {
-        Next::Stop(k) => STOP + k as u32,
-        Next::Tip(x) => TIP + x as u32,
+        Next::Stop(stop) => stop_word(stop),
+        Next::Tip(tip) => tip_word(tip),
         Next::Home => BACK,
     }
 }
 
 // Whether there is a task.
-pub fn is_task(next: Next) -> bool
-    ensures { λ r. ⌜ r ≡ isTask next ⌝ }
+pub fn has_task(ready: Ready) -> bool
+    ensures { λ r. ⌜ r ≡ isTask (ready .next) ⌝ }
 {
+    let next = ready.next;
     match next {
         Next::Stop(_) => true,
         Next::Tip(_) => true,

@@ -1,76 +1,54 @@
 // One vehicle's words, written at the front of the part of the plan that is lent.
-ghost use mathlib.Core.Path.{_≡_};
-ghost use Prim.Native.Nat.{_+_, _<_};
-ghost use lib.ListN.{length, set};
-ghost use Rattle.rules.specs.Tests.{if_then_else_};
-ghost use Rattle.rules.specs.PlanWords.{restWord};
-ghost use Rattle.rules.specs.Cargo.{empty};
-ghost use Rattle.rules.specs.Trip.{leaving};
+ghost use Prim.Native.Nat.{_<_};
+ghost use lib.ListN.{length};
 ghost use Rattle.rules.specs.Home.{due};
 ghost use Rattle.day.specs.Layout.{LayoutOf};
-ghost use Rattle.vehicle_writer.specs.Going.{SomeGoing, GoesOn, EndsAll, SetsOut, SomeLeft, WritesOne};
-ghost use mathlib.Core.Bool.{true};
-ghost use Rattle.next_task.specs.NextBy.{isTask};
-use crate::state::State;
+ghost use Rattle.vehicle_writer.specs.Going.{RestSaid, StartSaid, TaskAhead, GoesOn, SomeGoing, EndsAll, SomeLeft, WritesOne};
+use crate::state::Ready;
 use crate::state::do_task;
-use crate::state::fresh_state;
-use crate::state::is_task;
-use crate::state::rest_state;
+use crate::state::has_task;
+use crate::state::leave_depot;
+use crate::state::make_ready;
+use crate::state::set_out;
 use crate::state::word_of;
 use day::fields::Layout;
 use marks::Marks;
-use next_task::tasks::Next;
-use next_task::tasks::next_task;
 use plan_words::BACK;
 use plan_words::REST;
-use plan_words::VEHICLE;
+use plan_words::vehicle_word;
 use rules::walk::Trip;
 use ways_home::home::is_due;
 
 // The D word where a rest is due; how many words there are then.
-fn write_rest(day: &[u32], layout: Layout, t: Trip, part: &mut [u32], at: usize) -> usize
+fn write_rest(day: &[u32], layout: Layout, trip: Trip, part: &mut [u32], at: usize) -> usize
     requires { ⌜ LayoutOf (now day) layout × (at < length (now part)) ⌝ }
-    ensures count { λ r. ⌜ r ≡ (if due (now (day .entry)) t then at + 1 else at) ⌝ }
-    ensures text { λ r. ⌜ now (part .exit) ≡ (if due (now (day .entry)) t then set (now (part .entry)) at restWord else now (part .entry)) ⌝ }
+    ensures { λ r. ⌜ RestSaid (due (now (day .entry)) trip) (now (part .entry)) at (now (part .exit)) r ⌝ }
 {
-    if is_due(day, layout, t) {
+    if is_due(day, layout, trip) {
         part[at] = REST;
         return at + 1;
     }
     at
 }
 
-// Where the writer of one vehicle stands: the state behind the task written last, the next task, and how many words there are.
+// Where the writer of one vehicle stands: the vehicle, ready for its next task, and how many words there are.
 pub struct Progress {
-    pub state: State,
-    pub next: Next,
+    pub ready: Ready,
     pub at: usize,
 }
 
 // One task more is written and done, and the rest behind it where one is due.
-fn write_task(
-    day: &[u32],
-    layout: Layout,
-    s: State,
-    next: Next,
-    part: &mut [u32],
-    at: usize,
-) -> Progress
-    requires { ⌜ LayoutOf (now day) layout × SomeGoing (now day) layout (now part) at s next × (isTask next ≡ true) ⌝ }
+fn write_task(day: &[u32], layout: Layout, ready: Ready, part: &mut [u32], at: usize) -> Progress
+    requires { ⌜ TaskAhead (now day) layout (now part) at ready ⌝ }
     ensures grows { λ r. ⌜ at < r .at ⌝ }
-    ensures goesOn { λ r. ⌜ GoesOn (now (day .entry)) layout (now (part .entry)) at s next (now (part .exit)) (r .at) (r .state) (r .next) ⌝ }
+    ensures goesOn { λ r. ⌜ GoesOn (now (day .entry)) layout (now (part .entry)) at ready (now (part .exit)) (r .at) (r .ready) ⌝ }
 {
-    part[at] = word_of(layout, next);
-    let done = do_task(day, layout, s, next);
-    let t = done.trip;
-    let end = write_rest(day, layout, t, part, at + 1);
-    let rested = rest_state(day, layout, done);
-    let u = rested.trip;
-    let c = rested.cargo;
-    let left = rested.left;
+    let next = ready.next;
+    part[at] = word_of(next);
+    let done = do_task(day, layout, ready.state, next);
+    let end = write_rest(day, layout, done.trip, part, at + 1);
     Progress {
-        state: rested,
-        next: next_task(day, layout, u, c, left),
+        ready: make_ready(day, layout, done),
         at: end,
     }
 }
@@ -82,48 +60,34 @@ pub struct Written {
 }
 
 // The tasks of a vehicle that has its first one before it, and its way back.
-fn write_tasks(
-    day: &[u32],
-    layout: Layout,
-    first: State,
-    task: Next,
-    part: &mut [u32],
-    from: usize,
-) -> Written
-    requires { ⌜ LayoutOf (now day) layout × SomeGoing (now day) layout (now part) from first task ⌝ }
-    ensures { λ r. ⌜ EndsAll (now (day .entry)) layout (now (part .entry)) from first task (now (part .exit)) (r .left) (r .words) ⌝ }
+fn write_tasks(day: &[u32], layout: Layout, first: Ready, part: &mut [u32], from: usize) -> Written
+    requires { ⌜ SomeGoing (now day) layout (now part) from first ⌝ }
+    ensures { λ r. ⌜ EndsAll (now (day .entry)) layout (now (part .entry)) from first (now (part .exit)) (r .left) (r .words) ⌝ }
 {
-    let mut s = first;
-    let mut next = task;
+    let mut ready = first;
     let mut at = from;
-    while is_task(next) {
-        let g = write_task(day, layout, s, next, part, at);
-        s = g.state;
-        next = g.next;
-        at = g.at;
+    while has_task(ready) {
+        let progress = write_task(day, layout, ready, part, at);
+        ready = progress.ready;
+        at = progress.at;
     }
     part[at] = BACK;
-    let left = s.left;
+    let state = ready.state;
+    let left = state.left;
     Written {
         left,
         words: at + 1,
     }
 }
 
-// The first task of a fresh vehicle, behind a rest if due; no word is written yet.
-fn set_out(day: &[u32], layout: Layout, start: State) -> Progress
-    requires { ⌜ LayoutOf (now day) layout × (start .trip ≡ leaving (now day)) × (start .cargo ≡ empty) ⌝ }
-    ensures { λ r. ⌜ SetsOut (now (day .entry)) layout (start .left) (r .state) (r .next) ⌝ }
+// The words of a vehicle before its first task: A, and D where a rest is due; how many there are.
+fn write_start(day: &[u32], layout: Layout, number: u32, part: &mut [u32]) -> usize
+    requires { ⌜ LayoutOf (now day) layout × (number < 256) × (1 < length (now part)) ⌝ }
+    ensures { λ r. ⌜ StartSaid (now (day .entry)) number (now (part .entry)) (now (part .exit)) r ⌝ }
 {
-    let s = rest_state(day, layout, start);
-    let t = s.trip;
-    let c = s.cargo;
-    let left = s.left;
-    Progress {
-        state: s,
-        next: next_task(day, layout, t, c, left),
-        at: 0,
-    }
+    part[0] = vehicle_word(number);
+    let trip = leave_depot(day, layout);
+    write_rest(day, layout, trip, part, 1)
 }
 
 // One vehicle, with the stops still to be routed; nothing is written where it takes none.
@@ -137,15 +101,10 @@ pub fn write_vehicle(
     requires { ⌜ LayoutOf (now day) layout × (number < 256) × SomeLeft (now day) (now part) left ⌝ }
     ensures { λ r. ⌜ WritesOne (now (day .entry)) left number (now (part .entry)) (now (part .exit)) (r .left) (r .words) ⌝ }
 {
-    let start = fresh_state(day, layout, left);
-    let t = start.trip;
-    let out = set_out(day, layout, start);
-    let next = out.next;
-    if is_task(next) {
-        let s = out.state;
-        part[0] = VEHICLE + number;
-        let at = write_rest(day, layout, t, part, 1);
-        return write_tasks(day, layout, s, next, part, at);
+    let ready = set_out(day, layout, left);
+    if has_task(ready) {
+        let at = write_start(day, layout, number, part);
+        return write_tasks(day, layout, ready, part, at);
     }
     Written { left, words: 0 }
 }

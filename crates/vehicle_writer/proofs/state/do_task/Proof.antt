@@ -4,20 +4,18 @@ use mathlib.Core.Path.{refl}
 use Rattle.vehicle_writer.proofs.state.do_task.Statement.{statement}
 use Rattle.vehicle_writer.proofs.state.do_task.Tie as tie
 
-enum-known-next : tie.Need-enum-known-next
-enum-known-next c = search needs
-
 serve-stop-requires : tie.Need-serve-stop-requires
-serve-stop-requires c κs = let p = c .before .before .before .before .pre in let e = c .before .next .given .1 in let w = rw e at (p .3) in (p .0, p .1, p .2, w .0, w .1, rw e at (p .4))
-
-enum-known-next-2 : tie.Need-enum-known-next-2
-enum-known-next-2 c = search needs
+serve-stop-requires c κs =
+    let p = c .before .before .before .before .pre in
+    let e = c .before .next .given .1 in
+    let w = rw e at (p .1) in
+    (p .0, w .0, w .1, rw e at (p .2))
 
 empty-load-requires : tie.Need-empty-load-requires
-empty-load-requires c κs = let p = c .before .before .before .before .pre in let e = c .before .next2 .given .1 in let w = rw e at (p .3) in (p .0, p .1, w .0, w .1)
-
-enum-told : tie.Need-enum-told
-enum-told c = search needs
+empty-load-requires c κs =
+    let p = c .before .before .before .before .pre in
+    let w = rw (c .before .next2 .given .1) at (p .1) in
+    (p .0, w .0, w .1)
 
 returns : tie.Need-returns
 returns c = rw (c .before .before .next .given .1) (c .serve-stop .ensures)
@@ -32,11 +30,11 @@ pub do-task-spec : {M : Type 1} → statement M
 do-task-spec =
     tie.close
     (tie.spec
-    enum-known-next
+    (λ c. search needs)
     serve-stop-requires
-    enum-known-next-2
+    (λ c. search needs)
     empty-load-requires
-    enum-told
+    (λ c. search needs)
     returns
     returns-2
     returns-3)

@@ -1,39 +1,33 @@
 -- `vehicle_writer::state::word_of` meets its contract.
+use Rattle.plan_words.proofs.WordForms.{stop-made, tip-made, back-form}
 use borrow.Author.Needs.{needs}
-use mathlib.Core.Path.{refl}
-use native.Mathlib.Omega.{arith}
 use Rattle.vehicle_writer.proofs.state.word_of.Statement.{statement}
 use Rattle.vehicle_writer.proofs.state.word_of.Tie as tie
 
-cast-result : tie.Need-cast-result
-cast-result c = let p = c .before .before .before .pre in let w = rw (c .before .next .given .1) at (p .0) in omega (arith, w .1, p .1)
+stop-word-requires : tie.Need-stop-word-requires
+stop-word-requires c κs = rw (c .before .next .given .1) at (c .before .before .before .pre)
 
-add-result : tie.Need-add-result
-add-result c = let p = c .before .before .before .pre in let w = rw (c .before .next .given .1) at (p .0) in omega (arith, w .1, p .1)
-
-cast-result-2 : tie.Need-cast-result-2
-cast-result-2 c = let p = c .before .before .before .pre in let w = rw (c .before .next2 .given .1) at (p .0) in omega (arith, w .1, p .2)
-
-add-result-2 : tie.Need-add-result-2
-add-result-2 c = let p = c .before .before .before .pre in let w = rw (c .before .next2 .given .1) at (p .0) in omega (arith, w .1, p .2)
+tip-word-requires : tie.Need-tip-word-requires
+tip-word-requires c κs = rw (c .before .next2 .given .1) at (c .before .before .before .pre)
 
 returns : tie.Need-returns
-returns c = rw (c .before .next .given .1) refl
+returns c = rw (c .before .before .next .given .1) (stop-made _ (stop-word-requires (c .before) _) (c .stop-word .ensures))
 
 returns-2 : tie.Need-returns-2
-returns-2 c = rw (c .before .next2 .given .1) refl
+returns-2 c = rw (c .before .before .next2 .given .1) (tip-made _ (tip-word-requires (c .before) _) (c .tip-word .ensures))
+
+returns-3 : tie.Need-returns-3
+returns-3 c = rw (c .enum-told .given .1) back-form
 
 pub word-of-spec : {M : Type 1} → statement M
 word-of-spec =
     tie.close
     (tie.spec
     (λ c. search needs)
-    cast-result
-    add-result
+    stop-word-requires
     (λ c. search needs)
-    cast-result-2
-    add-result-2
+    tip-word-requires
     (λ c. search needs)
     returns
     returns-2
-    (λ c. search needs))
+    returns-3)

@@ -1,16 +1,23 @@
 -- `vehicle_writer::writer::write_rest` meets its contract.
+use Rattle.vehicle_writer.proofs.GoingLaws.{rest-put, rest-none}
 use borrow.Author.Needs.{needs}
-use Rattle.laws.proofs.Tests.{branches}
 use Rattle.vehicle_writer.proofs.writer.write_rest.Statement.{statement}
 use Rattle.vehicle_writer.proofs.writer.write_rest.Tie as tie
 
 returns : tie.Need-returns
-returns c = (search branches, search branches)
+returns c = search rest-put
 
 returns-2 : tie.Need-returns-2
-returns-2 c = (search branches, search branches)
+returns-2 c = search rest-none
 
 pub write-rest-spec : {M : Type 1} → statement M
 write-rest-spec =
     tie.close
-    (tie.spec (λ c κs. search needs) (λ c. search needs) (λ c. search needs) (λ c. search needs) (λ c. search needs) returns returns-2)
+    (tie.spec
+    (λ c κs. search needs)
+    (λ c. search needs)
+    (λ c. search needs)
+    (λ c. search needs)
+    (λ c. search needs)
+    returns
+    returns-2)
