@@ -2,27 +2,31 @@
 -- Assumes nothing.
 use Prim.Native.Nat.{ℕ, _+_, _≤_, _<_}
 use mathlib.Core.Path.{_≡_, refl, sym, ap, _∙_}
-use mathlib.Core.Bool.{Bool, true, false, not, _||_, true≢false, and-false}
+use mathlib.Core.Bool.{Bool, true, false, not, _&&_, _||_, true≢false, and-false, and-assoc}
 use mathlib.Core.List.{List}
 use native.Mathlib.Omega.{arith}
 use lib.Dec.{ltb, leb, eqb}
-use borrow.Author.Tests.{le-leb, lt-leb, le-ltb, lt-ltb, eq-eqb, ne-eqb, leb-true, leb-false}
+use borrow.Author.Tests.{le-leb, lt-leb, le-ltb, lt-ltb, ne-eqb, leb-true, leb-false, ltb-true}
+use Rattle.rules.specs.Tests.{if_then_else_}
 use Rattle.rules.specs.Least.{better}
-use Rattle.rules.specs.Fields.{tips, stops, stopPlace, loadLimit, dayLimit, stopLimit, opening, quantity, legMinutes}
+use Rattle.rules.specs.Fields.{stopPlace, loadLimit, dayLimit, stopLimit, opening, closing, quantity, legMinutes}
 use Rattle.rules.specs.Cargo.{loaded, overLimits}
 use Rattle.rules.specs.Trip.{arrival, visited}
 use Rattle.rules.specs.Home.{wayHome}
-use Rattle.rules.specs.Choice.{taking, suits, takeable, waitable, nearKey, openKey}
+use Rattle.rules.specs.Choice.{taking, suits, takeable, waitable}
 use Rattle.rules.specs.declared.walk.Cargo.{Cargo}
 use Rattle.rules.specs.declared.walk.Trip.{Trip}
 use Rattle.laws.specs.Marks.{both, upTo}
 use Rattle.laws.proofs.Marks.{both-in, both-out, upTo-low, upTo-out, upTo-in}
 use Rattle.laws.proofs.Least.{better-fails, better-wins, better-loses}
+use Rattle.laws.proofs.Tests.{both-true}
 use Rattle.day.specs.Layout.{LayoutOf, WindowOf, LegOf}
 use Rattle.day.specs.declared.fields.Layout.{Layout}
 use Rattle.day.specs.declared.fields.Leg.{Leg}
 use Rattle.day.specs.declared.fields.Window.{Window}
 use Rattle.greedy_laws.specs.States.{SmallTrip}
+use Rattle.next_task.specs.Wanted.{wanted, timely, keyOf, keysEnd, BestSoFar}
+use Rattle.next_task.specs.declared.choice.Best.{Best}
 
 -- one stop more: over Q, over Q*, and else by S*
 module _ (day : List ℕ) (c : Cargo) (q : ℕ) where
@@ -52,7 +56,7 @@ fitting day c k eq eb z = go (overLimits day (taking day c k)) (sym z ∙ eb ∙
     go true e = absurd (true≢false e)
     go false e = refl
 
--- a stop that fits suits where there is a way home; one that does not is not to be had
+-- a stop that fits suits where there is a way home
 module _ (day : List ℕ) (t : Trip) (c : Cargo) (k : ℕ) where
   pub fit-home : {q : ℕ} {r : Bool} (u : Trip) → overLimits day (taking day c k) ≡ false → q ≡ quantity day (stopPlace day k)
       → u ≡ visited day t (stopPlace day k) → r ≡ wayHome day u (c .load + q) → r ≡ suits day t c k
@@ -63,88 +67,105 @@ module _ (day : List ℕ) (t : Trip) (c : Cargo) (k : ℕ) where
   unfolding suits
   unfit eq eb z = rw (← eq, ← eb, z) refl
 
-  pub unfit-near : {q : ℕ} {b : Bool} → q ≡ quantity day (stopPlace day k) → b ≡ not (overLimits day (loaded c q)) → b ≡ false → false ≡ takeable day t c k
-  unfolding takeable
-  unfit-near eq eb z = rw (unfit eq eb z, and-false, and-false)
-
-  pub unfit-early : {q : ℕ} {b : Bool} → q ≡ quantity day (stopPlace day k) → b ≡ not (overLimits day (loaded c q)) → b ≡ false → false ≡ waitable day t c k
-  unfolding waitable
-  unfit-early eq eb z = rw (unfit eq eb z, and-false)
-
-pub served-trip : (day : List ℕ) (layout : Layout) (less most : ℕ) (t u : Trip) (k : ℕ) → LayoutOf day layout → SmallTrip day less t → less + 65536 ≤ most → 0 < k → k ≤ layout .stops
-    → arrival day t (stopPlace day k) < 4096 → u ≡ visited day t (stopPlace day k) → SmallTrip day most u
-served-trip day layout less most t u k hz h l a b early e =
+-- behind its service the trip is still small
+pub served-trip : (day : List ℕ) (layout : Layout) (t u : Trip) (k : ℕ) → LayoutOf day layout → SmallTrip day 2147483648 t → k ≤ layout .stops
+    → arrival day t (stopPlace day k) < 4096 → u ≡ visited day t (stopPlace day k) → SmallTrip day 4294901760 u
+served-trip day layout t u k l h b early e =
     rw e
     (record {
-      place = omega (arith, hz .stopsAre);
+      place = omega (arith, l .stopsAre);
       minute = omega arith;
       distance = omega (arith, h .distance);
     })
 
--- fewer minutes, or an earlier opening, than the best so far
-pub first-choice : (best : ℕ) (b : Bool) → best ≡ 0 → true ≡ (eqb best 0 || b)
-first-choice best b e = rw (eq-eqb best 0 e)
-
-pub nearer-choice : (day : List ℕ) (layout : Layout) (t : Trip) (minutes best : ℕ) (l : Leg) → LayoutOf day layout → (best ≡ 0 → ⊥) → LegOf day (t .place) (layout .tips + best) l
-    → ltb minutes (l .minutes) ≡ (eqb best 0 || ltb minutes (nearKey day t best))
-nearer-choice day layout t minutes best l hz n hl = rw (ne-eqb best 0 n, hl .takes, hz .tipsAre)
-
-pub earlier-choice : (day : List ℕ) (minutes best : ℕ) (w : Window) → (best ≡ 0 → ⊥) → WindowOf day (stopPlace day best) w
-    → ltb minutes (w .opening) ≡ (eqb best 0 || ltb minutes (openKey day best))
-earlier-choice day minutes best w n hw = rw (ne-eqb best 0 n, hw .opens)
-
--- a stop that is reached by its opening or closing is reached early in the day
-pub soon : (day : List ℕ) (layout : Layout) (t : Trip) (k most : ℕ) (l : Leg) → LayoutOf day layout → LegOf day (t .place) (layout .tips + k) l → t .minute + l .minutes ≤ most → most < 4096
-    → arrival day t (stopPlace day k) < 4096
-soon day layout t k most l hz hl h m = let leg : l .minutes ≡ legMinutes day (t .place) (stopPlace day k) = rw (hz .tipsAre) at (hl .takes) in omega arith
-
 -- reached within the window, or before it opens
-module _ (day : List ℕ) (layout : Layout) (t : Trip) (c : Cargo) (k : ℕ) (l : Leg) (w : Window) (hz : LayoutOf day layout)
-    (hl : LegOf day (t .place) (layout .tips + k) l) (hw : WindowOf day (stopPlace day k) w) where
-  leg-here : l .minutes ≡ legMinutes day (t .place) (stopPlace day k)
-  leg-here = rw (hz .tipsAre) at (hl .takes)
+module _ (near : Bool) (day : List ℕ) (layout : Layout) (t : Trip) (k : ℕ) (leg : Leg) (hours : Window) (l : LayoutOf day layout)
+    (takes : LegOf day (t .place) (layout .tips + k) leg) (opens : WindowOf day (stopPlace day k) hours) where
+  leg-here : leg .minutes ≡ legMinutes day (t .place) (stopPlace day k)
+  leg-here = rw (l .tipsAre) at (takes .takes)
 
-  pub early : t .minute + l .minutes < w .opening → false ≡ takeable day t c k
-  unfolding takeable
-  early h = rw (lt-leb _ _ (rw (leg-here, hw .opens) at h))
+  pub near-early : near ≡ true → t .minute + leg .minutes < hours .opening → false ≡ timely near day t k
+  unfolding timely
+  near-early e h = rw (e, lt-leb _ _ (rw (leg-here, opens .opens) at h))
 
-  pub late : w .opening ≤ t .minute + l .minutes → w .closing < t .minute + l .minutes → false ≡ takeable day t c k
-  unfolding takeable
-  late g h = rw (le-leb _ _ (rw (leg-here, hw .opens) at g), lt-leb _ _ (rw (leg-here, hw .closes) at h))
+  pub near-opened : near ≡ true → hours .opening ≤ t .minute + leg .minutes → leb (t .minute + leg .minutes) (hours .closing) ≡ timely near day t k
+  unfolding timely
+  near-opened e h = rw (e, le-leb _ _ (rw (leg-here, opens .opens) at h), leg-here, opens .closes)
 
-  pub in-window : {b : Bool} → w .opening ≤ t .minute + l .minutes → t .minute + l .minutes ≤ w .closing → b ≡ suits day t c k → b ≡ takeable day t c k
-  unfolding takeable
-  in-window g h e = e ∙ rw (le-leb _ _ (rw (leg-here, hw .opens) at g), le-leb _ _ (rw (leg-here, hw .closes) at h))
+  pub before-opening : near ≡ false → ltb (t .minute + leg .minutes) (hours .opening) ≡ timely near day t k
+  unfolding timely
+  before-opening e = rw (e, leg-here, opens .opens)
 
-  pub open-already : w .opening ≤ t .minute + l .minutes → false ≡ waitable day t c k
-  unfolding waitable
-  open-already h = rw (le-ltb _ _ (rw (leg-here, hw .opens) at h))
+-- a stop that is reached at the right time is reached early in the day
+pub timely-soon : (near : Bool) (day : List ℕ) (t : Trip) (k : ℕ) {b : Bool} → b ≡ timely near day t k → b ≡ true → arrival day t (stopPlace day k) < 4096
+unfolding timely
+timely-soon true day t k e z =
+    let minute = arrival day t (stopPlace day k) in
+    let last = closing day (stopPlace day k) in
+    omega (arith, leb-true minute last (both-true (leb (opening day (stopPlace day k)) minute) (leb minute last) (sym e ∙ z) .1))
+timely-soon false day t k e z = omega (arith, ltb-true (arrival day t (stopPlace day k)) (opening day (stopPlace day k)) (sym e ∙ z))
 
-  pub not-open-yet : {b : Bool} → t .minute + l .minutes < w .opening → b ≡ suits day t c k → b ≡ waitable day t c k
-  unfolding waitable
-  not-open-yet h e = e ∙ rw (lt-ltb _ _ (rw (leg-here, hw .opens) at h))
+-- a stop is wanted where it is reached at the right time and suits
+wanted-by : (near : Bool) (day : List ℕ) (t : Trip) (c : Cargo) (k : ℕ) → wanted near day t c k ≡ (timely near day t k && suits day t c k)
+unfolding timely takeable waitable
+wanted-by true day t c k = sym (and-assoc (leb (opening day (stopPlace day k)) (arrival day t (stopPlace day k))) _ _)
+wanted-by false day t c k = refl
 
--- one number against the best so far: none of 1..n, not better, not to be had, taken
-module _ (n : ℕ) (q : ℕ → Bool) (key : ℕ → ℕ) (k best : ℕ) where
-  pub no-stop : k ≡ 0 → best ≡ better (both (upTo n) q) key k best
-  no-stop e = sym (better-fails _ _ k best (both-out (upTo n) q k (ap (upTo n) e ∙ upTo-low n)))
+module _ (near : Bool) (day : List ℕ) (t : Trip) (c : Cargo) (k : ℕ) where
+  pub not-fitting : {q : ℕ} {b : Bool} → q ≡ quantity day (stopPlace day k) → b ≡ not (overLimits day (loaded c q)) → b ≡ false → false ≡ wanted near day t c k
+  not-fitting eq eb z = sym (wanted-by near day t c k ∙ rw (unfit day t c k eq eb z, and-false))
 
-  pub past-stops : n < k → best ≡ better (both (upTo n) q) key k best
-  past-stops l = sym (better-fails _ _ k best (both-out (upTo n) q k (upTo-out n k l)))
+  pub not-timely : {b : Bool} → b ≡ timely near day t k → b ≡ false → false ≡ wanted near day t c k
+  not-timely e z = sym (wanted-by near day t c k ∙ rw (← e, z))
 
-  pub not-better : {x : ℕ} {b : Bool} → x ≡ key k → b ≡ (eqb best 0 || ltb x (key best)) → b ≡ false → best ≡ better (both (upTo n) q) key k best
-  not-better ex eb z = sym (better-loses (both (upTo n) q) key k best (rw ex at (sym eb ∙ z)))
+  pub timely-suits : {b r : Bool} → b ≡ timely near day t k → b ≡ true → r ≡ suits day t c k → r ≡ wanted near day t c k
+  timely-suits e z er = sym (wanted-by near day t c k ∙ rw (← e, z, ← er))
 
-  among : (k ≡ 0 → ⊥) → k ≤ n → both (upTo n) q k ≡ q k
-  among p l = both-in (upTo n) q k (upTo-in n k (omega arith) l)
+-- the key as it is read
+pub near-key : (near : Bool) (day : List ℕ) (layout : Layout) (t : Trip) (k : ℕ) (leg : Leg) → LayoutOf day layout → near ≡ true
+    → LegOf day (t .place) (layout .tips + k) leg → leg .minutes ≡ keyOf near day t k
+near-key near day layout t k leg l e takes = rw e (rw (l .tipsAre) at (takes .takes))
 
-  pub not-had : {d : Bool} → (k ≡ 0 → ⊥) → k ≤ n → d ≡ q k → d ≡ false → best ≡ better (both (upTo n) q) key k best
-  not-had p l ed zd = sym (better-fails _ _ k best (among p l ∙ (sym ed ∙ zd)))
+pub open-key : (near : Bool) (day : List ℕ) (t : Trip) (k : ℕ) (hours : Window) → near ≡ false → WindowOf day (stopPlace day k) hours
+    → hours .opening ≡ keyOf near day t k
+open-key near day t k hours e opens = rw e (opens .opens)
 
-  pub is-taken : {x : ℕ} {d f : Bool} → (k ≡ 0 → ⊥) → k ≤ n → x ≡ key k → d ≡ (eqb best 0 || ltb x (key best)) → d ≡ true → f ≡ q k → f ≡ true
-      → k ≡ better (both (upTo n) q) key k best
-  is-taken p l ex ed zd ef zf = sym (better-wins (both (upTo n) q) key k best (among p l ∙ (sym ef ∙ zf)) (rw ex at (sym ed ∙ zd)))
+-- one stop against the best so far: none of 1..n, not better, not wanted, taken
+module _ (near : Bool) (day : List ℕ) (t : Trip) (n : ℕ) (best : Best) (ok : ℕ → Bool) (k : ℕ) where
+  abbrev key : ℕ → ℕ
+  key = keyOf near day t
 
--- the keys as they are read
-pub near-read : (day : List ℕ) (layout : Layout) (t : Trip) (k : ℕ) (l : Leg) → LayoutOf day layout → LegOf day (t .place) (layout .tips + k) l → l .minutes ≡ nearKey day t k
-near-read day layout t k l hz hl = rw (hz .tipsAre) at (hl .takes)
+  pub no-stop : k ≡ 0 → best .stop ≡ better (both (upTo n) ok) key k (best .stop)
+  no-stop e = sym (better-fails _ _ k _ (both-out (upTo n) ok k (ap (upTo n) e ∙ upTo-low n)))
+
+  pub past-stops : n < k → best .stop ≡ better (both (upTo n) ok) key k (best .stop)
+  past-stops l = sym (better-fails _ _ k _ (both-out (upTo n) ok k (upTo-out n k l)))
+
+  among : (k ≡ 0 → ⊥) → k ≤ n → both (upTo n) ok k ≡ ok k
+  among p l = both-in (upTo n) ok k (upTo-in n k (omega arith) l)
+
+  pub not-wanted : {b : Bool} → (k ≡ 0 → ⊥) → k ≤ n → b ≡ ok k → b ≡ false → best .stop ≡ better (both (upTo n) ok) key k (best .stop)
+  not-wanted p l e z = sym (better-fails _ _ k _ (among p l ∙ (sym e ∙ z)))
+
+  module _ (so-far : BestSoFar near day t n best) {x : ℕ} (ex : (x ≡ key k) × (x < keysEnd)) where
+    -- the key that is carried tells what the best stop's key would
+    less-key : (b : Bool) → ltb x (best .key) ≡ b → (eqb (best .stop) 0 || ltb (key k) (key (best .stop))) ≡ b
+    less-key b e = go (eqb (best .stop) 0) (rw (so-far .keyIs) at e)
+      where
+        go : (none : Bool) → ltb x (if none then keysEnd else key (best .stop)) ≡ b → (none || ltb (key k) (key (best .stop))) ≡ b
+        go true h = sym (lt-ltb x keysEnd (ex .1)) ∙ h
+        go false h = rw (ex .0) at h
+
+    pub not-better : best .key ≤ x → best .stop ≡ better (both (upTo n) ok) key k (best .stop)
+    not-better h = sym (better-loses (both (upTo n) ok) key k (best .stop) (less-key false (le-ltb _ _ h)))
+
+    pub is-taken : {b : Bool} → (k ≡ 0 → ⊥) → k ≤ n → x < best .key → b ≡ ok k → b ≡ true → k ≡ better (both (upTo n) ok) key k (best .stop)
+    is-taken p l h e z = sym (better-wins (both (upTo n) ok) key k (best .stop) (among p l ∙ (sym e ∙ z)) (less-key true (lt-ltb _ _ h)))
+
+-- none, and a stop with its key
+pub none-so-far : (near : Bool) (day : List ℕ) (t : Trip) (n : ℕ) → BestSoFar near day t n (record { stop = 0; key = keysEnd })
+none-so-far near day t n = record { within = omega arith; keyIs = refl }
+
+pub taken-so-far : (near : Bool) (day : List ℕ) (t : Trip) (n k : ℕ) {x : ℕ} → (k ≡ 0 → ⊥) → k ≤ n → (x ≡ keyOf near day t k) × (x < keysEnd)
+    → BestSoFar near day t n (record { stop = k; key = x })
+taken-so-far near day t n k p l e = record { within = l; keyIs = rw (ne-eqb k 0 p) (e .0) }

@@ -8,8 +8,7 @@ ghost use Rattle.laws.specs.Marks.{marked};
 ghost use Rattle.day.specs.Layout.{LayoutOf};
 ghost use Rattle.greedy_laws.specs.States.{SmallTrip, SmallCargo};
 ghost use Rattle.next_task.specs.NextBy.{nextOf, waitBy, nextBy, NextWithin};
-use crate::choice::earliest_stop;
-use crate::choice::nearest_stop;
+use crate::choice::best_stop;
 use day::fields::Layout;
 use marks::Marks;
 use rules::walk::Cargo;
@@ -73,7 +72,7 @@ fn wait_next(day: &[u32], layout: Layout, t: Trip, c: Cargo, left: Marks) -> Nex
     requires { ⌜ LayoutOf (now day) layout × SmallTrip (now day) 2147483648 t × SmallCargo c ⌝ }
     ensures { λ r. ⌜ (nextOf r ≡ waitBy (now (day .entry)) t c (marked (left .words))) × NextWithin layout r ⌝ }
 {
-    let k = earliest_stop(day, layout, t, c, left);
+    let k = best_stop(day, layout, t, c, false, left);
     if k == 0 {
         return Next::Home;
     }
@@ -97,7 +96,7 @@ pub fn next_task(day: &[u32], layout: Layout, t: Trip, c: Cargo, left: Marks) ->
     requires { ⌜ LayoutOf (now day) layout × SmallTrip (now day) 2147483648 t × SmallCargo c ⌝ }
     ensures { λ r. ⌜ (nextOf r ≡ nextBy (now (day .entry)) t c (marked (left .words))) × NextWithin layout r ⌝ }
 {
-    let near = nearest_stop(day, layout, t, c, left);
+    let near = best_stop(day, layout, t, c, true, left);
     let k = chosen_stop(day, layout, t, c, near);
     if k != 0 {
         return Next::Stop(k);
