@@ -10,22 +10,16 @@ ghost use Rattle.rules.specs.Choice.{taking, suits};
 ghost use Rattle.laws.specs.Marks.{marked};
 ghost use Rattle.day.specs.Layout.{LayoutOf};
 ghost use Rattle.greedy_laws.specs.States.{SmallTrip, SmallCargo};
-ghost use Rattle.next_task.specs.Wanted.{wanted, timely, keyOf, keysEnd, BestSoFar, betterStop, bestInWord, bestStop};
+ghost use Rattle.ways_home.specs.Bests.{keysEnd, BestBy};
+ghost use Rattle.next_task.specs.Wanted.{timely, keyOf, candidate, Candidate, FromCandidate, betterStop, bestInWord, bestStop};
 use day::fields::Layout;
 use marks::Marks;
 use rules::walk::Cargo;
 use rules::walk::Trip;
+use ways_home::best::Best;
+use ways_home::best::NO_KEY;
 use ways_home::home::is_way_home;
 use ways_home::home::visit_stop;
-
-// Past the key of every stop.
-const NO_KEY: u32 = 4096;
-
-// The best stop so far, and its key; stop 0 is none. The key is carried along, so that it is read once for each stop.
-struct Best {
-    stop: usize,
-    key: u32,
-}
 
 // Whether the kg of one stop more stay within Q, Q* and S*.
 fn fits(day: &[u32], layout: Layout, cargo: Cargo, kg: u32) -> bool
@@ -69,21 +63,6 @@ fn is_timely(day: &[u32], layout: Layout, trip: Trip, near: bool, k: usize) -> b
     minute < hours.opening
 }
 
-// Whether stop k is one of those wanted: it fits, is reached at the right time, and leaves a way home.
-fn is_wanted(day: &[u32], layout: Layout, trip: Trip, cargo: Cargo, near: bool, k: usize) -> bool
-    requires { ⌜ LayoutOf (now day) layout × SmallTrip (now day) 2147483648 trip × SmallCargo cargo × (0 < k) × (k ≤ layout .stops) ⌝ }
-    ensures { λ r. ⌜ r ≡ wanted near (now (day .entry)) trip cargo k ⌝ }
-{
-    let kg = day::fields::stop_quantity(day, layout, k);
-    if fits(day, layout, cargo, kg) {
-        if is_timely(day, layout, trip, near, k) {
-            return is_suited(day, layout, trip, cargo, k);
-        }
-        return false;
-    }
-    false
-}
-
 // What stops are compared by: the minutes to stop k, where near ones are wanted, and else its opening.
 fn key_of(day: &[u32], layout: Layout, trip: Trip, near: bool, k: usize) -> u32
     requires { ⌜ LayoutOf (now day) layout × SmallTrip (now day) 2147483648 trip × (0 < k) × (k ≤ layout .stops) ⌝ }
@@ -95,7 +74,62 @@ fn key_of(day: &[u32], layout: Layout, trip: Trip, near: bool, k: usize) -> u32
     day::fields::stop_window(day, layout, k).opening
 }
 
-// Stop k in place of the best so far, where its key is less and it is wanted.
+// Whether stop k is worth asking for a way home: it is a stop, its key is less than `most`, it fits, and it is reached at the right time.
+fn is_candidate(
+    day: &[u32],
+    layout: Layout,
+    trip: Trip,
+    cargo: Cargo,
+    near: bool,
+    most: u32,
+    k: usize,
+) -> bool
+    requires { ⌜ LayoutOf (now day) layout × SmallTrip (now day) 2147483648 trip × SmallCargo cargo ⌝ }
+    ensures { λ r. ⌜ r ≡ candidate near (now (day .entry)) trip cargo (layout .stops) most k ⌝ }
+{
+    if k == 0 {
+        return false;
+    }
+    if layout.stops < k {
+        return false;
+    }
+    if most <= key_of(day, layout, trip, near, k) {
+        return false;
+    }
+    let kg = day::fields::stop_quantity(day, layout, k);
+    if fits(day, layout, cargo, kg) {
+        return is_timely(day, layout, trip, near, k);
+    }
+    false
+}
+
+// Of the marks of a word those from the next candidate on; bit b is stop first + b. The loop is kept apart from the way home, which is
+// long and seldom asked for.
+fn from_candidate(
+    day: &[u32],
+    layout: Layout,
+    trip: Trip,
+    cargo: Cargo,
+    near: bool,
+    most: u32,
+    marked: u64,
+    first: usize,
+) -> u64
+    requires { ⌜ LayoutOf (now day) layout × SmallTrip (now day) 2147483648 trip × SmallCargo cargo × (first < 256) ⌝ }
+    ensures { λ r. ⌜ FromCandidate near (now (day .entry)) trip cargo (layout .stops) most first marked r ⌝ }
+{
+    let mut rest = marked;
+    while rest != 0 {
+        let b = marks::lowest_bit(rest);
+        if is_candidate(day, layout, trip, cargo, near, most, first + b) {
+            return rest;
+        }
+        rest = marks::clear_bit(rest, b);
+    }
+    rest
+}
+
+// Candidate k in place of the best so far, where it leaves a way home. Both are made field by field: copied as a block it is slower.
 fn better_stop(
     day: &[u32],
     layout: Layout,
@@ -105,23 +139,20 @@ fn better_stop(
     k: usize,
     best: Best,
 ) -> Best
-    requires { ⌜ LayoutOf (now day) layout × SmallTrip (now day) 2147483648 trip × SmallCargo cargo × BestSoFar near (now day) trip (layout .stops) best ⌝ }
-    ensures { λ r. ⌜ BestSoFar near (now (day .entry)) trip (layout .stops) r × (r .stop ≡ betterStop near (now (day .entry)) trip cargo (layout .stops) k (best .stop)) ⌝ }
+    requires { ⌜ LayoutOf (now day) layout × SmallTrip (now day) 2147483648 trip × SmallCargo cargo ⌝ }
+    requires { ⌜ Candidate near (now day) trip cargo (layout .stops) (best .key) k × BestBy (keyOf near (now day) trip) (layout .stops) best ⌝ }
+    ensures { λ r. ⌜ BestBy (keyOf near (now (day .entry)) trip) (layout .stops) r × (r .number ≡ betterStop near (now (day .entry)) trip cargo (layout .stops) k (best .number)) ⌝ }
 {
-    if k == 0 {
-        return best;
+    if is_suited(day, layout, trip, cargo, k) {
+        return Best {
+            number: k,
+            key: key_of(day, layout, trip, near, k),
+        };
     }
-    if layout.stops < k {
-        return best;
+    Best {
+        number: best.number,
+        key: best.key,
     }
-    let key = key_of(day, layout, trip, near, k);
-    if best.key <= key {
-        return best;
-    }
-    if is_wanted(day, layout, trip, cargo, near, k) {
-        return Best { stop: k, key };
-    }
-    best
 }
 
 // The best of the one before and the stops of one word of the marks, whose bit b is stop first + b.
@@ -135,15 +166,19 @@ fn best_in_word(
     first: usize,
     before: Best,
 ) -> Best
-    requires { ⌜ LayoutOf (now day) layout × SmallTrip (now day) 2147483648 trip × SmallCargo cargo × (first < 256) × BestSoFar near (now day) trip (layout .stops) before ⌝ }
-    ensures { λ r. ⌜ BestSoFar near (now (day .entry)) trip (layout .stops) r × (r .stop ≡ bestInWord near (now (day .entry)) trip cargo (layout .stops) word first (before .stop)) ⌝ }
+    requires { ⌜ LayoutOf (now day) layout × SmallTrip (now day) 2147483648 trip × SmallCargo cargo × (first < 256) × BestBy (keyOf near (now day) trip) (layout .stops) before ⌝ }
+    ensures { λ r. ⌜ BestBy (keyOf near (now (day .entry)) trip) (layout .stops) r × (r .number ≡ bestInWord near (now (day .entry)) trip cargo (layout .stops) word first (before .number)) ⌝ }
 {
     let mut best = before;
     let mut rest = word;
     while rest != 0 {
-        let b = marks::lowest_bit(rest);
+        let from = from_candidate(day, layout, trip, cargo, near, best.key, rest, first);
+        if from == 0 {
+            return best;
+        }
+        let b = marks::lowest_bit(from);
         best = better_stop(day, layout, trip, cargo, near, first + b, best);
-        rest = marks::clear_bit(rest, b);
+        rest = marks::clear_bit(from, b);
     }
     best
 }
@@ -161,7 +196,7 @@ pub fn best_stop(
     ensures { λ r. ⌜ (r ≤ layout .stops) × (r ≡ bestStop near (now (day .entry)) trip cargo (marked (left .words))) ⌝ }
 {
     let mut best = Best {
-        stop: 0,
+        number: 0,
         key: NO_KEY,
     };
     let mut i: usize = 0;
@@ -169,5 +204,5 @@ pub fn best_stop(
         best = best_in_word(day, layout, trip, cargo, near, left.words[i], i * 64, best);
         i += 1;
     }
-    best.stop
+    best.number
 }
