@@ -7,10 +7,10 @@ use mathlib.Core.List.{List}
 use native.Mathlib.Decide.{decLt}
 use native.Mathlib.Omega.{arith}
 use lib.Dec.{ltb, leb}
-use borrow.Author.Tests.{le-leb, lt-leb, le-ltb, lt-ltb, leb-true, leb-false, ltb-true, not-true}
+use borrow.Author.Tests.{le-leb, lt-leb, le-ltb, lt-ltb, leb-true, ltb-true, not-true}
 use Rattle.rules.specs.Tests.{if_then_else_}
 use Rattle.rules.specs.Least.{better, wins}
-use Rattle.rules.specs.Fields.{stopPlace, loadLimit, dayLimit, stopLimit, opening, closing, quantity, legMinutes}
+use Rattle.rules.specs.Fields.{stopPlace, opening, closing, quantity, legMinutes}
 use Rattle.rules.specs.Cargo.{loaded, overLimits}
 use Rattle.rules.specs.Trip.{arrival, visited}
 use Rattle.rules.specs.Home.{wayHome}
@@ -34,26 +34,11 @@ use Rattle.ways_home.specs.declared.best.Best.{Best}
 use Rattle.ways_home.proofs.BestLaws.{less-key}
 use Rattle.next_task.specs.Wanted.{wanted, timely, keyOf, candidate, Candidate, FromCandidate, betterStop, bestInWord}
 
--- one stop more: over Q, over Q*, and else by S*
-module _ (day : List ℕ) (c : Cargo) (q : ℕ) where
-  pub over-load : {limit : ℕ} → limit ≡ loadLimit day → limit < c .load + q → false ≡ not (overLimits day (loaded c q))
-  unfolding overLimits
-  over-load e h = rw (lt-ltb _ _ (rw e at h))
+-- one stop more fits, by what it comes to
+pub not-over : (day : List ℕ) (c more : Cargo) (kg : ℕ) {over : Bool} → more ≡ loaded c kg → over ≡ overLimits day more → not over ≡ not (overLimits day (loaded c kg))
+not-over day c more kg e h = rw (h, e)
 
-  pub over-day : {limit most : ℕ} → limit ≡ loadLimit day → c .load + q ≤ limit → most ≡ dayLimit day → most < c .kg + q → false ≡ not (overLimits day (loaded c q))
-  unfolding overLimits
-  over-day e h em g = rw (le-ltb _ _ (rw e at h), lt-ltb _ _ (rw em at g))
-
-  pub over-stops : {limit most few : ℕ} → limit ≡ loadLimit day → c .load + q ≤ limit → most ≡ dayLimit day → c .kg + q ≤ most → few ≡ stopLimit day
-      → leb (c .visits + 1) few ≡ not (overLimits day (loaded c q))
-  unfolding overLimits
-  over-stops {few = few} e h em g ef = rw (le-ltb _ _ (rw e at h), le-ltb _ _ (rw em at g), ef) (go (leb (c .visits + 1) (stopLimit day)) refl)
-    where
-      go : (b : Bool) → leb (c .visits + 1) (stopLimit day) ≡ b → b ≡ not (ltb (stopLimit day) (c .visits + 1))
-      go true x = rw (le-ltb (stopLimit day) (c .visits + 1) (leb-true _ _ x))
-      go false x = rw (lt-ltb (stopLimit day) (c .visits + 1) (leb-false _ _ x))
-
--- the test of what one stop more comes to says that it fits
+-- the test says that it fits
 pub fitting : (day : List ℕ) (c : Cargo) (k : ℕ) {q : ℕ} {b : Bool} → q ≡ quantity day (stopPlace day k) → b ≡ not (overLimits day (loaded c q)) → b ≡ true
     → overLimits day (taking day c k) ≡ false
 fitting day c k eq eb z = go (overLimits day (taking day c k)) (sym z ∙ eb ∙ ap (λ (x : ℕ). not (overLimits day (loaded c x))) eq)

@@ -9,13 +9,17 @@ ghost use Rattle.rules.specs.Trip.{arrival};
 ghost use Rattle.rules.specs.Choice.{taking, suits};
 ghost use Rattle.laws.specs.Marks.{marked};
 ghost use Rattle.day.specs.Layout.{LayoutOf};
-ghost use Rattle.greedy_laws.specs.States.{SmallTrip, SmallCargo};
+ghost use Rattle.trips.specs.Trips.{CargoWithin};
+ghost use Rattle.greedy_laws.specs.States.{SmallTrip};
 ghost use Rattle.ways_home.specs.Bests.{keysEnd, BestBy};
 ghost use Rattle.next_task.specs.Wanted.{timely, keyOf, candidate, Candidate, FromCandidate, betterStop, bestInWord, bestStop};
 use day::fields::Layout;
 use marks::Marks;
 use rules::walk::Cargo;
 use rules::walk::Trip;
+use trips::cargo::is_over;
+use trips::cargo::limits_of;
+use trips::cargo::load_on;
 use ways_home::best::Best;
 use ways_home::best::NO_KEY;
 use ways_home::home::is_way_home;
@@ -23,21 +27,15 @@ use ways_home::home::visit_stop;
 
 // Whether the kg of one stop more stay within Q, Q* and S*.
 fn fits(day: &[u32], layout: Layout, cargo: Cargo, kg: u32) -> bool
-    requires { ⌜ LayoutOf (now day) layout × SmallCargo cargo × (kg < 134217728) ⌝ }
+    requires { ⌜ LayoutOf (now day) layout × CargoWithin cargo × (kg < 134217728) ⌝ }
     ensures { λ r. ⌜ r ≡ not (overLimits (now (day .entry)) (loaded cargo kg)) ⌝ }
 {
-    if day::fields::load_limit(day, layout) < cargo.load + kg {
-        return false;
-    }
-    if day::fields::day_limit(day, layout) < cargo.kg + kg {
-        return false;
-    }
-    cargo.visits + 1 <= day::fields::stop_limit(day, layout)
+    !is_over(day, limits_of(day, layout), load_on(cargo, kg))
 }
 
 // Whether stop k, which fits, leaves a way home, where its service starts by its closing.
 fn is_suited(day: &[u32], layout: Layout, trip: Trip, cargo: Cargo, k: usize) -> bool
-    requires { ⌜ LayoutOf (now day) layout × SmallTrip (now day) 2147483648 trip × SmallCargo cargo × (0 < k) × (k ≤ layout .stops) ⌝ }
+    requires { ⌜ LayoutOf (now day) layout × SmallTrip (now day) 2147483648 trip × CargoWithin cargo × (0 < k) × (k ≤ layout .stops) ⌝ }
     requires { ⌜ (overLimits (now day) (taking (now day) cargo k) ≡ false) × (arrival (now day) trip (stopPlace (now day) k) < 4096) ⌝ }
     ensures { λ r. ⌜ r ≡ suits (now (day .entry)) trip cargo k ⌝ }
 {
@@ -84,7 +82,7 @@ fn is_candidate(
     most: u32,
     k: usize,
 ) -> bool
-    requires { ⌜ LayoutOf (now day) layout × SmallTrip (now day) 2147483648 trip × SmallCargo cargo ⌝ }
+    requires { ⌜ LayoutOf (now day) layout × SmallTrip (now day) 2147483648 trip × CargoWithin cargo ⌝ }
     ensures { λ r. ⌜ r ≡ candidate near (now (day .entry)) trip cargo (layout .stops) most k ⌝ }
 {
     if k == 0 {
@@ -115,7 +113,7 @@ fn from_candidate(
     marked: u64,
     first: usize,
 ) -> u64
-    requires { ⌜ LayoutOf (now day) layout × SmallTrip (now day) 2147483648 trip × SmallCargo cargo × (first < 256) ⌝ }
+    requires { ⌜ LayoutOf (now day) layout × SmallTrip (now day) 2147483648 trip × CargoWithin cargo × (first < 256) ⌝ }
     ensures { λ r. ⌜ FromCandidate near (now (day .entry)) trip cargo (layout .stops) most first marked r ⌝ }
 {
     let mut rest = marked;
@@ -139,7 +137,7 @@ fn better_stop(
     k: usize,
     best: Best,
 ) -> Best
-    requires { ⌜ LayoutOf (now day) layout × SmallTrip (now day) 2147483648 trip × SmallCargo cargo ⌝ }
+    requires { ⌜ LayoutOf (now day) layout × SmallTrip (now day) 2147483648 trip × CargoWithin cargo ⌝ }
     requires { ⌜ Candidate near (now day) trip cargo (layout .stops) (best .key) k × BestBy (keyOf near (now day) trip) (layout .stops) best ⌝ }
     ensures { λ r. ⌜ BestBy (keyOf near (now (day .entry)) trip) (layout .stops) r × (r .number ≡ betterStop near (now (day .entry)) trip cargo (layout .stops) k (best .number)) ⌝ }
 {
@@ -166,7 +164,7 @@ fn best_in_word(
     first: usize,
     before: Best,
 ) -> Best
-    requires { ⌜ LayoutOf (now day) layout × SmallTrip (now day) 2147483648 trip × SmallCargo cargo × (first < 256) × BestBy (keyOf near (now day) trip) (layout .stops) before ⌝ }
+    requires { ⌜ LayoutOf (now day) layout × SmallTrip (now day) 2147483648 trip × CargoWithin cargo × (first < 256) × BestBy (keyOf near (now day) trip) (layout .stops) before ⌝ }
     ensures { λ r. ⌜ BestBy (keyOf near (now (day .entry)) trip) (layout .stops) r × (r .number ≡ bestInWord near (now (day .entry)) trip cargo (layout .stops) word first (before .number)) ⌝ }
 {
     let mut best = before;
@@ -192,7 +190,7 @@ pub fn best_stop(
     near: bool,
     left: Marks,
 ) -> usize
-    requires { ⌜ LayoutOf (now day) layout × SmallTrip (now day) 2147483648 trip × SmallCargo cargo ⌝ }
+    requires { ⌜ LayoutOf (now day) layout × SmallTrip (now day) 2147483648 trip × CargoWithin cargo ⌝ }
     ensures { λ r. ⌜ (r ≤ layout .stops) × (r ≡ bestStop near (now (day .entry)) trip cargo (marked (left .words))) ⌝ }
 {
     let mut best = Best {

@@ -6,7 +6,8 @@ ghost use Rattle.rules.specs.Choice.{nearCapacity, farther, chosenStop};
 ghost use Rattle.rules.specs.Build.{emptying};
 ghost use Rattle.laws.specs.Marks.{marked};
 ghost use Rattle.day.specs.Layout.{LayoutOf};
-ghost use Rattle.greedy_laws.specs.States.{SmallTrip, SmallCargo};
+ghost use Rattle.trips.specs.Trips.{CargoWithin};
+ghost use Rattle.greedy_laws.specs.States.{SmallTrip};
 ghost use Rattle.next_task.specs.NextBy.{nextOf, waitBy, nextBy, NextWithin};
 use crate::choice::best_stop;
 use day::fields::Layout;
@@ -24,7 +25,7 @@ pub enum Next {
 
 // Near to capacity: more than four fifths of Q, Q* or S*, with a load.
 fn is_near_capacity(day: &[u32], layout: Layout, c: Cargo) -> bool
-    requires { ⌜ LayoutOf (now day) layout × SmallCargo c ⌝ }
+    requires { ⌜ LayoutOf (now day) layout × CargoWithin c ⌝ }
     ensures { λ r. ⌜ r ≡ nearCapacity (now (day .entry)) c ⌝ }
 {
     if c.load == 0 {
@@ -54,7 +55,7 @@ fn is_farther(day: &[u32], layout: Layout, t: Trip, k: usize, x: usize) -> bool
 
 // The choice, or none where it is dropped.
 fn chosen_stop(day: &[u32], layout: Layout, t: Trip, c: Cargo, k: usize) -> usize
-    requires { ⌜ LayoutOf (now day) layout × SmallTrip (now day) 2147483648 t × SmallCargo c × (k ≤ layout .stops) ⌝ }
+    requires { ⌜ LayoutOf (now day) layout × SmallTrip (now day) 2147483648 t × CargoWithin c × (k ≤ layout .stops) ⌝ }
     ensures { λ r. ⌜ (r ≡ chosenStop (now (day .entry)) t c k) × (r ≤ layout .stops) ⌝ }
 {
     if is_near_capacity(day, layout, c) {
@@ -69,7 +70,7 @@ fn chosen_stop(day: &[u32], layout: Layout, t: Trip, c: Cargo, k: usize) -> usiz
 
 // Step 5, without a load.
 fn wait_next(day: &[u32], layout: Layout, t: Trip, c: Cargo, left: Marks) -> Next
-    requires { ⌜ LayoutOf (now day) layout × SmallTrip (now day) 2147483648 t × SmallCargo c ⌝ }
+    requires { ⌜ LayoutOf (now day) layout × SmallTrip (now day) 2147483648 t × CargoWithin c ⌝ }
     ensures { λ r. ⌜ (nextOf r ≡ waitBy (now (day .entry)) t c (marked (left .words))) × NextWithin layout r ⌝ }
 {
     let k = best_stop(day, layout, t, c, false, left);
@@ -93,7 +94,7 @@ fn tip_next(day: &[u32], layout: Layout, t: Trip) -> Next
 
 // The next task of a vehicle that has rested if that was due.
 pub fn next_task(day: &[u32], layout: Layout, t: Trip, c: Cargo, left: Marks) -> Next
-    requires { ⌜ LayoutOf (now day) layout × SmallTrip (now day) 2147483648 t × SmallCargo c ⌝ }
+    requires { ⌜ LayoutOf (now day) layout × SmallTrip (now day) 2147483648 t × CargoWithin c ⌝ }
     ensures { λ r. ⌜ (nextOf r ≡ nextBy (now (day .entry)) t c (marked (left .words))) × NextWithin layout r ⌝ }
 {
     let near = best_stop(day, layout, t, c, true, left);
