@@ -9,11 +9,12 @@ use lib.Dec.{ltb}
 use lib.ListN.{length, take, drop, replicate, getD, length-append, length-replicate}
 use lib.Seq.{drop-drop, take-at}
 use borrow.Author.Tests.{lt-ltb, le-ltb}
-use Rattle.rules.specs.Answers.{given, refused}
+use Rattle.rules.specs.Answers.{given, refused, isGiven}
 use Rattle.rules.specs.Lists.{total}
 use Rattle.rules.specs.Buffer.{over}
 use Rattle.rules.specs.DayFile.{wordsOf, judgeDay}
 use Rattle.rules.specs.Fields.{tips, stops, IsAccepted}
+use Rattle.rules.specs.Plan.{roundsWords, planWords}
 use Rattle.rules.specs.Lawful.{distanceFrom, totals}
 use Rattle.rules.specs.Check.{checkWords, checkPlan}
 use Rattle.rules.specs.Build.{greedyRounds, greedyLefts, greedyPlan, routed}
@@ -28,8 +29,7 @@ use Rattle.laws.specs.Marks.{onesOf}
 use Rattle.laws.proofs.Buffer.{over-drop, over-front, over-rest, length-over}
 use Rattle.day.specs.Layout.{LayoutOf}
 use Rattle.day.specs.declared.fields.Layout.{Layout}
-use Rattle.day.proofs.Answered.{refused-not-given, given-accepted}
-use Rattle.day.proofs.Ranges.{accepted-ranges}
+use Rattle.day.proofs.Answered.{refused-not-given, refused-day, accepted-day}
 use Rattle.marks.specs.declared.Marks.{Marks}
 use Rattle.plan_words.specs.Said.{says}
 use Rattle.plan_words.proofs.SaidLaws.{said-same, says-lefts}
@@ -162,31 +162,22 @@ module _ (day p : List ℕ) (a : IsAccepted day) {now : List ℕ} {words : ℕ} 
 -- the answer and the buffer of any day
 module _ (day : List ℕ) (judged : DayAnswer) (e : dayValues judged ≡ judgeDay day) where
   module _ {number place : ℕ} (r : judged ≡ Days.Refused number place) where
-    same : refused number place ≡ judgeDay day
-    same = sym (ap dayValues r) ∙ e
+    not-given : isGiven (judgeDay day) ≡ false
+    not-given = refused-not-given day (refused-day day judged e r)
 
     pub refused-answer : (room : ℕ) → refused number place ≡ buildAnswer day room
     unfolding buildAnswer
-    refused-answer room = rw (refused-not-given day same) same
+    refused-answer room = rw not-given (refused-day day judged e r)
 
     pub refused-buffer : (plan : List ℕ) → plan ≡ buildBuffer day plan
     unfolding buildBuffer
-    refused-buffer plan = rw (refused-not-given day same)
+    refused-buffer plan = rw not-given
 
   module _ {n d : ℕ} (a : judged ≡ Days.Accepted n d) where
-    accepted : given (n ∷ d ∷ []) ≡ judgeDay day
-    accepted = sym (ap dayValues a) ∙ e
-
-    pub is-accepted : IsAccepted day
-    is-accepted = given-accepted day accepted
-
-    pub accepted-long : length day ≡ wordsOf (tips day) (stops day)
-    accepted-long = accepted-ranges day is-accepted .long
-
     pub accepted-answer : (room : ℕ) (answer : List ℕ) → answer ≡ builtAnswer day room → answer ≡ buildAnswer day room
     unfolding buildAnswer
-    accepted-answer room answer h = rw (← accepted) h
+    accepted-answer room answer h = rw (← accepted-day day judged e a) h
 
     pub accepted-buffer : (plan now : List ℕ) → now ≡ builtBuffer day plan → now ≡ buildBuffer day plan
     unfolding buildBuffer
-    accepted-buffer plan now h = rw (← accepted) h
+    accepted-buffer plan now h = rw (← accepted-day day judged e a) h

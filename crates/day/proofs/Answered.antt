@@ -13,6 +13,9 @@ use Rattle.rules.specs.Tests.{if_then_else_, neb}
 use Rattle.rules.specs.Answers.{given, refused, isGiven}
 use Rattle.rules.specs.DayFile.{tipsIn, stopsIn, wordsOf, formAt, faultOf, judgeFrom, judgeSized, judgeDay}
 use Rattle.rules.specs.Fields.{wordAt, tips, stops, IsAccepted}
+use Rattle.rules.specs.AnswerValues.{dayValues}
+use Rattle.rules.specs.declared.answers.DayAnswer.{DayAnswer}
+use Rattle.rules.specs.declared.answers.DayAnswer.the-variants as Days
 use Rattle.laws.proofs.Tests.{only-first, only-second}
 
 -- an answer of the judge: a size, or a refusal's number and place
@@ -114,3 +117,18 @@ given-faultless day n d e =
 -- the stops and tips that the answer carries are the day's
 pub given-accepted : (day : List ℕ) {n d : ℕ} → given (n ∷ d ∷ []) ≡ judgeDay day → IsAccepted day
 given-accepted day {n} {d} e = let f = given-faultless day n d (sym e) in sym e ∙ rw (f .tipsAre, f .stopsAre)
+
+-- the same by the answer that the code gives
+module _ (day : List ℕ) (judged : DayAnswer) (e : dayValues judged ≡ judgeDay day) where
+  pub refused-day : {number place : ℕ} → judged ≡ Days.Refused number place → refused number place ≡ judgeDay day
+  refused-day r = sym (ap dayValues r) ∙ e
+
+  module _ {n d : ℕ} (a : judged ≡ Days.Accepted n d) where
+    pub accepted-day : given (n ∷ d ∷ []) ≡ judgeDay day
+    accepted-day = sym (ap dayValues a) ∙ e
+
+    pub is-accepted : IsAccepted day
+    is-accepted = given-accepted day accepted-day
+
+    pub accepted-long : length day ≡ wordsOf (tips day) (stops day)
+    accepted-long = let f = given-faultless day n d (sym accepted-day) in f .long ∙ rw (f .tipsAre, f .stopsAre)

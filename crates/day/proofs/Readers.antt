@@ -1,11 +1,10 @@
 -- The readers over a day's layout, and byte reading: one law for each of them.
 -- Assumes nothing.
 use Prim.Native.Nat.{ℕ, _+_, _-_, _*_, _/_, _%_, _<_, _≤_}
-use mathlib.Core.Path.{_≡_, ap, _∙_}
+use mathlib.Core.Path.{_≡_, ap}
 use mathlib.Core.List.{List}
 use native.Mathlib.Omega.{arith}
-use lib.ListN.{length, getD, take, drop}
-use lib.Seq.{getD-take, getD-drop}
+use lib.ListN.{length, getD}
 use borrow.Author.Tests.{le-leb, lt-leb, ne-eqb}
 use Rattle.rules.specs.DayFile.{loneNumber, windowOpening, windowClosing, minutesOf, distanceOf}
 use Rattle.rules.specs.Fields.{wordAt, tips, stopPlace, windowIndex, service, quantity}
@@ -65,11 +64,13 @@ module _ (day : List ℕ) (layout : Layout) where
       let word = rw (h .legsAre, h .placesAre) at e in
       record { takes = ap minutesOf word; spans = ap distanceOf word }
 
-  -- the same, read from the legs alone
-  pub leg-cut : (p q : ℕ) {w : ℕ} → LayoutOf day layout → p < layout .places → q < layout .places
-      → w ≡ getD (take (length day - layout .legs) (drop (layout .legs) day)) (p * layout .places + q) 0
-      → LegOf day p q (record { minutes = w / 65536 % 4096; distance = w % 65536 })
-  leg-cut p q h hp hq e =
-      let at : layout .legs + (p * layout .places + q) ≡ layout .legs + p * layout .places + q = omega arith in
-      let below : p * layout .places + q < length day - layout .legs = omega (arith, leg-at p q h hp hq) in
-      leg-read p q h (e ∙ getD-take _ _ _ 0 below ∙ getD-drop _ day _ 0 ∙ ap (λ (i : ℕ). getD day i 0) at)
+-- a stop's place stands behind the tips
+module _ (day : List ℕ) (layout : Layout) (k : ℕ) (l : LayoutOf day layout) where
+  pub stop-inside : k ≤ layout .stops → layout .tips + k < layout .places
+  stop-inside h = omega (arith, l .tipsAre, l .stopsAre, l .placesAre)
+
+  pub stop-hours : (hours : Window) → WindowOf day (stopPlace day k) hours → WindowOf day (layout .tips + k) hours
+  stop-hours hours h = rw (l .tipsAre) h
+
+  pub stop-minutes : {minutes : ℕ} → minutes ≡ service day (stopPlace day k) → minutes ≡ service day (layout .tips + k)
+  stop-minutes e = rw (l .tipsAre) e

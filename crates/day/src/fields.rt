@@ -148,19 +148,3 @@ pub fn leg_between(day: &[u32], layout: Layout, p: usize, q: usize) -> Leg
         distance: w % 65536,
     }
 }
-
-// The same leg, read from the legs alone. Quicker for a walk that reads a leg at each word: where the legs begin is reckoned once and
-// kept. Slower where the loop has no room to keep it, as when stops are weighed against each other.
-pub fn leg_from_legs(day: &[u32], layout: Layout, p: usize, q: usize) -> Leg
-    requires { ⌜ LayoutOf (now day) layout × (p < layout .places) × (q < layout .places) ⌝ }
-    ensures { λ r. ⌜ LegOf (now (day .entry)) p q r ⌝ }
-{
-    let from = layout.legs;
-    let end = day.len();
-    let legs = &day[from..end];
-    let w = legs[p * layout.places + q];
-    Leg {
-        minutes: w / 65536 % 4096,
-        distance: w % 65536,
-    }
-}

@@ -20,7 +20,8 @@ use Rattle.rules.specs.declared.walk.Cargo.{Cargo}
 use Rattle.rules.specs.declared.walk.Trip.{Trip}
 use Rattle.laws.proofs.Tests.{both-true}
 use Rattle.plan_laws.proofs.Theorems.{not-over}
-use Rattle.greedy_laws.specs.States.{SmallCargo, SmallTrip}
+use Rattle.trips.specs.Trips.{CargoWithin}
+use Rattle.greedy_laws.specs.States.{SmallTrip}
 use Rattle.greedy_laws.specs.Reached.{Reached}
 use Rattle.greedy_laws.proofs.Driving.{reached-keeps, resting-keeps}
 use Rattle.greedy_laws.proofs.NextTasks.{IsNext, takes, empties, waits}
@@ -31,7 +32,7 @@ pub record SmallTruck (day : List ℕ) (v : Truck) : Type 0 where
   pub place : v .trip .place < places day
   pub minute : v .trip .minute < 268435456
   pub distance : v .trip .distance ≤ 65535 * length (v .tasks)
-  pub cargo : SmallCargo (v .cargo)
+  pub cargo : CargoWithin (v .cargo)
 
 module _ (day : List ℕ) where
   small-fresh : (before : List ℕ) → SmallTruck day (fresh day before)
@@ -50,7 +51,7 @@ module _ (day : List ℕ) where
       }
 
   -- within the limits, what is carried is small
-  within-limits : (c : Cargo) → overLimits day c ≡ false → SmallCargo c
+  within-limits : (c : Cargo) → overLimits day c ≡ false → CargoWithin c
   within-limits c e =
       let l = not-over day c e in
       record { load = omega (arith, l .load); kg = omega (arith, l .kg); visits = omega (arith, l .visits) }

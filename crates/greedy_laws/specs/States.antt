@@ -8,6 +8,7 @@ use Rattle.rules.specs.Fields.{places}
 use Rattle.rules.specs.declared.walk.Cargo.{Cargo}
 use Rattle.rules.specs.declared.walk.Trip.{Trip}
 use Rattle.laws.specs.Marks.{upTo}
+use Rattle.trips.specs.Trips.{CargoWithin}
 
 -- a trip is at a place of the day, at a small minute, and its distance is below a number
 pub record SmallTrip (day : List ℕ) (most : ℕ) (t : Trip) : Type 0 where
@@ -15,11 +16,9 @@ pub record SmallTrip (day : List ℕ) (most : ℕ) (t : Trip) : Type 0 where
   pub minute : t .minute < 268435456
   pub distance : t .distance < most
 
--- what a vehicle carries is small
-pub record SmallCargo (c : Cargo) : Type 0 where
-  pub load : c .load < 134217728
-  pub kg : c .kg < 134217728
-  pub visits : c .visits < 134217728
+-- what a vehicle carries is small: `CargoWithin` by the name that vehicle_writer has for it
+abbrev pub SmallCargo : Cargo → Type 0
+SmallCargo = CargoWithin
 
 -- the stops 1..n that are still to be routed
 unfoldable pub unrouted : ℕ → List ℕ → ℕ → Bool

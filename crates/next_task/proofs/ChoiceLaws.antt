@@ -1,49 +1,44 @@
 -- Which stop is taken next: one law for each way through the functions that choose.
 -- Assumes nothing.
-use Prim.Native.Nat.{ℕ, _+_, _≤_, _<_}
+use Prim.Native.Nat.{ℕ, _+_, _-_, _^_, _≤_, _<_}
 use mathlib.Core.Path.{_≡_, refl, sym, ap, _∙_}
-use mathlib.Core.Bool.{Bool, true, false, not, _||_, true≢false, and-false}
+use mathlib.Core.Bool.{Bool, true, false, not, _&&_, true≢false, and-false, and-true, and-assoc}
 use mathlib.Core.List.{List}
+use native.Mathlib.Decide.{decLt}
 use native.Mathlib.Omega.{arith}
-use lib.Dec.{ltb, leb, eqb}
-use borrow.Author.Tests.{le-leb, lt-leb, le-ltb, lt-ltb, eq-eqb, ne-eqb, leb-true, leb-false}
-use Rattle.rules.specs.Least.{better}
-use Rattle.rules.specs.Fields.{tips, stops, stopPlace, loadLimit, dayLimit, stopLimit, opening, quantity, legMinutes}
+use lib.Dec.{ltb, leb}
+use borrow.Author.Tests.{le-leb, lt-leb, le-ltb, lt-ltb, leb-true, ltb-true, not-true}
+use Rattle.rules.specs.Tests.{if_then_else_}
+use Rattle.rules.specs.Least.{better, wins}
+use Rattle.rules.specs.Fields.{stopPlace, opening, closing, quantity, legMinutes}
 use Rattle.rules.specs.Cargo.{loaded, overLimits}
 use Rattle.rules.specs.Trip.{arrival, visited}
 use Rattle.rules.specs.Home.{wayHome}
-use Rattle.rules.specs.Choice.{taking, suits, takeable, waitable, nearKey, openKey}
+use Rattle.rules.specs.Choice.{taking, suits, takeable, waitable}
 use Rattle.rules.specs.declared.walk.Cargo.{Cargo}
 use Rattle.rules.specs.declared.walk.Trip.{Trip}
+use Rattle.laws.specs.Bits.{bit, LowestBit}
 use Rattle.laws.specs.Marks.{both, upTo}
-use Rattle.laws.proofs.Marks.{both-in, both-out, upTo-low, upTo-out, upTo-in}
-use Rattle.laws.proofs.Least.{better-fails, better-wins, better-loses}
+use Rattle.laws.specs.Walk.{WordWalk}
+use Rattle.laws.proofs.Bits.{bit-of-zero}
+use Rattle.laws.proofs.Marks.{upTo-low, upTo-out, upTo-in}
+use Rattle.laws.proofs.Tests.{both-true}
+use Rattle.laws.proofs.Walk.{walk-start, walk-next, walk-end}
 use Rattle.day.specs.Layout.{LayoutOf, WindowOf, LegOf}
 use Rattle.day.specs.declared.fields.Layout.{Layout}
 use Rattle.day.specs.declared.fields.Leg.{Leg}
 use Rattle.day.specs.declared.fields.Window.{Window}
 use Rattle.greedy_laws.specs.States.{SmallTrip}
+use Rattle.ways_home.specs.Bests.{keysEnd, BestBy}
+use Rattle.ways_home.specs.declared.best.Best.{Best}
+use Rattle.ways_home.proofs.BestLaws.{less-key}
+use Rattle.next_task.specs.Wanted.{wanted, timely, keyOf, candidate, Candidate, FromCandidate, betterStop, bestInWord}
 
--- one stop more: over Q, over Q*, and else by S*
-module _ (day : List ℕ) (c : Cargo) (q : ℕ) where
-  pub over-load : {limit : ℕ} → limit ≡ loadLimit day → limit < c .load + q → false ≡ not (overLimits day (loaded c q))
-  unfolding overLimits
-  over-load e h = rw (lt-ltb _ _ (rw e at h))
+-- one stop more fits, by what it comes to
+pub not-over : (day : List ℕ) (c more : Cargo) (kg : ℕ) {over : Bool} → more ≡ loaded c kg → over ≡ overLimits day more → not over ≡ not (overLimits day (loaded c kg))
+not-over day c more kg e h = rw (h, e)
 
-  pub over-day : {limit most : ℕ} → limit ≡ loadLimit day → c .load + q ≤ limit → most ≡ dayLimit day → most < c .kg + q → false ≡ not (overLimits day (loaded c q))
-  unfolding overLimits
-  over-day e h em g = rw (le-ltb _ _ (rw e at h), lt-ltb _ _ (rw em at g))
-
-  pub over-stops : {limit most few : ℕ} → limit ≡ loadLimit day → c .load + q ≤ limit → most ≡ dayLimit day → c .kg + q ≤ most → few ≡ stopLimit day
-      → leb (c .visits + 1) few ≡ not (overLimits day (loaded c q))
-  unfolding overLimits
-  over-stops {few = few} e h em g ef = rw (le-ltb _ _ (rw e at h), le-ltb _ _ (rw em at g), ef) (go (leb (c .visits + 1) (stopLimit day)) refl)
-    where
-      go : (b : Bool) → leb (c .visits + 1) (stopLimit day) ≡ b → b ≡ not (ltb (stopLimit day) (c .visits + 1))
-      go true x = rw (le-ltb (stopLimit day) (c .visits + 1) (leb-true _ _ x))
-      go false x = rw (lt-ltb (stopLimit day) (c .visits + 1) (leb-false _ _ x))
-
--- the test of what one stop more comes to says that it fits
+-- the test says that it fits
 pub fitting : (day : List ℕ) (c : Cargo) (k : ℕ) {q : ℕ} {b : Bool} → q ≡ quantity day (stopPlace day k) → b ≡ not (overLimits day (loaded c q)) → b ≡ true
     → overLimits day (taking day c k) ≡ false
 fitting day c k eq eb z = go (overLimits day (taking day c k)) (sym z ∙ eb ∙ ap (λ (x : ℕ). not (overLimits day (loaded c x))) eq)
@@ -52,99 +47,220 @@ fitting day c k eq eb z = go (overLimits day (taking day c k)) (sym z ∙ eb ∙
     go true e = absurd (true≢false e)
     go false e = refl
 
--- a stop that fits suits where there is a way home; one that does not is not to be had
+-- a stop that fits suits where there is a way home
 module _ (day : List ℕ) (t : Trip) (c : Cargo) (k : ℕ) where
   pub fit-home : {q : ℕ} {r : Bool} (u : Trip) → overLimits day (taking day c k) ≡ false → q ≡ quantity day (stopPlace day k)
       → u ≡ visited day t (stopPlace day k) → r ≡ wayHome day u (c .load + q) → r ≡ suits day t c k
   unfolding suits
   fit-home u fit eq eu er = er ∙ rw (fit, eu, ← eq)
 
-  unfit : {q : ℕ} {b : Bool} → q ≡ quantity day (stopPlace day k) → b ≡ not (overLimits day (loaded c q)) → b ≡ false → suits day t c k ≡ false
-  unfolding suits
-  unfit eq eb z = rw (← eq, ← eb, z) refl
-
-  pub unfit-near : {q : ℕ} {b : Bool} → q ≡ quantity day (stopPlace day k) → b ≡ not (overLimits day (loaded c q)) → b ≡ false → false ≡ takeable day t c k
-  unfolding takeable
-  unfit-near eq eb z = rw (unfit eq eb z, and-false, and-false)
-
-  pub unfit-early : {q : ℕ} {b : Bool} → q ≡ quantity day (stopPlace day k) → b ≡ not (overLimits day (loaded c q)) → b ≡ false → false ≡ waitable day t c k
-  unfolding waitable
-  unfit-early eq eb z = rw (unfit eq eb z, and-false)
-
-pub served-trip : (day : List ℕ) (layout : Layout) (less most : ℕ) (t u : Trip) (k : ℕ) → LayoutOf day layout → SmallTrip day less t → less + 65536 ≤ most → 0 < k → k ≤ layout .stops
-    → arrival day t (stopPlace day k) < 4096 → u ≡ visited day t (stopPlace day k) → SmallTrip day most u
-served-trip day layout less most t u k hz h l a b early e =
+-- behind its service the trip is still small
+pub served-trip : (day : List ℕ) (layout : Layout) (t u : Trip) (k : ℕ) → LayoutOf day layout → SmallTrip day 2147483648 t → k ≤ layout .stops
+    → arrival day t (stopPlace day k) < 4096 → u ≡ visited day t (stopPlace day k) → SmallTrip day 4294901760 u
+served-trip day layout t u k l h b early e =
     rw e
     (record {
-      place = omega (arith, hz .stopsAre);
+      place = omega (arith, l .stopsAre);
       minute = omega arith;
       distance = omega (arith, h .distance);
     })
 
--- fewer minutes, or an earlier opening, than the best so far
-pub first-choice : (best : ℕ) (b : Bool) → best ≡ 0 → true ≡ (eqb best 0 || b)
-first-choice best b e = rw (eq-eqb best 0 e)
-
-pub nearer-choice : (day : List ℕ) (layout : Layout) (t : Trip) (minutes best : ℕ) (l : Leg) → LayoutOf day layout → (best ≡ 0 → ⊥) → LegOf day (t .place) (layout .tips + best) l
-    → ltb minutes (l .minutes) ≡ (eqb best 0 || ltb minutes (nearKey day t best))
-nearer-choice day layout t minutes best l hz n hl = rw (ne-eqb best 0 n, hl .takes, hz .tipsAre)
-
-pub earlier-choice : (day : List ℕ) (minutes best : ℕ) (w : Window) → (best ≡ 0 → ⊥) → WindowOf day (stopPlace day best) w
-    → ltb minutes (w .opening) ≡ (eqb best 0 || ltb minutes (openKey day best))
-earlier-choice day minutes best w n hw = rw (ne-eqb best 0 n, hw .opens)
-
--- a stop that is reached by its opening or closing is reached early in the day
-pub soon : (day : List ℕ) (layout : Layout) (t : Trip) (k most : ℕ) (l : Leg) → LayoutOf day layout → LegOf day (t .place) (layout .tips + k) l → t .minute + l .minutes ≤ most → most < 4096
-    → arrival day t (stopPlace day k) < 4096
-soon day layout t k most l hz hl h m = let leg : l .minutes ≡ legMinutes day (t .place) (stopPlace day k) = rw (hz .tipsAre) at (hl .takes) in omega arith
-
 -- reached within the window, or before it opens
-module _ (day : List ℕ) (layout : Layout) (t : Trip) (c : Cargo) (k : ℕ) (l : Leg) (w : Window) (hz : LayoutOf day layout)
-    (hl : LegOf day (t .place) (layout .tips + k) l) (hw : WindowOf day (stopPlace day k) w) where
-  leg-here : l .minutes ≡ legMinutes day (t .place) (stopPlace day k)
-  leg-here = rw (hz .tipsAre) at (hl .takes)
+module _ (near : Bool) (day : List ℕ) (layout : Layout) (t : Trip) (k : ℕ) (leg : Leg) (hours : Window) (l : LayoutOf day layout)
+    (takes : LegOf day (t .place) (layout .tips + k) leg) (opens : WindowOf day (stopPlace day k) hours) where
+  leg-here : leg .minutes ≡ legMinutes day (t .place) (stopPlace day k)
+  leg-here = rw (l .tipsAre) at (takes .takes)
 
-  pub early : t .minute + l .minutes < w .opening → false ≡ takeable day t c k
-  unfolding takeable
-  early h = rw (lt-leb _ _ (rw (leg-here, hw .opens) at h))
+  pub near-early : near ≡ true → t .minute + leg .minutes < hours .opening → false ≡ timely near day t k
+  unfolding timely
+  near-early e h = rw (e, lt-leb _ _ (rw (leg-here, opens .opens) at h))
 
-  pub late : w .opening ≤ t .minute + l .minutes → w .closing < t .minute + l .minutes → false ≡ takeable day t c k
-  unfolding takeable
-  late g h = rw (le-leb _ _ (rw (leg-here, hw .opens) at g), lt-leb _ _ (rw (leg-here, hw .closes) at h))
+  pub near-opened : near ≡ true → hours .opening ≤ t .minute + leg .minutes → leb (t .minute + leg .minutes) (hours .closing) ≡ timely near day t k
+  unfolding timely
+  near-opened e h = rw (e, le-leb _ _ (rw (leg-here, opens .opens) at h), leg-here, opens .closes)
 
-  pub in-window : {b : Bool} → w .opening ≤ t .minute + l .minutes → t .minute + l .minutes ≤ w .closing → b ≡ suits day t c k → b ≡ takeable day t c k
-  unfolding takeable
-  in-window g h e = e ∙ rw (le-leb _ _ (rw (leg-here, hw .opens) at g), le-leb _ _ (rw (leg-here, hw .closes) at h))
+  pub before-opening : near ≡ false → ltb (t .minute + leg .minutes) (hours .opening) ≡ timely near day t k
+  unfolding timely
+  before-opening e = rw (e, leg-here, opens .opens)
 
-  pub open-already : w .opening ≤ t .minute + l .minutes → false ≡ waitable day t c k
-  unfolding waitable
-  open-already h = rw (le-ltb _ _ (rw (leg-here, hw .opens) at h))
+-- a stop that is reached at the right time is reached early in the day
+pub timely-soon : (near : Bool) (day : List ℕ) (t : Trip) (k : ℕ) {b : Bool} → b ≡ timely near day t k → b ≡ true → arrival day t (stopPlace day k) < 4096
+unfolding timely
+timely-soon true day t k e z =
+    let minute = arrival day t (stopPlace day k) in
+    let last = closing day (stopPlace day k) in
+    omega (arith, leb-true minute last (both-true (leb (opening day (stopPlace day k)) minute) (leb minute last) (sym e ∙ z) .1))
+timely-soon false day t k e z = omega (arith, ltb-true (arrival day t (stopPlace day k)) (opening day (stopPlace day k)) (sym e ∙ z))
 
-  pub not-open-yet : {b : Bool} → t .minute + l .minutes < w .opening → b ≡ suits day t c k → b ≡ waitable day t c k
-  unfolding waitable
-  not-open-yet h e = e ∙ rw (lt-ltb _ _ (rw (leg-here, hw .opens) at h))
+-- a stop is wanted where it is reached at the right time and suits
+wanted-by : (near : Bool) (day : List ℕ) (t : Trip) (c : Cargo) (k : ℕ) → wanted near day t c k ≡ (timely near day t k && suits day t c k)
+unfolding timely takeable waitable
+wanted-by true day t c k = sym (and-assoc (leb (opening day (stopPlace day k)) (arrival day t (stopPlace day k))) _ _)
+wanted-by false day t c k = refl
 
--- one number against the best so far: none of 1..n, not better, not to be had, taken
-module _ (n : ℕ) (q : ℕ → Bool) (key : ℕ → ℕ) (k best : ℕ) where
-  pub no-stop : k ≡ 0 → best ≡ better (both (upTo n) q) key k best
-  no-stop e = sym (better-fails _ _ k best (both-out (upTo n) q k (ap (upTo n) e ∙ upTo-low n)))
+-- tests in another order
+regrouped : (numbered less fit timed home : Bool) → (numbered && (timed && (fit && home)) && less) ≡ (numbered && (less && (fit && timed)) && (fit && home))
+regrouped false less fit timed home = refl
+regrouped true false fit timed home = and-false (timed && (fit && home))
+regrouped true true false false home = refl
+regrouped true true false true home = refl
+regrouped true true true false home = refl
+regrouped true true true true home = and-true home
 
-  pub past-stops : n < k → best ≡ better (both (upTo n) q) key k best
-  past-stops l = sym (better-fails _ _ k best (both-out (upTo n) q k (upTo-out n k l)))
+-- a word has one lowest bit
+lowest-same : (size x a b : ℕ) → LowestBit size x a → LowestBit size x b → a ≡ b
+lowest-same size x a b la lb = go (decLt a b) (decLt b a)
+  where
+    go : Dec (a < b) → Dec (b < a) → a ≡ b
+    go (yes l) g = absurd (omega (arith, lb .below a l, la .isSet))
+    go (no h) (yes l) = absurd (omega (arith, la .below b l, lb .isSet))
+    go (no h) (no g) = omega arith
 
-  pub not-better : {x : ℕ} {b : Bool} → x ≡ key k → b ≡ (eqb best 0 || ltb x (key best)) → b ≡ false → best ≡ better (both (upTo n) q) key k best
-  not-better ex eb z = sym (better-loses (both (upTo n) q) key k best (rw ex at (sym eb ∙ z)))
+-- a key is small
+key-small : (near : Bool) (day : List ℕ) (t : Trip) (k : ℕ) → keyOf near day t k < keysEnd
+key-small true day t k = omega arith
+key-small false day t k = omega arith
 
-  among : (k ≡ 0 → ⊥) → k ≤ n → both (upTo n) q k ≡ q k
-  among p l = both-in (upTo n) q k (upTo-in n k (omega arith) l)
+-- the key as it is read
+pub near-key : (near : Bool) (day : List ℕ) (layout : Layout) (t : Trip) (k : ℕ) (leg : Leg) → LayoutOf day layout → near ≡ true
+    → LegOf day (t .place) (layout .tips + k) leg → leg .minutes ≡ keyOf near day t k
+near-key near day layout t k leg l e takes = rw e (rw (l .tipsAre) at (takes .takes))
 
-  pub not-had : {d : Bool} → (k ≡ 0 → ⊥) → k ≤ n → d ≡ q k → d ≡ false → best ≡ better (both (upTo n) q) key k best
-  not-had p l ed zd = sym (better-fails _ _ k best (among p l ∙ (sym ed ∙ zd)))
+pub open-key : (near : Bool) (day : List ℕ) (t : Trip) (k : ℕ) (hours : Window) → near ≡ false → WindowOf day (stopPlace day k) hours
+    → hours .opening ≡ keyOf near day t k
+open-key near day t k hours e opens = rw e (opens .opens)
 
-  pub is-taken : {x : ℕ} {d f : Bool} → (k ≡ 0 → ⊥) → k ≤ n → x ≡ key k → d ≡ (eqb best 0 || ltb x (key best)) → d ≡ true → f ≡ q k → f ≡ true
-      → k ≡ better (both (upTo n) q) key k best
-  is-taken p l ex ed zd ef zf = sym (better-wins (both (upTo n) q) key k best (among p l ∙ (sym ef ∙ zf)) (rw ex at (sym ed ∙ zd)))
+-- a candidate: no stop, past the stops, not less, not fitting, and else by the minute
+module _ (near : Bool) (day : List ℕ) (t : Trip) (c : Cargo) (n most k : ℕ) where
+  pub no-stop : k ≡ 0 → false ≡ candidate near day t c n most k
+  unfolding candidate
+  no-stop e = rw (e, upTo-low n)
 
--- the keys as they are read
-pub near-read : (day : List ℕ) (layout : Layout) (t : Trip) (k : ℕ) (l : Leg) → LayoutOf day layout → LegOf day (t .place) (layout .tips + k) l → l .minutes ≡ nearKey day t k
-near-read day layout t k l hz hl = rw (hz .tipsAre) at (hl .takes)
+  pub past-stops : n < k → false ≡ candidate near day t c n most k
+  unfolding candidate
+  past-stops l = rw (upTo-out n k l)
+
+  pub not-less : {x : ℕ} → (x ≡ keyOf near day t k) × (x < keysEnd) → most ≤ x → false ≡ candidate near day t c n most k
+  unfolding candidate
+  not-less e h = rw (le-ltb _ _ (rw (e .0) at h), and-false)
+
+  pub not-fitting : {q : ℕ} {b : Bool} → q ≡ quantity day (stopPlace day k) → b ≡ not (overLimits day (loaded c q)) → b ≡ false → false ≡ candidate near day t c n most k
+  unfolding candidate
+  not-fitting eq eb z = rw (← eq, ← eb, z, and-false, and-false)
+
+  pub by-minute : {x q : ℕ} {b r : Bool} → (k ≡ 0 → ⊥) → k ≤ n → (x ≡ keyOf near day t k) × (x < keysEnd) → x < most
+      → q ≡ quantity day (stopPlace day k) → b ≡ not (overLimits day (loaded c q)) → b ≡ true → r ≡ timely near day t k → r ≡ candidate near day t c n most k
+  unfolding candidate
+  by-minute p l ex h eq eb z er = er ∙ rw (upTo-in n k (omega arith) l, lt-ltb _ _ (rw (ex .0) at h), ← eq, ← eb, z)
+
+  -- what it is to be one
+  is-candidate : candidate near day t c n most k ≡ true → Candidate near day t c n most k
+  unfolding candidate upTo
+  is-candidate e =
+      let numbered = both-true (upTo n k) _ e in
+      let range = both-true (ltb 0 k) (leb k n) (numbered .0) in
+      let less = both-true (ltb (keyOf near day t k) most) _ (numbered .1) in
+      let fit = both-true (not (overLimits day (taking day c k))) (timely near day t k) (less .1) in
+      record {
+        some = ltb-true 0 k (range .0);
+        within = leb-true k n (range .1);
+        less = ltb-true _ _ (less .0);
+        fits = not-true (overLimits day (taking day c k)) (fit .0);
+        inTime = fit .1;
+      }
+
+-- a stop against the best so far, whose key is carried: it is better where it is a candidate and suits
+module _ (near : Bool) (day : List ℕ) (t : Trip) (c : Cargo) (n : ℕ) (best : Best) (k : ℕ) (so-far : BestBy (keyOf near day t) n best) where
+  abbrev key : ℕ → ℕ
+  key = keyOf near day t
+
+  better-by : better (both (upTo n) (wanted near day t c)) key k (best .number) ≡ (if candidate near day t c n (best .key) k && suits day t c k then k else best .number)
+  unfolding better wins both candidate suits
+  better-by =
+      rw (wanted-by near day t c k, ← less-key key n k best so-far (key-small near day t k))
+      (ap (λ (b : Bool). if b then k else best .number)
+      (regrouped (upTo n k) (ltb (key k) (best .key)) (not (overLimits day (taking day c k))) (timely near day t k)
+      (wayHome day (visited day t (stopPlace day k)) (taking day c k .load))))
+
+  pub not-better : candidate near day t c n (best .key) k ≡ false → best .number ≡ better (both (upTo n) (wanted near day t c)) key k (best .number)
+  not-better e = sym (better-by ∙ rw e)
+
+  module _ (is : Candidate near day t c n (best .key) k) {b : Bool} (eb : b ≡ suits day t c k) where
+    passes : candidate near day t c n (best .key) k ≡ true
+    unfolding candidate
+    passes = rw (upTo-in n k (is .some) (is .within), lt-ltb _ _ (is .less), is .fits, is .inTime)
+
+    pub not-suited : b ≡ false → best .number ≡ better (both (upTo n) (wanted near day t c)) key k (best .number)
+    not-suited z = sym (better-by ∙ rw (passes, ← eb, z))
+
+    pub is-suited : b ≡ true → k ≡ better (both (upTo n) (wanted near day t c)) key k (best .number)
+    is-suited z = sym (better-by ∙ rw (passes, ← eb, z))
+
+-- the marks from a candidate on: all of them, those behind one that is none, and where it is reached
+module _ (near : Bool) (day : List ℕ) (t : Trip) (c : Cargo) (n most first marked : ℕ) where
+  abbrev pub Passed : ℕ → Type 0
+  Passed r =
+      (r ≤ marked)
+      × ((word before : ℕ) (best : Best) → BestBy (keyOf near day t) n best → best .key ≡ most
+      → WordWalk (both (upTo n) (wanted near day t c)) (keyOf near day t) word first before marked (best .number)
+      → WordWalk (both (upTo n) (wanted near day t c)) (keyOf near day t) word first before r (best .number))
+
+  pub passed-none : Passed marked
+  passed-none = (omega arith, λ word before best so-far e walk. walk)
+
+  pub passed-next : (rest b : ℕ) {next : ℕ} {is : Bool} → Passed rest → LowestBit 64 rest b → is ≡ candidate near day t c n most (first + b) → is ≡ false
+      → (next ≡ rest - 2 ^ b) × (next < rest) → Passed next
+  passed-next rest b p low e z behind = (
+    omega (arith, p .0, behind .1),
+    λ word before best so-far k walk.
+        rw (behind .0)
+        (walk-next _ _ word first before rest (best .number) b (p .1 word before best so-far k walk) low
+        (not-better near day t c n best (first + b) so-far (rw k (sym e ∙ z)))),
+  )
+
+  pub candidate-here : (rest b : ℕ) {is : Bool} → Passed rest → LowestBit 64 rest b → is ≡ candidate near day t c n most (first + b) → is ≡ true
+      → FromCandidate near day t c n most first marked rest
+  candidate-here rest b p low e z =
+      record {
+        fewer = p .0;
+        isNext = λ b′ low′. rw (lowest-same 64 rest b′ b low′ low) (is-candidate near day t c n most (first + b) (sym e ∙ z));
+        passed = p .1;
+      }
+
+  pub none-left : (rest : ℕ) → Passed rest → rest ≡ 0 → FromCandidate near day t c n most first marked rest
+  none-left rest p z =
+      record {
+        fewer = p .0;
+        isNext = λ b low. absurd (omega (arith, low .isSet, ap (λ (x : ℕ). bit x b) z, bit-of-zero b));
+        passed = p .1;
+      }
+
+-- from candidate to candidate through a word of the marks: the best so far is the best of the stops passed
+module _ (near : Bool) (day : List ℕ) (t : Trip) (c : Cargo) (n word first before : ℕ) where
+  abbrev pub Walked : ℕ → Best → Type 0
+  Walked rest best =
+      BestBy (keyOf near day t) n best × WordWalk (both (upTo n) (wanted near day t c)) (keyOf near day t) word first before rest (best .number)
+
+  module _ (rest from : ℕ) (best : Best) (walked : Walked rest best) (found : FromCandidate near day t c n (best .key) first rest from) where
+    passed-on : WordWalk (both (upTo n) (wanted near day t c)) (keyOf near day t) word first before from (best .number)
+    passed-on = found .passed word before best (walked .0) refl (walked .1)
+
+    pub word-over : from ≡ 0 → best .number ≡ bestInWord near day t c n word first before
+    word-over z = walk-end _ _ word first before from (best .number) passed-on z
+
+    pub word-next : (next : Best) (b : ℕ) {behind : ℕ} → LowestBit 64 from b
+        → BestBy (keyOf near day t) n next × (next .number ≡ betterStop near day t c n (first + b) (best .number)) → (behind ≡ from - 2 ^ b) × (behind < from)
+        → Walked behind next
+    word-next next b low better e =
+        (better .0, rw (e .0) (walk-next _ _ word first before from (best .number) b passed-on low (better .1)))
+
+  pub word-end : (rest : ℕ) (best : Best) → Walked rest best → rest ≡ 0 → best .number ≡ bestInWord near day t c n word first before
+  word-end rest best walked z = walk-end _ _ word first before rest (best .number) (walked .1) z
+
+pub word-start : (near : Bool) (day : List ℕ) (t : Trip) (c : Cargo) (n word first : ℕ) (best : Best) → BestBy (keyOf near day t) n best
+    → Walked near day t c n word first (best .number) word best
+word-start near day t c n word first best so-far = (so-far, walk-start _ _ word first (best .number) word (best .number) refl refl)
+
+pub next-candidate : (near : Bool) (day : List ℕ) (t : Trip) (c : Cargo) (n most first rest from b : ℕ) → FromCandidate near day t c n most first rest from
+    → LowestBit 64 from b → Candidate near day t c n most (first + b)
+next-candidate near day t c n most first rest from b found low = found .isNext b low

@@ -24,6 +24,7 @@ use Rattle.day.specs.Layout.{LayoutOf, LegOf}
 use Rattle.day.specs.declared.fields.Layout.{Layout}
 use Rattle.day.specs.declared.fields.Leg.{Leg}
 use Rattle.greedy_laws.specs.States.{unrouted}
+use Rattle.next_task.specs.Wanted.{bestStop}
 use Rattle.next_task.specs.NextBy.{waitBy, chosenBy, nextBy}
 
 -- near to capacity: no load, and by Q, by Q*, by S*
@@ -83,26 +84,26 @@ unfolding emptying
 tip-next y e n = rw (← e, ne-eqb _ _ n)
 
 module _ (day : List ℕ) (t : Trip) (c : Cargo) (p : ℕ → Bool) where
-  pub wait-home : {k : ℕ} → k ≡ least (both p (waitable day t c)) (openKey day) (stops day) → k ≡ 0 → none ≡ waitBy day t c p
+  pub wait-home : {k : ℕ} → k ≡ bestStop false day t c p → k ≡ 0 → none ≡ waitBy day t c p
   unfolding waitBy serving
   wait-home e z = rw (← e, z)
 
-  pub wait-stop : {k : ℕ} → k ≡ least (both p (waitable day t c)) (openKey day) (stops day) → (k ≡ 0 → ⊥) → some (serve k) ≡ waitBy day t c p
+  pub wait-stop : {k : ℕ} → k ≡ bestStop false day t c p → (k ≡ 0 → ⊥) → some (serve k) ≡ waitBy day t c p
   unfolding waitBy serving
   wait-stop e n = rw (← e, ne-eqb _ _ n)
 
   -- steps 3, 4, 5 in order
-  pub next-stop : {near k : ℕ} → near ≡ least (both p (takeable day t c)) (nearKey day t) (stops day) → k ≡ chosenStop day t c near → (k ≡ 0 → ⊥)
+  pub next-stop : {near k : ℕ} → near ≡ bestStop true day t c p → k ≡ chosenStop day t c near → (k ≡ 0 → ⊥)
       → some (serve k) ≡ nextBy day t c p
   unfolding nextBy chosenBy serving
   next-stop {near} {k} en ek n = let l : 0 < k = omega arith in rw (← en, ← ek, lt-ltb 0 k l, ne-eqb k 0 n)
 
-  pub next-tip : {near k : ℕ} {o : Option Task} → near ≡ least (both p (takeable day t c)) (nearKey day t) (stops day) → k ≡ chosenStop day t c near → k ≡ 0
+  pub next-tip : {near k : ℕ} {o : Option Task} → near ≡ bestStop true day t c p → k ≡ chosenStop day t c near → k ≡ 0
       → 0 < c .load → o ≡ emptying (nearestTip day (t .place) (t .minute)) → o ≡ nextBy day t c p
   unfolding nextBy chosenBy
   next-tip en ek z l e = e ∙ rw (← en, ← ek, z, lt-ltb 0 (c .load) l)
 
-  pub next-wait : {near k : ℕ} {o : Option Task} → near ≡ least (both p (takeable day t c)) (nearKey day t) (stops day) → k ≡ chosenStop day t c near → k ≡ 0
+  pub next-wait : {near k : ℕ} {o : Option Task} → near ≡ bestStop true day t c p → k ≡ chosenStop day t c near → k ≡ 0
       → c .load ≤ 0 → o ≡ waitBy day t c p → o ≡ nextBy day t c p
   unfolding nextBy chosenBy
   next-wait en ek z l e = e ∙ rw (← en, ← ek, z, le-ltb 0 (c .load) l)

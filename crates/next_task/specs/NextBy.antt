@@ -5,17 +5,15 @@ use mathlib.Core.List.{List}
 use mathlib.Core.Option.{Option, none, some}
 use lib.Dec.{ltb}
 use Rattle.rules.specs.Tests.{if_then_else_}
-use Rattle.rules.specs.Least.{least}
-use Rattle.rules.specs.Fields.{stops}
 use Rattle.rules.specs.PlanWords.{stopWord, tipWord, backWord}
 use Rattle.rules.specs.Plan.{Task, serve, empty}
 use Rattle.rules.specs.Tips.{nearestTip}
-use Rattle.rules.specs.Choice.{takeable, waitable, nearKey, openKey, chosenStop}
+use Rattle.rules.specs.Choice.{chosenStop}
 use Rattle.rules.specs.Build.{serving, emptying}
 use Rattle.rules.specs.declared.walk.Cargo.{Cargo}
 use Rattle.rules.specs.declared.walk.Trip.{Trip}
-use Rattle.laws.specs.Marks.{both}
 use Rattle.day.specs.declared.fields.Layout.{Layout}
+use Rattle.next_task.specs.Wanted.{bestStop}
 use Rattle.next_task.specs.declared.tasks.Next.{Next}
 use Rattle.next_task.specs.declared.tasks.Next.the-variants as Nexts
 
@@ -27,11 +25,11 @@ nextOf Nexts.Home = none
 
 -- step 5
 unfoldable pub waitBy : List ℕ → Trip → Cargo → (ℕ → Bool) → Option Task
-waitBy day t c p = serving (least (both p (waitable day t c)) (openKey day) (stops day))
+waitBy day t c p = serving (bestStop false day t c p)
 
 -- step 3's choice
 unfoldable pub chosenBy : List ℕ → Trip → Cargo → (ℕ → Bool) → ℕ
-chosenBy day t c p = chosenStop day t c (least (both p (takeable day t c)) (nearKey day t) (stops day))
+chosenBy day t c p = chosenStop day t c (bestStop true day t c p)
 
 -- steps 3, 4 and 5
 unfoldable pub nextBy : List ℕ → Trip → Cargo → (ℕ → Bool) → Option Task

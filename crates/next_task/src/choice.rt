@@ -1,221 +1,206 @@
-// Which stop a vehicle takes next: the nearest that can be taken, and the first to open among those worth waiting for.
+// Which stop a vehicle takes next: of the stops that can be taken at once the nearest, which is step 3, or of those worth waiting for the
+// first to open, which is step 5. `near` says which of the two is wanted.
 ghost use mathlib.Core.Path.{_≡_};
-ghost use mathlib.Core.Bool.{false, not, _||_};
+ghost use mathlib.Core.Bool.{false, not};
 ghost use Prim.Native.Nat.{_+_, _<_, _≤_};
-ghost use lib.Dec.{eqb, ltb};
-ghost use Rattle.rules.specs.Least.{better, least};
-ghost use Rattle.rules.specs.Fields.{stops, stopPlace, opening, closing};
+ghost use Rattle.rules.specs.Fields.{stopPlace};
 ghost use Rattle.rules.specs.Cargo.{loaded, overLimits};
 ghost use Rattle.rules.specs.Trip.{arrival};
-ghost use Rattle.rules.specs.Choice.{taking, suits, takeable, waitable, nearKey, openKey};
-ghost use Rattle.laws.specs.Marks.{marked, both, upTo};
-ghost use Rattle.laws.specs.Walk.{bestOf};
+ghost use Rattle.rules.specs.Choice.{taking, suits};
+ghost use Rattle.laws.specs.Marks.{marked};
 ghost use Rattle.day.specs.Layout.{LayoutOf};
-ghost use Rattle.greedy_laws.specs.States.{SmallTrip, SmallCargo};
+ghost use Rattle.trips.specs.Trips.{CargoWithin};
+ghost use Rattle.greedy_laws.specs.States.{SmallTrip};
+ghost use Rattle.ways_home.specs.Bests.{keysEnd, BestBy};
+ghost use Rattle.next_task.specs.Wanted.{timely, keyOf, candidate, Candidate, FromCandidate, betterStop, bestInWord, bestStop};
 use day::fields::Layout;
 use marks::Marks;
 use rules::walk::Cargo;
 use rules::walk::Trip;
+use trips::cargo::is_over;
+use trips::cargo::limits_of;
+use trips::cargo::load_on;
+use ways_home::best::Best;
+use ways_home::best::NO_KEY;
 use ways_home::home::is_way_home;
 use ways_home::home::visit_stop;
 
 // Whether the kg of one stop more stay within Q, Q* and S*.
-fn fits(day: &[u32], layout: Layout, c: Cargo, q: u32) -> bool
-    requires { ⌜ LayoutOf (now day) layout × SmallCargo c × (q < 134217728) ⌝ }
-    ensures { λ r. ⌜ r ≡ not (overLimits (now (day .entry)) (loaded c q)) ⌝ }
+fn fits(day: &[u32], layout: Layout, cargo: Cargo, kg: u32) -> bool
+    requires { ⌜ LayoutOf (now day) layout × CargoWithin cargo × (kg < 134217728) ⌝ }
+    ensures { λ r. ⌜ r ≡ not (overLimits (now (day .entry)) (loaded cargo kg)) ⌝ }
 {
-    if day::fields::load_limit(day, layout) < c.load + q {
-        return false;
-    }
-    if day::fields::day_limit(day, layout) < c.kg + q {
-        return false;
-    }
-    c.visits + 1 <= day::fields::stop_limit(day, layout)
+    !is_over(day, limits_of(day, layout), load_on(cargo, kg))
 }
 
 // Whether stop k, which fits, leaves a way home, where its service starts by its closing.
-fn is_suited(day: &[u32], layout: Layout, t: Trip, c: Cargo, k: usize) -> bool
-    requires { ⌜ LayoutOf (now day) layout × SmallTrip (now day) 2147483648 t × SmallCargo c × (0 < k) × (k ≤ layout .stops) × (overLimits (now day) (taking (now day) c k) ≡ false) ⌝ }
-    requires { ⌜ (arrival (now day) t (stopPlace (now day) k) < 4096) ⌝ }
-    ensures { λ r. ⌜ r ≡ suits (now (day .entry)) t c k ⌝ }
+fn is_suited(day: &[u32], layout: Layout, trip: Trip, cargo: Cargo, k: usize) -> bool
+    requires { ⌜ LayoutOf (now day) layout × SmallTrip (now day) 2147483648 trip × CargoWithin cargo × (0 < k) × (k ≤ layout .stops) ⌝ }
+    requires { ⌜ (overLimits (now day) (taking (now day) cargo k) ≡ false) × (arrival (now day) trip (stopPlace (now day) k) < 4096) ⌝ }
+    ensures { λ r. ⌜ r ≡ suits (now (day .entry)) trip cargo k ⌝ }
 {
-    let q = day::fields::stop_quantity(day, layout, k);
-    let served = visit_stop(day, layout, t, k);
-    is_way_home(day, layout, served, c.load + q)
+    let kg = day::fields::stop_quantity(day, layout, k);
+    let served = visit_stop(day, layout, trip, k);
+    is_way_home(day, layout, served, cargo.load + kg)
 }
 
-// Whether stop k, which fits, can be taken: reached within its window, and suited.
-fn is_takeable(day: &[u32], layout: Layout, t: Trip, c: Cargo, k: usize) -> bool
-    requires { ⌜ LayoutOf (now day) layout × SmallTrip (now day) 2147483648 t × SmallCargo c × (0 < k) × (k ≤ layout .stops) × (overLimits (now day) (taking (now day) c k) ≡ false) ⌝ }
-    ensures { λ r. ⌜ r ≡ takeable (now (day .entry)) t c k ⌝ }
+// Whether stop k is reached within its window, where near ones are wanted, and else before it opens.
+fn is_timely(day: &[u32], layout: Layout, trip: Trip, near: bool, k: usize) -> bool
+    requires { ⌜ LayoutOf (now day) layout × SmallTrip (now day) 2147483648 trip × (0 < k) × (k ≤ layout .stops) ⌝ }
+    ensures { λ r. ⌜ r ≡ timely near (now (day .entry)) trip k ⌝ }
 {
-    let leg = day::fields::leg_between(day, layout, t.place, layout.tips + k);
+    let leg = day::fields::leg_between(day, layout, trip.place, layout.tips + k);
     let hours = day::fields::stop_window(day, layout, k);
-    let at = t.minute + leg.minutes;
-    if at < hours.opening {
-        return false;
-    }
-    if hours.closing < at {
-        return false;
-    }
-    is_suited(day, layout, t, c, k)
-}
-
-// Whether stop k, which fits, is worth waiting for: reached before it opens, and suited.
-fn is_waitable(day: &[u32], layout: Layout, t: Trip, c: Cargo, k: usize) -> bool
-    requires { ⌜ LayoutOf (now day) layout × SmallTrip (now day) 2147483648 t × SmallCargo c × (0 < k) × (k ≤ layout .stops) × (overLimits (now day) (taking (now day) c k) ≡ false) ⌝ }
-    ensures { λ r. ⌜ r ≡ waitable (now (day .entry)) t c k ⌝ }
-{
-    let leg = day::fields::leg_between(day, layout, t.place, layout.tips + k);
-    let hours = day::fields::stop_window(day, layout, k);
-    if hours.opening <= t.minute + leg.minutes {
-        return false;
-    }
-    is_suited(day, layout, t, c, k)
-}
-
-// Whether some minutes are fewer than those to the best so far; 0 is none.
-fn is_nearer(day: &[u32], layout: Layout, t: Trip, minutes: u32, best: usize) -> bool
-    requires { ⌜ LayoutOf (now day) layout × SmallTrip (now day) 2147483648 t × (best ≤ layout .stops) ⌝ }
-    ensures { λ r. ⌜ r ≡ (eqb best 0 || ltb minutes (nearKey (now (day .entry)) t best)) ⌝ }
-{
-    if best == 0 {
-        return true;
-    }
-    minutes < day::fields::leg_between(day, layout, t.place, layout.tips + best).minutes
-}
-
-// Whether an opening is before that of the best so far; 0 is none.
-fn is_earlier(day: &[u32], layout: Layout, opening: u32, best: usize) -> bool
-    requires { ⌜ LayoutOf (now day) layout × (best ≤ layout .stops) ⌝ }
-    ensures { λ r. ⌜ r ≡ (eqb best 0 || ltb opening (openKey (now (day .entry)) best)) ⌝ }
-{
-    if best == 0 {
-        return true;
-    }
-    opening < day::fields::stop_window(day, layout, best).opening
-}
-
-// Stop k in place of the best so far, where it is nearer and can be taken. 0 stands for none.
-fn better_near(day: &[u32], layout: Layout, t: Trip, c: Cargo, k: usize, best: usize) -> usize
-    requires { ⌜ LayoutOf (now day) layout × SmallTrip (now day) 2147483648 t × SmallCargo c × (best ≤ layout .stops) ⌝ }
-    ensures { λ r. ⌜ (r ≤ layout .stops) × (r ≡ better (both (upTo (layout .stops)) (takeable (now (day .entry)) t c)) (nearKey (now (day .entry)) t) k best) ⌝ }
-{
-    if k == 0 {
-        return best;
-    }
-    if layout.stops < k {
-        return best;
-    }
-    let leg = day::fields::leg_between(day, layout, t.place, layout.tips + k);
-    if is_nearer(day, layout, t, leg.minutes, best) {
-        let q = day::fields::stop_quantity(day, layout, k);
-        if fits(day, layout, c, q) {
-            if is_takeable(day, layout, t, c, k) {
-                return k;
-            }
-            return best;
+    let minute = trip.minute + leg.minutes;
+    if near {
+        if minute < hours.opening {
+            return false;
         }
-        return best;
+        return minute <= hours.closing;
     }
-    best
+    minute < hours.opening
 }
 
-// Stop k in place of the best so far, where it opens earlier and is worth waiting for. 0 stands for none.
-fn better_early(day: &[u32], layout: Layout, t: Trip, c: Cargo, k: usize, best: usize) -> usize
-    requires { ⌜ LayoutOf (now day) layout × SmallTrip (now day) 2147483648 t × SmallCargo c × (best ≤ layout .stops) ⌝ }
-    ensures { λ r. ⌜ (r ≤ layout .stops) × (r ≡ better (both (upTo (layout .stops)) (waitable (now (day .entry)) t c)) (openKey (now (day .entry))) k best) ⌝ }
+// What stops are compared by: the minutes to stop k, where near ones are wanted, and else its opening.
+fn key_of(day: &[u32], layout: Layout, trip: Trip, near: bool, k: usize) -> u32
+    requires { ⌜ LayoutOf (now day) layout × SmallTrip (now day) 2147483648 trip × (0 < k) × (k ≤ layout .stops) ⌝ }
+    ensures { λ r. ⌜ (r ≡ keyOf near (now (day .entry)) trip k) × (r < keysEnd) ⌝ }
 {
-    if k == 0 {
-        return best;
+    if near {
+        return day::fields::leg_between(day, layout, trip.place, layout.tips + k).minutes;
     }
-    if layout.stops < k {
-        return best;
-    }
-    let hours = day::fields::stop_window(day, layout, k);
-    if is_earlier(day, layout, hours.opening, best) {
-        let q = day::fields::stop_quantity(day, layout, k);
-        if fits(day, layout, c, q) {
-            if is_waitable(day, layout, t, c, k) {
-                return k;
-            }
-            return best;
-        }
-        return best;
-    }
-    best
+    day::fields::stop_window(day, layout, k).opening
 }
 
-// The nearest of the best before and the stops of one word of the marks, whose bit b is stop first + b.
-fn nearest_in_word(
+// Whether stop k is worth asking for a way home: it is a stop, its key is less than `most`, it fits, and it is reached at the right time.
+fn is_candidate(
     day: &[u32],
     layout: Layout,
-    t: Trip,
-    c: Cargo,
+    trip: Trip,
+    cargo: Cargo,
+    near: bool,
+    most: u32,
+    k: usize,
+) -> bool
+    requires { ⌜ LayoutOf (now day) layout × SmallTrip (now day) 2147483648 trip × CargoWithin cargo ⌝ }
+    ensures { λ r. ⌜ r ≡ candidate near (now (day .entry)) trip cargo (layout .stops) most k ⌝ }
+{
+    if k == 0 {
+        return false;
+    }
+    if layout.stops < k {
+        return false;
+    }
+    if most <= key_of(day, layout, trip, near, k) {
+        return false;
+    }
+    let kg = day::fields::stop_quantity(day, layout, k);
+    if fits(day, layout, cargo, kg) {
+        return is_timely(day, layout, trip, near, k);
+    }
+    false
+}
+
+// Of the marks of a word those from the next candidate on; bit b is stop first + b. The loop is kept apart from the way home, which is
+// long and seldom asked for.
+fn from_candidate(
+    day: &[u32],
+    layout: Layout,
+    trip: Trip,
+    cargo: Cargo,
+    near: bool,
+    most: u32,
+    marked: u64,
+    first: usize,
+) -> u64
+    requires { ⌜ LayoutOf (now day) layout × SmallTrip (now day) 2147483648 trip × CargoWithin cargo × (first < 256) ⌝ }
+    ensures { λ r. ⌜ FromCandidate near (now (day .entry)) trip cargo (layout .stops) most first marked r ⌝ }
+{
+    let mut rest = marked;
+    while rest != 0 {
+        let b = marks::lowest_bit(rest);
+        if is_candidate(day, layout, trip, cargo, near, most, first + b) {
+            return rest;
+        }
+        rest = marks::clear_bit(rest, b);
+    }
+    rest
+}
+
+// Candidate k in place of the best so far, where it leaves a way home. Both are made field by field: copied as a block it is slower.
+fn better_stop(
+    day: &[u32],
+    layout: Layout,
+    trip: Trip,
+    cargo: Cargo,
+    near: bool,
+    k: usize,
+    best: Best,
+) -> Best
+    requires { ⌜ LayoutOf (now day) layout × SmallTrip (now day) 2147483648 trip × CargoWithin cargo ⌝ }
+    requires { ⌜ Candidate near (now day) trip cargo (layout .stops) (best .key) k × BestBy (keyOf near (now day) trip) (layout .stops) best ⌝ }
+    ensures { λ r. ⌜ BestBy (keyOf near (now (day .entry)) trip) (layout .stops) r × (r .number ≡ betterStop near (now (day .entry)) trip cargo (layout .stops) k (best .number)) ⌝ }
+{
+    if is_suited(day, layout, trip, cargo, k) {
+        return Best {
+            number: k,
+            key: key_of(day, layout, trip, near, k),
+        };
+    }
+    Best {
+        number: best.number,
+        key: best.key,
+    }
+}
+
+// The best of the one before and the stops of one word of the marks, whose bit b is stop first + b.
+fn best_in_word(
+    day: &[u32],
+    layout: Layout,
+    trip: Trip,
+    cargo: Cargo,
+    near: bool,
     word: u64,
     first: usize,
-    before: usize,
-) -> usize
-    requires { ⌜ LayoutOf (now day) layout × SmallTrip (now day) 2147483648 t × SmallCargo c × (first < 256) × (before ≤ layout .stops) ⌝ }
-    ensures { λ r. ⌜ (r ≤ layout .stops) × (r ≡ bestOf (both (upTo (layout .stops)) (takeable (now (day .entry)) t c)) (nearKey (now (day .entry)) t) word first before 64) ⌝ }
+    before: Best,
+) -> Best
+    requires { ⌜ LayoutOf (now day) layout × SmallTrip (now day) 2147483648 trip × CargoWithin cargo × (first < 256) × BestBy (keyOf near (now day) trip) (layout .stops) before ⌝ }
+    ensures { λ r. ⌜ BestBy (keyOf near (now (day .entry)) trip) (layout .stops) r × (r .number ≡ bestInWord near (now (day .entry)) trip cargo (layout .stops) word first (before .number)) ⌝ }
 {
     let mut best = before;
     let mut rest = word;
     while rest != 0 {
-        let b = marks::lowest_bit(rest);
-        best = better_near(day, layout, t, c, first + b, best);
-        rest = marks::clear_bit(rest, b);
+        let from = from_candidate(day, layout, trip, cargo, near, best.key, rest, first);
+        if from == 0 {
+            return best;
+        }
+        let b = marks::lowest_bit(from);
+        best = better_stop(day, layout, trip, cargo, near, first + b, best);
+        rest = marks::clear_bit(from, b);
     }
     best
 }
 
-// The first to open of the best before and the stops of one word of the marks, whose bit b is stop first + b.
-fn earliest_in_word(
+// The unrouted stop that is wanted and has the least key, the lowest number among equals, 0 where there is none.
+pub fn best_stop(
     day: &[u32],
     layout: Layout,
-    t: Trip,
-    c: Cargo,
-    word: u64,
-    first: usize,
-    before: usize,
+    trip: Trip,
+    cargo: Cargo,
+    near: bool,
+    left: Marks,
 ) -> usize
-    requires { ⌜ LayoutOf (now day) layout × SmallTrip (now day) 2147483648 t × SmallCargo c × (first < 256) × (before ≤ layout .stops) ⌝ }
-    ensures { λ r. ⌜ (r ≤ layout .stops) × (r ≡ bestOf (both (upTo (layout .stops)) (waitable (now (day .entry)) t c)) (openKey (now (day .entry))) word first before 64) ⌝ }
+    requires { ⌜ LayoutOf (now day) layout × SmallTrip (now day) 2147483648 trip × CargoWithin cargo ⌝ }
+    ensures { λ r. ⌜ (r ≤ layout .stops) × (r ≡ bestStop near (now (day .entry)) trip cargo (marked (left .words))) ⌝ }
 {
-    let mut best = before;
-    let mut rest = word;
-    while rest != 0 {
-        let b = marks::lowest_bit(rest);
-        best = better_early(day, layout, t, c, first + b, best);
-        rest = marks::clear_bit(rest, b);
-    }
-    best
-}
-
-// The nearest unrouted stop that can be taken, the lowest number among equals, 0 where there is none.
-pub fn nearest_stop(day: &[u32], layout: Layout, t: Trip, c: Cargo, left: Marks) -> usize
-    requires { ⌜ LayoutOf (now day) layout × SmallTrip (now day) 2147483648 t × SmallCargo c ⌝ }
-    ensures { λ r. ⌜ (r ≤ layout .stops) × (r ≡ least (both (marked (left .words)) (takeable (now (day .entry)) t c)) (nearKey (now (day .entry)) t) (stops (now (day .entry)))) ⌝ }
-{
-    let mut best: usize = 0;
+    let mut best = Best {
+        number: 0,
+        key: NO_KEY,
+    };
     let mut i: usize = 0;
     while i < 4 {
-        best = nearest_in_word(day, layout, t, c, left.words[i], i * 64, best);
+        best = best_in_word(day, layout, trip, cargo, near, left.words[i], i * 64, best);
         i += 1;
     }
-    best
-}
-
-// The unrouted stop that opens first among those worth waiting for, the lowest number among equals, 0 where there is none.
-pub fn earliest_stop(day: &[u32], layout: Layout, t: Trip, c: Cargo, left: Marks) -> usize
-    requires { ⌜ LayoutOf (now day) layout × SmallTrip (now day) 2147483648 t × SmallCargo c ⌝ }
-    ensures { λ r. ⌜ (r ≤ layout .stops) × (r ≡ least (both (marked (left .words)) (waitable (now (day .entry)) t c)) (openKey (now (day .entry))) (stops (now (day .entry)))) ⌝ }
-{
-    let mut best: usize = 0;
-    let mut i: usize = 0;
-    while i < 4 {
-        best = earliest_in_word(day, layout, t, c, left.words[i], i * 64, best);
-        i += 1;
-    }
-    best
+    best.number
 }

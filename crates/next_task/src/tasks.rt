@@ -6,10 +6,10 @@ ghost use Rattle.rules.specs.Choice.{nearCapacity, farther, chosenStop};
 ghost use Rattle.rules.specs.Build.{emptying};
 ghost use Rattle.laws.specs.Marks.{marked};
 ghost use Rattle.day.specs.Layout.{LayoutOf};
-ghost use Rattle.greedy_laws.specs.States.{SmallTrip, SmallCargo};
+ghost use Rattle.trips.specs.Trips.{CargoWithin};
+ghost use Rattle.greedy_laws.specs.States.{SmallTrip};
 ghost use Rattle.next_task.specs.NextBy.{nextOf, waitBy, nextBy, NextWithin};
-use crate::choice::earliest_stop;
-use crate::choice::nearest_stop;
+use crate::choice::best_stop;
 use day::fields::Layout;
 use marks::Marks;
 use rules::walk::Cargo;
@@ -24,43 +24,43 @@ pub enum Next {
 }
 
 // Near to capacity: more than four fifths of Q, Q* or S*, with a load.
-fn is_near_capacity(day: &[u32], layout: Layout, c: Cargo) -> bool
-    requires { ⌜ LayoutOf (now day) layout × SmallCargo c ⌝ }
-    ensures { λ r. ⌜ r ≡ nearCapacity (now (day .entry)) c ⌝ }
+fn is_near_capacity(day: &[u32], layout: Layout, cargo: Cargo) -> bool
+    requires { ⌜ LayoutOf (now day) layout × CargoWithin cargo ⌝ }
+    ensures { λ r. ⌜ r ≡ nearCapacity (now (day .entry)) cargo ⌝ }
 {
-    if c.load == 0 {
+    if cargo.load == 0 {
         return false;
     }
-    if 4 * day::fields::load_limit(day, layout) < 5 * c.load {
+    if 4 * day::fields::load_limit(day, layout) < 5 * cargo.load {
         return true;
     }
-    if 4 * day::fields::day_limit(day, layout) < 5 * c.kg {
+    if 4 * day::fields::day_limit(day, layout) < 5 * cargo.kg {
         return true;
     }
-    4 * day::fields::stop_limit(day, layout) < 5 * c.visits
+    4 * day::fields::stop_limit(day, layout) < 5 * cargo.visits
 }
 
-// Whether stop k is farther than tip x; 0 is no tip.
-fn is_farther(day: &[u32], layout: Layout, t: Trip, k: usize, x: usize) -> bool
-    requires { ⌜ LayoutOf (now day) layout × SmallTrip (now day) 2147483648 t × (k ≤ layout .stops) × (x ≤ layout .tips) ⌝ }
-    ensures { λ r. ⌜ r ≡ farther (now (day .entry)) t k x ⌝ }
+// Whether stop k is farther than a tip; 0 is no tip.
+fn is_farther(day: &[u32], layout: Layout, trip: Trip, k: usize, tip: usize) -> bool
+    requires { ⌜ LayoutOf (now day) layout × SmallTrip (now day) 2147483648 trip × (k ≤ layout .stops) × (tip ≤ layout .tips) ⌝ }
+    ensures { λ r. ⌜ r ≡ farther (now (day .entry)) trip k tip ⌝ }
 {
-    if x == 0 {
+    if tip == 0 {
         return false;
     }
-    let tip = day::fields::leg_between(day, layout, t.place, x);
-    let stop = day::fields::leg_between(day, layout, t.place, layout.tips + k);
-    tip.minutes < stop.minutes
+    let to_tip = day::fields::leg_between(day, layout, trip.place, tip);
+    let to_stop = day::fields::leg_between(day, layout, trip.place, layout.tips + k);
+    to_tip.minutes < to_stop.minutes
 }
 
 // The choice, or none where it is dropped.
-fn chosen_stop(day: &[u32], layout: Layout, t: Trip, c: Cargo, k: usize) -> usize
-    requires { ⌜ LayoutOf (now day) layout × SmallTrip (now day) 2147483648 t × SmallCargo c × (k ≤ layout .stops) ⌝ }
-    ensures { λ r. ⌜ (r ≡ chosenStop (now (day .entry)) t c k) × (r ≤ layout .stops) ⌝ }
+fn chosen_stop(day: &[u32], layout: Layout, trip: Trip, cargo: Cargo, k: usize) -> usize
+    requires { ⌜ LayoutOf (now day) layout × SmallTrip (now day) 2147483648 trip × CargoWithin cargo × (k ≤ layout .stops) ⌝ }
+    ensures { λ r. ⌜ (r ≡ chosenStop (now (day .entry)) trip cargo k) × (r ≤ layout .stops) ⌝ }
 {
-    if is_near_capacity(day, layout, c) {
-        let x = nearest_tip(day, layout, t.place, t.minute);
-        if is_farther(day, layout, t, k, x) {
+    if is_near_capacity(day, layout, cargo) {
+        let tip = nearest_tip(day, layout, trip.place, trip.minute);
+        if is_farther(day, layout, trip, k, tip) {
             return 0;
         }
         return k;
@@ -69,11 +69,11 @@ fn chosen_stop(day: &[u32], layout: Layout, t: Trip, c: Cargo, k: usize) -> usiz
 }
 
 // Step 5, without a load.
-fn wait_next(day: &[u32], layout: Layout, t: Trip, c: Cargo, left: Marks) -> Next
-    requires { ⌜ LayoutOf (now day) layout × SmallTrip (now day) 2147483648 t × SmallCargo c ⌝ }
-    ensures { λ r. ⌜ (nextOf r ≡ waitBy (now (day .entry)) t c (marked (left .words))) × NextWithin layout r ⌝ }
+fn wait_next(day: &[u32], layout: Layout, trip: Trip, cargo: Cargo, left: Marks) -> Next
+    requires { ⌜ LayoutOf (now day) layout × SmallTrip (now day) 2147483648 trip × CargoWithin cargo ⌝ }
+    ensures { λ r. ⌜ (nextOf r ≡ waitBy (now (day .entry)) trip cargo (marked (left .words))) × NextWithin layout r ⌝ }
 {
-    let k = earliest_stop(day, layout, t, c, left);
+    let k = best_stop(day, layout, trip, cargo, false, left);
     if k == 0 {
         return Next::Home;
     }
@@ -81,29 +81,29 @@ fn wait_next(day: &[u32], layout: Layout, t: Trip, c: Cargo, left: Marks) -> Nex
 }
 
 // Step 4, with a load.
-fn tip_next(day: &[u32], layout: Layout, t: Trip) -> Next
-    requires { ⌜ LayoutOf (now day) layout × SmallTrip (now day) 2147483648 t ⌝ }
-    ensures { λ r. ⌜ (nextOf r ≡ emptying (nearestTip (now (day .entry)) (t .place) (t .minute))) × NextWithin layout r ⌝ }
+fn tip_next(day: &[u32], layout: Layout, trip: Trip) -> Next
+    requires { ⌜ LayoutOf (now day) layout × SmallTrip (now day) 2147483648 trip ⌝ }
+    ensures { λ r. ⌜ (nextOf r ≡ emptying (nearestTip (now (day .entry)) (trip .place) (trip .minute))) × NextWithin layout r ⌝ }
 {
-    let x = nearest_tip(day, layout, t.place, t.minute);
-    if x == 0 {
+    let tip = nearest_tip(day, layout, trip.place, trip.minute);
+    if tip == 0 {
         return Next::Home;
     }
-    Next::Tip(x)
+    Next::Tip(tip)
 }
 
 // The next task of a vehicle that has rested if that was due.
-pub fn next_task(day: &[u32], layout: Layout, t: Trip, c: Cargo, left: Marks) -> Next
-    requires { ⌜ LayoutOf (now day) layout × SmallTrip (now day) 2147483648 t × SmallCargo c ⌝ }
-    ensures { λ r. ⌜ (nextOf r ≡ nextBy (now (day .entry)) t c (marked (left .words))) × NextWithin layout r ⌝ }
+pub fn next_task(day: &[u32], layout: Layout, trip: Trip, cargo: Cargo, left: Marks) -> Next
+    requires { ⌜ LayoutOf (now day) layout × SmallTrip (now day) 2147483648 trip × CargoWithin cargo ⌝ }
+    ensures { λ r. ⌜ (nextOf r ≡ nextBy (now (day .entry)) trip cargo (marked (left .words))) × NextWithin layout r ⌝ }
 {
-    let near = nearest_stop(day, layout, t, c, left);
-    let k = chosen_stop(day, layout, t, c, near);
+    let nearest = best_stop(day, layout, trip, cargo, true, left);
+    let k = chosen_stop(day, layout, trip, cargo, nearest);
     if k != 0 {
         return Next::Stop(k);
     }
-    if 0 < c.load {
-        return tip_next(day, layout, t);
+    if 0 < cargo.load {
+        return tip_next(day, layout, trip);
     }
-    wait_next(day, layout, t, c, left)
+    wait_next(day, layout, trip, cargo, left)
 }

@@ -29,7 +29,7 @@ use Rattle.rules.specs.declared.answers.PlanAnswer.{PlanAnswer}
 use Rattle.rules.specs.declared.answers.PlanAnswer.the-variants as Plans
 use Rattle.laws.proofs.Buffer.{over-drop}
 use Rattle.laws.proofs.Tests.{both-true}
-use Rattle.day.proofs.Answered.{refused-not-given}
+use Rattle.day.proofs.Answered.{refused-not-given, refused-day, accepted-day}
 use Rattle.day.specs.Layout.{LayoutOf}
 use Rattle.day.specs.declared.fields.Layout.{Layout}
 use Rattle.greedy_laws.proofs.GreedyRoom.{greedy-room}
@@ -192,33 +192,27 @@ module _ (day : List ℕ) (K budget spare : ℕ) (plan : List ℕ) where
 -- and on any day
 module _ (day : List ℕ) (K budget spare : ℕ) (plan : List ℕ) {judged : DayAnswer} (e : dayValues judged ≡ judgeDay day) where
   module _ {number place : ℕ} (r : judged ≡ Days.Refused number place) where
-    refused-day : refused number place ≡ judgeDay day
-    refused-day = sym (ap dayValues r) ∙ e
-
     pub refused-plan-answer : refused number place ≡ planAnswer day K budget (length plan) spare
     unfolding planAnswer
-    refused-plan-answer = rw (refused-not-given day refused-day) refused-day
+    refused-plan-answer = let same = refused-day day judged e r in rw (refused-not-given day same) same
 
     pub refused-plan-buffer : plan ≡ planBuffer day K budget spare plan
     unfolding planBuffer
-    refused-plan-buffer = rw (refused-not-given day refused-day) refl
+    refused-plan-buffer = rw (refused-not-given day (refused-day day judged e r)) refl
 
   module _ {n d : ℕ} (a : judged ≡ Days.Accepted n d) where
-    accepted-day : given (n ∷ d ∷ []) ≡ judgeDay day
-    accepted-day = sym (ap dayValues a) ∙ e
-
     pub accepted-plan-answer : (answer : List ℕ) → answer ≡ plannedAnswer day K budget (length plan) spare → answer ≡ planAnswer day K budget (length plan) spare
     unfolding planAnswer
-    accepted-plan-answer answer h = rw (← accepted-day) h
+    accepted-plan-answer answer h = rw (← accepted-day day judged e a) h
 
     pub accepted-plan-spare : {before after : List ℕ} → SpareKept (plannedAnswer day K budget (length plan) spare) before after
         → SpareKept (planAnswer day K budget (length plan) spare) before after
     unfolding planAnswer
-    accepted-plan-spare h = rw (← accepted-day) h
+    accepted-plan-spare h = rw (← accepted-day day judged e a) h
 
     pub accepted-plan-buffer : (now : List ℕ) → now ≡ plannedBuffer day K budget spare plan → now ≡ planBuffer day K budget spare plan
     unfolding planBuffer
-    accepted-plan-buffer now h = rw (← accepted-day) h
+    accepted-plan-buffer now h = rw (← accepted-day day judged e a) h
 
 -- the words needed
 pub need-refused : {day : List ℕ} {layout : Layout} → LayoutOf day layout → _≡_ {A = List ℕ} (refused 14 (5 * layout .stops)) (refused 14 (5 * stops day))

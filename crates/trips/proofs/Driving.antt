@@ -21,23 +21,11 @@ use Rattle.trips.specs.declared.trip.Driven.{Driven}
 at-fault : (r : Driven) (f : ℕ) {fault : ℕ} {trip : Trip} → fault ≡ f → 0 < f → r .fault ≡ f → DrivenTo fault trip r
 at-fault r f e h g = record { faultIs = g ∙ sym e; tripIs = λ z. absurd (omega arith) }
 
--- the place of a stop, by the layout
-module _ (day : List ℕ) (layout : Layout) (k : ℕ) (l : LayoutOf day layout) where
-  place-at : layout .tips + k ≡ stopPlace day k
-  place-at = rw (l .tipsAre)
-
-  pub stop-window : (hours : Window) → WindowOf day (stopPlace day k) hours → WindowOf day (layout .tips + k) hours
-  stop-window hours h = rw place-at h
-
-  pub stop-minutes : {minutes : ℕ} → minutes ≡ service day (stopPlace day k) → minutes ≡ service day (layout .tips + k)
-  stop-minutes e = rw place-at e
-
-  pub stop-visited : (t : Trip) (r : Driven) → DrivenTo (visitFault day t (layout .tips + k)) (visited day t (layout .tips + k)) r
-      → DrivenTo (visitFault day t (stopPlace day k)) (visited day t (stopPlace day k)) r
-  stop-visited t r d = rw place-at at d
-
-  pub stop-place : k ≤ layout .stops → layout .tips + k < layout .places
-  stop-place h = omega (arith, l .tipsAre, l .stopsAre, l .placesAre)
+-- a stop's place stands behind the tips
+pub stop-visited : (day : List ℕ) (layout : Layout) (k : ℕ) → LayoutOf day layout → (t : Trip) (r : Driven)
+    → DrivenTo (visitFault day t (layout .tips + k)) (visited day t (layout .tips + k)) r
+    → DrivenTo (visitFault day t (stopPlace day k)) (visited day t (stopPlace day k)) r
+stop-visited day layout k l t r d = rw (l .tipsAre) at d
 
 -- a vehicle that has not rested should have, where it is back after the rest window's closing
 pub unrested-late : (day : List ℕ) (minute last : ℕ) (rested : Bool) → rested ≡ false → last ≡ restClosing day
@@ -49,27 +37,26 @@ pub leaves : (day : List ℕ) (hours : Window) → WindowOf day 0 hours → reco
 leaves day hours h = rw (h .opens)
 
 module _ (day : List ℕ) (t : Trip) where
-  -- the earliest start of a visit, as the leg and the window give it
-  starts : (place : ℕ) (leg : Leg) (hours : Window) {start : ℕ} → LegOf day (t .place) place leg → WindowOf day place hours
-      → start ≡ max (t .minute + leg .minutes) (hours .opening) → start ≡ visitStart day t place
-  starts place leg hours l h e = e ∙ rw (l .takes, h .opens)
-
+  -- a visit, as the leg and the window give it
   module _ (place : ℕ) (leg : Leg) (hours : Window) {start : ℕ} (l : LegOf day (t .place) place leg) (h : WindowOf day place hours)
       (e : start ≡ max (t .minute + leg .minutes) (hours .opening)) where
-    pub visit-late : (r : Driven) → hours .closing < start → r .fault ≡ 11 → DrivenTo (visitFault day t place) (visited day t place) r
-    unfolding visitFault
-    visit-late r late f =
-        at-fault r 11 (rw (lt-ltb _ _ (rw (h .closes, starts place leg hours l h e) at late))) (omega arith) f
+    pub trip-behind : {minutes : ℕ} → minutes ≡ service day place
+        → record { minute = start + minutes; place = place; rested = t .rested; distance = t .distance + leg .distance } ≡ visited day t place
+    trip-behind m = rw (e, m, h .opens, l .takes, l .spans)
 
-    pub visit-kept : {minutes : ℕ} → start ≤ hours .closing → minutes ≡ service day place
-        → DrivenTo (visitFault day t place) (visited day t place)
-        (record { fault = 0; trip = record { minute = start + minutes; place = place; rested = t .rested; distance = t .distance + leg .distance } })
+    pub late-start : ltb (hours .closing) start ≡ ltb (closing day place) (visitStart day t place)
+    late-start = rw (e, h .closes, h .opens, l .takes)
+
+  -- and checked: too late, or in time
+  module _ (place : ℕ) {late : Bool} (e : late ≡ ltb (closing day place) (visitStart day t place)) where
+    pub visit-late : (r : Driven) → late ≡ true → r .fault ≡ 11 → DrivenTo (visitFault day t place) (visited day t place) r
     unfolding visitFault
-    visit-kept kept m =
-        record {
-          faultIs = sym (rw (le-ltb _ _ (rw (h .closes, starts place leg hours l h e) at kept)));
-          tripIs = λ z. rw (starts place leg hours l h e, m, l .spans);
-        }
+    visit-late r z f = at-fault r 11 (rw (← e, z)) (omega arith) f
+
+    pub visit-kept : (u : Trip) → late ≡ false → u ≡ visited day t place
+        → DrivenTo (visitFault day t place) (visited day t place) (record { fault = 0; trip = u })
+    unfolding visitFault
+    visit-kept u z eu = record { faultIs = sym (rw (← e, z)); tripIs = λ f. eu }
 
   -- the earliest start of a rest, as the window gives it
   module _ (hours : Window) {start : ℕ} (opens : hours .opening ≡ restOpening day) (closes : hours .closing ≡ restClosing day)

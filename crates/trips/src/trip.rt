@@ -4,8 +4,8 @@ ghost use mathlib.Core.Path.{_≡_};
 ghost use Prim.Native.Nat.{_<_, _≤_, max};
 ghost use mathlib.Core.Bool.{not, _&&_};
 ghost use lib.Dec.{ltb};
-ghost use Rattle.rules.specs.Fields.{stopPlace, restClosing, service};
-ghost use Rattle.rules.specs.Trip.{leaving, arrival, driven, visited, restedAt, visitFault, restFault, backFault};
+ghost use Rattle.rules.specs.Fields.{stopPlace, closing, restClosing, service};
+ghost use Rattle.rules.specs.Trip.{leaving, arrival, visitStart, driven, visited, restedAt, visitFault, restFault, backFault};
 ghost use Rattle.day.specs.Layout.{LayoutOf, WindowOf};
 ghost use Rattle.trips.specs.Trips.{DrivenTo, TripWithin};
 use rules::walk::Trip;
@@ -66,6 +66,43 @@ pub fn leave(day: &[u32], layout: day::fields::Layout) -> Trip
     }
 }
 
+// The trip behind a visit, whether it is in time or not.
+pub fn visited_trip(
+    day: &[u32],
+    layout: day::fields::Layout,
+    t: Trip,
+    place: usize,
+    hours: day::fields::Window,
+    minutes: u32,
+) -> Trip
+    requires { ⌜ LayoutOf (now day) layout × (t .place < layout .places) × (t .minute < 268435456) × (t .distance < 4294901760) ⌝ }
+    requires { ⌜ (place < layout .places) × WindowOf (now day) place hours × (minutes ≡ service (now day) place) ⌝ }
+    ensures { λ r. ⌜ r ≡ visited (now (day .entry)) t place ⌝ }
+{
+    let leg = day::fields::leg_between(day, layout, t.place, place);
+    Trip {
+        minute: later(t.minute + leg.minutes, hours.opening) + minutes,
+        place,
+        rested: t.rested,
+        distance: t.distance + leg.distance,
+    }
+}
+
+// Whether a visit starts after its closing.
+fn is_late(
+    day: &[u32],
+    layout: day::fields::Layout,
+    t: Trip,
+    place: usize,
+    hours: day::fields::Window,
+) -> bool
+    requires { ⌜ LayoutOf (now day) layout × TripWithin (now day) 4096 t × (place < layout .places) × WindowOf (now day) place hours ⌝ }
+    ensures { λ r. ⌜ r ≡ ltb (closing (now (day .entry)) place) (visitStart (now (day .entry)) t place) ⌝ }
+{
+    let leg = day::fields::leg_between(day, layout, t.place, place);
+    hours.closing < later(t.minute + leg.minutes, hours.opening)
+}
+
 // To a place, for its service; too late is 11.
 fn visit(
     day: &[u32],
@@ -78,19 +115,12 @@ fn visit(
     requires { ⌜ LayoutOf (now day) layout × TripWithin (now day) 4096 t × (place < layout .places) × WindowOf (now day) place hours × (minutes ≡ service (now day) place) ⌝ }
     ensures { λ r. ⌜ DrivenTo (visitFault (now (day .entry)) t place) (visited (now (day .entry)) t place) r ⌝ }
 {
-    let leg = day::fields::leg_from_legs(day, layout, t.place, place);
-    let start = later(t.minute + leg.minutes, hours.opening);
-    if hours.closing < start {
+    if is_late(day, layout, t, place, hours) {
         return at_fault(11);
     }
     Driven {
         fault: 0,
-        trip: Trip {
-            minute: start + minutes,
-            place,
-            rested: t.rested,
-            distance: t.distance + leg.distance,
-        },
+        trip: visited_trip(day, layout, t, place, hours, minutes),
     }
 }
 
@@ -154,7 +184,7 @@ pub fn back(day: &[u32], layout: day::fields::Layout, t: Trip) -> Driven
     requires { ⌜ LayoutOf (now day) layout × TripWithin (now day) 4096 t ⌝ }
     ensures { λ r. ⌜ DrivenTo (backFault (now (day .entry)) t) (driven (now (day .entry)) t 0 (arrival (now (day .entry)) t 0)) r ⌝ }
 {
-    let leg = day::fields::leg_from_legs(day, layout, t.place, 0);
+    let leg = day::fields::leg_between(day, layout, t.place, 0);
     let minute = t.minute + leg.minutes;
     if day::fields::depot_window(day, layout).closing < minute {
         return at_fault(11);

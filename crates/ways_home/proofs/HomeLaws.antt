@@ -8,7 +8,7 @@ use native.Mathlib.Omega.{arith}
 use lib.Dec.{leb}
 use borrow.Author.Tests.{le-leb, lt-leb, leb-true, eq-eqb, ne-eqb}
 use Rattle.rules.specs.Tests.{if_then_else_}
-use Rattle.rules.specs.Fields.{places, stopPlace, opening, closing, restOpening, restClosing, restMinutes, service}
+use Rattle.rules.specs.Fields.{places, stopPlace, opening, closing, restOpening, restClosing, restMinutes}
 use Rattle.rules.specs.Trip.{visited, restedAt}
 use Rattle.rules.specs.Tips.{nearestTip}
 use Rattle.rules.specs.Home.{due, restIfDue, homeDirect, homeByTip, homeLoaded, wayHome}
@@ -54,25 +54,9 @@ module _ (day : List ℕ) (t : Trip) where
   unfolding restIfDue
   rest-not eb z = rw (← eb, z)
 
--- a visit's trip
-pub visit-made : (day : List ℕ) (t : Trip) (place : ℕ) (w : Window) (l : Leg) {start m : ℕ} → WindowOf day place w → LegOf day (t .place) place l
-    → start ≡ max (t .minute + l .minutes) (w .opening) → m ≡ service day place
-    → record { minute = start + m; place = place; rested = t .rested; distance = t .distance + l .distance } ≡ visited day t place
-visit-made day t place w l hw hl es em = rw (es, em, hw .opens, hl .takes, hl .spans)
-
--- a stop's place is counted from the tips
-module _ (day : List ℕ) (layout : Layout) (k : ℕ) (hz : LayoutOf day layout) where
-  pub stop-inside : k ≤ layout .stops → layout .tips + k < layout .places
-  stop-inside h = omega (arith, hz .tipsAre, hz .stopsAre, hz .placesAre)
-
-  pub stop-hours : (w : Window) → WindowOf day (stopPlace day k) w → WindowOf day (layout .tips + k) w
-  stop-hours w h = rw (hz .tipsAre) h
-
-  pub stop-minutes : {m : ℕ} → m ≡ service day (stopPlace day k) → m ≡ service day (layout .tips + k)
-  stop-minutes e = rw (hz .tipsAre) e
-
-  pub stop-visited : (t u : Trip) → u ≡ visited day t (layout .tips + k) → u ≡ visited day t (stopPlace day k)
-  stop-visited t u e = rw (hz .tipsAre) at e
+-- a stop's place stands behind the tips
+pub stop-visited : (day : List ℕ) (layout : Layout) (k : ℕ) → LayoutOf day layout → (t u : Trip) → u ≡ visited day t (layout .tips + k) → u ≡ visited day t (stopPlace day k)
+stop-visited day layout k l t u e = rw (l .tipsAre) at e
 
 -- home without a tip: too late, rested, unrested
 module _ (day : List ℕ) (t : Trip) (l : Leg) (w : Window) (hl : LegOf day (t .place) 0 l) (hw : WindowOf day 0 w) where

@@ -1,2 +1,3 @@
+pub mod BestLaws
 pub mod HomeLaws
 pub mod TipLaws

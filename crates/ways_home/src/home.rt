@@ -1,6 +1,6 @@
 // Rest if due, and the way home.
 ghost use mathlib.Core.Path.{_≡_};
-ghost use Prim.Native.Nat.{_<_, _≤_, max};
+ghost use Prim.Native.Nat.{_<_, _≤_};
 ghost use Rattle.rules.specs.Fields.{stopPlace, service};
 ghost use Rattle.rules.specs.Trip.{visited};
 ghost use Rattle.rules.specs.Home.{due, restIfDue, homeDirect, homeByTip, wayHome};
@@ -9,12 +9,7 @@ ghost use Rattle.greedy_laws.specs.States.{SmallTrip};
 use day::fields::Layout;
 use day::fields::Window;
 use rules::walk::Trip;
-
-fn later(a: u32, b: u32) -> u32
-    ensures { λ r. ⌜ r ≡ max a b ⌝ }
-{
-    if a < b { b } else { a }
-}
+use trips::trip::visited_trip;
 
 // Whether a rest is due.
 pub fn is_due(day: &[u32], layout: Layout, t: Trip) -> bool
@@ -59,13 +54,7 @@ pub fn visit(
     requires { ⌜ LayoutOf (now day) layout × SmallTrip (now day) 4294901760 t × (place < layout .places) × WindowOf (now day) place hours × (minutes ≡ service (now day) place) ⌝ }
     ensures { λ r. ⌜ r ≡ visited (now (day .entry)) t place ⌝ }
 {
-    let leg = day::fields::leg_between(day, layout, t.place, place);
-    Trip {
-        minute: later(t.minute + leg.minutes, hours.opening) + minutes,
-        place,
-        rested: t.rested,
-        distance: t.distance + leg.distance,
-    }
+    visited_trip(day, layout, t, place, hours, minutes)
 }
 
 // After the service of stop k.

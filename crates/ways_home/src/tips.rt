@@ -5,37 +5,48 @@ ghost use Rattle.rules.specs.Least.{better};
 ghost use Rattle.rules.specs.Fields.{legMinutes};
 ghost use Rattle.rules.specs.Tips.{openTip, nearestTip};
 ghost use Rattle.day.specs.Layout.{LayoutOf};
+ghost use Rattle.ways_home.specs.Bests.{BestBy};
+use crate::best::Best;
+use crate::best::NO_KEY;
 use day::fields::Layout;
 
-// Tip k in place of the best so far, where it is open on arrival and nearer. 0 stands for none.
-fn better_tip(
-    day: &[u32],
-    layout: Layout,
-    place: usize,
-    minute: u32,
-    k: usize,
-    best: usize,
-) -> usize
-    requires { ⌜ LayoutOf (now day) layout × (place < layout .places) × (minute < 268435456) × (0 < k) × (k ≤ layout .tips) × (best < layout .places) ⌝ }
-    ensures { λ r. ⌜ r ≡ better (openTip (now (day .entry)) place minute) (legMinutes (now (day .entry)) place) k best ⌝ }
+// Whether tip k, so many minutes away, is open on arrival.
+fn is_open(day: &[u32], layout: Layout, place: usize, minute: u32, k: usize, away: u32) -> bool
+    requires { ⌜ LayoutOf (now day) layout × (minute < 268435456) × (0 < k) × (k ≤ layout .tips) × (away ≡ legMinutes (now day) place k) ⌝ }
+    ensures { λ r. ⌜ r ≡ openTip (now (day .entry)) place minute k ⌝ }
 {
     let window = day::fields::tip_window(day, layout, k);
+    let arrival = minute + away;
+    if arrival < window.opening {
+        return false;
+    }
+    arrival <= window.closing
+}
+
+// Tip k in place of the best so far, where it is nearer and open on arrival. Both are made field by field: copied as a block it is slower.
+fn better_tip(day: &[u32], layout: Layout, place: usize, minute: u32, k: usize, best: Best) -> Best
+    requires { ⌜ LayoutOf (now day) layout × (place < layout .places) × (minute < 268435456) × (0 < k) × (k ≤ layout .tips) × BestBy (legMinutes (now day) place) (layout .tips) best ⌝ }
+    ensures carried { λ r. ⌜ BestBy (legMinutes (now (day .entry)) place) (layout .tips) r ⌝ }
+    ensures choice { λ r. ⌜ r .number ≡ better (openTip (now (day .entry)) place minute) (legMinutes (now (day .entry)) place) k (best .number) ⌝ }
+{
     let leg = day::fields::leg_between(day, layout, place, k);
-    let at = minute + leg.minutes;
-    if at < window.opening {
-        return best;
+    let away = leg.minutes;
+    if best.key <= away {
+        return Best {
+            number: best.number,
+            key: best.key,
+        };
     }
-    if window.closing < at {
-        return best;
+    if is_open(day, layout, place, minute, k, away) {
+        return Best {
+            number: k,
+            key: away,
+        };
     }
-    if best == 0 {
-        return k;
+    Best {
+        number: best.number,
+        key: best.key,
     }
-    let nearest = day::fields::leg_between(day, layout, place, best);
-    if leg.minutes < nearest.minutes {
-        return k;
-    }
-    best
 }
 
 // The nearest tip that is open on arrival, the lowest number among equals, 0 where none is open.
@@ -44,11 +55,14 @@ pub fn nearest_tip(day: &[u32], layout: Layout, place: usize, minute: u32) -> us
     ensures { λ r. ⌜ (r ≡ nearestTip (now (day .entry)) place minute) × (r ≤ layout .tips) ⌝ }
 {
     let tips = layout.tips;
-    let mut best: usize = 0;
+    let mut best = Best {
+        number: 0,
+        key: NO_KEY,
+    };
     let mut k: usize = 0;
     while k < tips {
         best = better_tip(day, layout, place, minute, k + 1, best);
         k += 1;
     }
-    best
+    best.number
 }

@@ -1,6 +1,7 @@
 -- `checker::check` meets its contract: a refused day is answered as it was judged, an accepted day has its layout and its plan is walked.
 use borrow.Author.Needs.{needs}
-use Rattle.checker.proofs.Answering.{day-refused, accepted-long, day-accepted}
+use Rattle.day.proofs.Answered.{accepted-long}
+use Rattle.checker.proofs.Answering.{day-refused, day-accepted}
 use Rattle.checker.proofs.check.Statement.{statement}
 use Rattle.checker.proofs.check.Tie as tie
 

@@ -1,6 +1,7 @@
 -- `planner::build` meets its contract.
 use borrow.Author.Needs.{needs}
-use Rattle.builder.proofs.BuiltPlans.{is-accepted, accepted-long, accepted-answer, accepted-buffer, refused-answer, refused-buffer}
+use Rattle.day.proofs.Answered.{is-accepted, accepted-long}
+use Rattle.builder.proofs.BuiltPlans.{accepted-answer, accepted-buffer, refused-answer, refused-buffer}
 use Rattle.planner.proofs.build.Statement.{statement}
 use Rattle.planner.proofs.build.Tie as tie
 

@@ -1,6 +1,6 @@
 -- `planner::plan` meets its contract.
 use mathlib.Core.Path.{refl}
-use Rattle.builder.proofs.BuiltPlans.{is-accepted, accepted-long}
+use Rattle.day.proofs.Answered.{is-accepted, accepted-long}
 use Rattle.planner.proofs.PlanCalls.{refused-plan-answer, refused-plan-buffer, accepted-plan-answer, accepted-plan-buffer, accepted-plan-spare}
 use borrow.Author.Needs.{needs}
 use Rattle.planner.proofs.plan.Statement.{statement}

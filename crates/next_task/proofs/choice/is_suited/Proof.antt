@@ -1,14 +1,11 @@
 -- `next_task::choice::is_suited` meets its contract.
 use borrow.Author.Needs.{needs}
-use native.Mathlib.Omega.{arith}
 use Rattle.next_task.proofs.ChoiceLaws.{fit-home, served-trip}
 use Rattle.next_task.proofs.choice.is_suited.Statement.{statement}
 use Rattle.next_task.proofs.choice.is_suited.Tie as tie
 
 is-way-home-requires : tie.Need-is-way-home-requires
-is-way-home-requires c κs =
-    let pre = c .before .before .before .before .pre in
-    (pre .0 .0, served-trip _ _ 2147483648 _ _ _ _ (pre .0 .0) (pre .0 .1) (omega arith) (pre .0 .3) (pre .0 .4) (pre .1) (c .before .visit-stop .ensures))
+is-way-home-requires c κs = (search needs, search served-trip)
 
 returns : tie.Need-returns
 returns c = search fit-home

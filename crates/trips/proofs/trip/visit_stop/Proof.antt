@@ -1,11 +1,12 @@
 -- `trips::trip::visit_stop` meets its contract: the place of a stop stands behind the tips.
 use borrow.Author.Needs.{needs}
-use Rattle.trips.proofs.Driving.{stop-window, stop-minutes, stop-visited, stop-place}
+use Rattle.day.proofs.Readers.{stop-inside, stop-hours, stop-minutes}
+use Rattle.trips.proofs.Driving.{stop-visited}
 use Rattle.trips.proofs.trip.visit_stop.Statement.{statement}
 use Rattle.trips.proofs.trip.visit_stop.Tie as tie
 
 visit-requires : tie.Need-visit-requires
-visit-requires c κs = (search needs, search needs, search stop-place, search stop-window, search stop-minutes)
+visit-requires c κs = (search needs, search needs, search stop-inside, search stop-hours, search stop-minutes)
 
 returns : tie.Need-returns
 returns c = search stop-visited

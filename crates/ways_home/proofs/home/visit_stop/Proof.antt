@@ -1,6 +1,7 @@
 -- `ways_home::home::visit_stop` meets its contract.
 use borrow.Author.Needs.{needs}
-use Rattle.ways_home.proofs.HomeLaws.{stop-inside, stop-hours, stop-minutes, stop-visited}
+use Rattle.day.proofs.Readers.{stop-inside, stop-hours, stop-minutes}
+use Rattle.ways_home.proofs.HomeLaws.{stop-visited}
 use Rattle.ways_home.proofs.home.visit_stop.Statement.{statement}
 use Rattle.ways_home.proofs.home.visit_stop.Tie as tie
 

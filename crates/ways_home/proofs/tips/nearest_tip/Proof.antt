@@ -1,25 +1,30 @@
 -- `ways_home::tips::nearest_tip` meets its contract: the best so far is the least of the first k tips.
-use Prim.Native.Nat.{_≤_, _-_}
 use borrow.Author.Needs.{needs}
+use Prim.Native.Nat.{_≤_, _-_}
 use mathlib.Core.Path.{_≡_}
 use Rattle.rules.specs.Least.{least}
 use Rattle.rules.specs.Fields.{legMinutes}
 use Rattle.rules.specs.Tips.{openTip}
-use Rattle.ways_home.proofs.TipLaws.{tips-none, tips-next, tips-few, tips-all}
+use Rattle.ways_home.specs.Bests.{BestBy}
+use Rattle.ways_home.proofs.BestLaws.{none-so-far}
+use Rattle.ways_home.proofs.TipLaws.{tips-none, tips-next, tips-all}
 use Rattle.ways_home.proofs.tips.nearest_tip.Statement.{statement}
 use Rattle.ways_home.proofs.tips.nearest_tip.Tie as tie
 
 abbrev Inv-loop : tie.InvT-loop
-Inv-loop day layout place minute tips best₀ k₀ best k = (k ≤ tips) × (best ≤ k) × (best ≡ least (openTip day place minute) (legMinutes day place) k)
+Inv-loop day layout place minute tips best₀ k₀ best k =
+    (k ≤ tips)
+    × BestBy (legMinutes day place) tips best
+    × (best .number ≡ least (openTip day place minute) (legMinutes day place) k)
 
 abbrev μ-loop : tie.MeasureT-loop
 μ-loop day layout place minute tips best₀ k₀ best k = tips - k
 
 loop-holds : tie.Need-loop-holds Inv-loop μ-loop
-loop-holds c = (search needs, search needs, tips-none _ _ _)
+loop-holds c = (search needs, none-so-far _ _, tips-none _ _ _)
 
 loop-again : tie.Need-loop-again Inv-loop μ-loop
-loop-again c = let e = tips-next _ _ _ _ _ (c .before .before .loop .inv .2) (c .better-tip .ensures) in (search needs, tips-few _ _ _ _ _ e, e)
+loop-again c = (search needs, search needs, tips-next _ _ _ _ _ (c .before .before .loop .inv .2) (c .better-tip .ensures .1))
 
 returns : tie.Need-returns Inv-loop μ-loop
 returns c = (search tips-all, search needs)
