@@ -80,7 +80,7 @@ module _ {day : List ℕ} {layout : Layout} {K budget : ℕ} {table plan starts 
       }
 
   -- the next trial may be made
-  module _ {l : Listed} (g : s .ended ≡ false) (a : ListAnswer z K table starts vehicles (take (s .words - 0) (drop 0 plan)) (s .count) (s .cursor) l) (f : l .found ≡ true) where
+  module _ {l : Listed} (g : s .ended ≡ false) (a : ListAnswer layout K table starts vehicles (take (s .words - 0) (drop 0 plan)) (s .count) (s .cursor) l) (f : l .found ≡ true) where
     next-is : restOf day K (h .rounds) (s .cursor) ≡ listedTrial (l .trial) ∷ restOf day K (h .rounds) (l .next)
     unfolding plan-tables held-tables
     next-is = a .tells held-tables .some f
