@@ -15,7 +15,8 @@ use Rattle.rules.specs.Lists.{Every, times}
 use Rattle.rules.specs.Plan.{serve, empty, Round, stopsOn, Known}
 use Rattle.rules.specs.Edits.{Edit, before, after, swap, remove, replace, changeStop}
 use Rattle.laws.proofs.Decided.{known}
-use Rattle.walks.proofs.EditLaws.{renamed, Named, Suits, times-all, length-all, changed-known, move-same, move-count}
+use Rattle.walks.specs.Rewalks.{Named}
+use Rattle.walks.proofs.EditLaws.{renamed, Suits, times-all, length-all, changed-known, move-same, move-count}
 
 module _ (day : List ℕ) (tasks : Round) (h : Every (Known day) tasks) where
   module _ (i j : ℕ) (apart : i ≡ j → ⊥) (n : Known day (serve i) × Known day (serve j)) (e : times i (stopsOn tasks) ≡ times j (stopsOn tasks)) where
@@ -33,7 +34,7 @@ module _ (day : List ℕ) (tasks : Round) (h : Every (Known day) tasks) where
     other-before x a b = rw (ne-eqb x j a, ne-eqb x i b) refl
 
     pub suits-before : Suits day (before i j) tasks
-    unfolding renamed Named
+    unfolding renamed
     suits-before =
         record {
           known = changed-known day (before i j) 0 tasks n h;
@@ -59,7 +60,7 @@ module _ (day : List ℕ) (tasks : Round) (h : Every (Known day) tasks) where
     other-after x a b = rw (ne-eqb x j a, ne-eqb x i b) refl
 
     pub suits-after : Suits day (after i j) tasks
-    unfolding renamed Named
+    unfolding renamed
     suits-after =
         record {
           known = changed-known day (after i j) 0 tasks n h;
@@ -111,16 +112,15 @@ module _ (day : List ℕ) (tasks : Round) (h : Every (Known day) tasks) where
   ]
 
   pub suits-swap : (i j : ℕ) → (i ≡ j → ⊥) → Known day (serve i) × Known day (serve j) → Suits day (swap i j) tasks
-  unfolding Named
   suits-swap i j apart n = suits-one (swap i j) n (swap-one i j) (λ x. swap-twice i j x apart)
 
   -- a C "removed", or "replaced by" another tip
   pub suits-remove : (at : ℕ) → Suits day (remove at) tasks
-  unfolding Named changeStop renamed stopsOn
+  unfolding changeStop renamed stopsOn
   suits-remove at = suits-one (remove at) tt (λ x. refl) (λ x. refl)
 
   pub suits-replace : (at x : ℕ) → Known day (empty x) → Suits day (replace at x) tasks
-  unfolding Named changeStop renamed stopsOn
+  unfolding changeStop renamed stopsOn
   suits-replace at x n = suits-one (replace at x) n (λ y. refl) (λ y. refl)
 
 -- an interchange renames no stop of a vehicle that has neither of the two

@@ -27,7 +27,7 @@ walk-word-requires : tie.Need-walk-word-requires Inv-loop μ-loop
 walk-word-requires c κs = let s = c .before .before .before .before .before .before .before .before .before .pre .5 in (c .before .before .before .before .before .before .before .before .before .pre .0, c .before .before .before .before .before .before .before .before .before .pre .1, midway-word (c .before .before .before .before .before .before .before .before .before .args .e) (s .walkable) (c .before .before .before .before .before .before .before .before .before .pre .3) (c .before .before .before .loop-test .taken) 0 (c .before .before .before .before .loop .inv .1 _ (s .tasks) (wrote-put (wrote-none _) _ (omega (arith, s .walkable .room))) (s .walkable)) (c .before .next-turn .ensures .0))
 
 loop-less : tie.Need-loop-less Inv-loop μ-loop
-loop-less c = turns-left (length (c .before .before .before .before .before .before .before .before .before .before .before .before .args .tasks .now)) (c .before .before .before .before .before .before .before .loop .i) (c .before .before .before .before .before .before .before .loop .waiting) (c .before .before .before .before .next-turn .result .next) (c .before .before .before .before .next-turn .result .waiting) (c .before .before .before .before .before .before .loop-test .taken) (c .before .before .before .before .next-turn .ensures .1 .0)
+loop-less c = search turns-left
 
 loop-again : tie.Need-loop-again Inv-loop μ-loop
 loop-again c = (omega (arith, c .before .before .before .before .before .before .loop-test .taken, c .before .before .before .before .next-turn .ensures .1 .1), λ p ts w h. midway-step (c .before .before .before .before .before .before .before .before .before .before .before .before .args .e) h (c .before .before .before .before .before .before .before .before .before .before .before .before .pre .3) (c .before .before .before .before .before .before .loop-test .taken) 0 (c .before .before .before .before .before .before .before .loop .inv .1 p ts w h) (c .before .before .before .before .next-turn .ensures .0) (c .before .before .walk-word .ensures))
