@@ -43,7 +43,7 @@ module _ {plan starts : List ℕ} {rounds : List Round} {lefts : List ℕ} (h : 
   abbrev tasks : Round
   tasks = getD rounds v []
 
-  abbrev behind : List ℕ
+  abbrev pub behind : List ℕ
   behind = roundsWords (v + 1) (drop (suc v) rounds) ++ map leftWord lefts
 
   -- the next one starts behind its E word
