@@ -18,14 +18,15 @@ use Rattle.tracks.specs.Behind.{BehindOf, RoundTo, SomeRoundTo, FillsBeh
 use Rattle.tracks.specs.Tables.{firstTask, beforeIn, behindIn, spotsIn, Trackable, SomeTrackable, TracksIn, SomeVehicle, TracksOne, TracksVehicle}
 use Rattle.tracks.proofs.PartLaws.{part-put, part-before, part-behind}
 
--- vehicle v, counted from 0
+-- the first task of vehicle v, counted from 0, stands behind its A word
+pub first-is : {plan starts : List ℕ} {rounds : List Round} {lefts : List ℕ} → Laid plan starts rounds lefts → {v : ℕ} → v < length rounds
+    → getD starts v 0 + 1 ≡ firstTask rounds v
+first-is h {v} l = ap (λ (n : ℕ). n + 1) (h .starting .at v (omega arith))
+
+-- the vehicle itself
 module _ {day plan starts : List ℕ} {room : ℕ} {rounds : List Round} {lefts : List ℕ} (t : Trackable day plan starts room rounds lefts) {v : ℕ} (l : v < length rounds) where
   abbrev laid : Laid plan starts rounds lefts
   laid = t .laid
-
-  -- its first task stands behind its A word
-  first-is : getD starts v 0 + 1 ≡ firstTask rounds v
-  first-is = ap (λ (n : ℕ). n + 1) (laid .starting .at v (omega arith))
 
   -- where its tasks stand in the plan, from the one behind its A word to its E word
   placed : RoundTo day plan (getD starts v 0 + 1) (getD starts (v + 1) 0 - 1) (getD rounds v []) (behind laid l)
@@ -63,7 +64,7 @@ module _ {day plan starts : List ℕ} {room : ℕ} {rounds : List Round} {lefts 
       → FillsBehind day plan (getD starts v 0 + 1) (getD starts (v + 1) 0 - 1) behind onwards → TracksOne day rounds v before walks behind onwards
   vehicle-tracked {walks = walks} {onwards = onwards} h f g =
       let tasks = getD rounds v [] in
-      let here = first-is in
+      let here = first-is laid l in
       record {
         walked = subst (λ (n : ℕ). BeforeOf day walks n tasks) here (f .rows tasks (vehicle-walks h));
         onward = subst (λ (n : ℕ). BehindOf day onwards n tasks) here (g .rows tasks _ placed);
