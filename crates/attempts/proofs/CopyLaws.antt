@@ -1,10 +1,10 @@
 -- Words copied to the front of a part, and the parts of a vehicle's words. Assumes nothing.
 use Prim.Native.Nat.{ℕ, _+_, _-_, _≤_, _<_}
-use mathlib.Core.Path.{_≡_, refl, sym, ap, _∙_}
+use mathlib.Core.Path.{_≡_, refl, sym}
 use mathlib.Core.List.{List, [], _∷_, map}
 use native.Mathlib.Omega.{arith}
 use native.Mathlib.Numerals.{add-one}
-use lib.ListN.{length, length-append, length-map, getD, take, drop, set}
+use lib.ListN.{length, length-append, getD, take, drop, set}
 use lib.Seq.{take-suc, take-at, take-all}
 use Rattle.rules.specs.PlanWords.{backWord}
 use Rattle.rules.specs.Plan.{Round, taskWord, roundWords}
@@ -26,7 +26,3 @@ unfolding roundWords
 inner-words number tasks words e =
     let n : length (roundWords number tasks) - 1 - 1 ≡ length (map taskWord tasks) = omega (arith, length-append (map taskWord tasks) (backWord ∷ [])) in
     rw (e, n) (take-at (map taskWord tasks) (backWord ∷ []) (length (map taskWord tasks)) refl)
-
-pub round-long : (number : ℕ) (tasks : Round) (words : List ℕ) → words ≡ roundWords number tasks → length words ≡ length tasks + 2
-unfolding roundWords
-round-long number tasks words e = ap length e ∙ omega (arith, length-append (map taskWord tasks) (backWord ∷ []), length-map tasks taskWord)

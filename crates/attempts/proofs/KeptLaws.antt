@@ -19,18 +19,21 @@ use Rattle.rules.specs.Check.{checkWords, checkPlan}
 use Rattle.rules.specs.Build.{greedyLefts}
 use Rattle.rules.specs.Edits.{Trial}
 use Rattle.rules.specs.Attempts.{tried, distanceOf, isLawful, keptIf, attempt}
+use Rattle.day.proofs.Ranges.{accepted-ranges}
 use Rattle.laws.specs.Buffer.{Wrote}
 use Rattle.laws.proofs.Buffer.{over-front}
 use Rattle.laws.proofs.Decided.{known}
 use Rattle.walks.specs.declared.vehicle.Walked.{Walked}
 use Rattle.trial_list.specs.Shapes.{Shaped}
 use Rattle.trial_list.proofs.Shapes.{shaped-formed}
-use Rattle.attempts.specs.Candidates.{CandidateAs}
+use Rattle.attempts.specs.Candidates.{SomeTrying, CandidateAs}
 use Rattle.attempts.specs.Tries.{Made, NoneKept, TriedAs, LawfulBy, Judged}
 use Rattle.attempts.specs.declared.tries.Tried.{Tried}
 use Rattle.plan_laws.proofs.Theorems.{told-totals}
 use Rattle.attempts.proofs.ShapeKept.{valid-shaped}
+use Rattle.attempts.proofs.NextRounds.{few-vehicles}
 use Rattle.attempts.proofs.ShorterLaws.{attempt-failed}
+use Rattle.attempts.proofs.WrittenLaws.{ends-inside}
 
 -- the answer's numbers
 same-distance : {d e v u s w : ℕ} → _≡_ {A = List ℕ} (given (d ∷ v ∷ s ∷ [])) (given (e ∷ u ∷ w ∷ [])) → d ≡ e
@@ -124,6 +127,18 @@ front-part n xs = let e : n - 0 ≡ n = omega arith in ap (λ (k : ℕ). take k 
 module _ {day plan starts distances tracks : List ℕ} {m : Trial} {count distance : ℕ} {rounds : List Round} (ok : IsAccepted day) (h : Made day plan starts distances tracks m count distance rounds) where
   pub tried-none : {part : List ℕ} (r : Tried) → NoneKept day plan starts distances tracks m → r .kept ≡ false → TriedAs day m rounds part r
   tried-none r n k = record { none = λ _. n rounds (h .measured); some = λ y. absurd (true≢false (sym y ∙ k)) }
+
+  pub trying-made : SomeTrying day plan starts m count
+  trying-made =
+      let t = h .measured .trying in
+      record {
+        rounds = rounds;
+        trying = t;
+        counted = h .counted;
+        few = omega (arith, h .counted, few-vehicles t, accepted-ranges day ok .stopsMost);
+        table = t .laid .starting .size;
+        ends = ends-inside t (h .counted);
+      }
 
   pub tried-stuck : {p part : List ℕ} {c : Walked} (r : Tried) → CandidateAs day m rounds p part c → c .stuck ≡ true → r .kept ≡ false → TriedAs day m rounds part r
   tried-stuck r a g k =

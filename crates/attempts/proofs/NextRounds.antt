@@ -2,7 +2,7 @@
 use Prim.Native.Nat.{ℕ, _+_, _-_, _*_, _≤_, _<_}
 use mathlib.Core.Path.{_≡_, sym, ap, _∙_, subst}
 use mathlib.Core.Bool.{Bool, _||_}
-use mathlib.Core.List.{List, [], _∷_, _++_}
+use mathlib.Core.List.{List, [], _∷_}
 use mathlib.Core.Option.{some}
 use native.Mathlib.Omega.{arith}
 use lib.Dec.{eqb}
@@ -10,61 +10,39 @@ use lib.ListN.{length, length-append, getD, take, drop}
 use Rattle.rules.specs.Tests.{if_then_else_}
 use Rattle.rules.specs.Lists.{Every}
 use Rattle.rules.specs.Fields.{stops, IsAccepted}
-use Rattle.rules.specs.Plan.{Round, roundWords, roundsWords, stopsOn, stopsOnAll, Known}
-use Rattle.rules.specs.Build.{greedyLefts}
+use Rattle.rules.specs.Plan.{Round, roundWords, stopsOn, stopsOnAll, Known}
 use Rattle.rules.specs.Edits.{Trial, touches, changed}
 use Rattle.rules.specs.WalkedAgain.{walkedAgain}
 use Rattle.rules.specs.Attempts.{retried}
 use Rattle.day.proofs.Ranges.{accepted-ranges}
 use Rattle.greedy_laws.specs.Rooms.{Room}
-use Rattle.greedy_laws.proofs.GreedyRoom.{plan-length}
 use Rattle.walks.specs.declared.vehicle.Walked.{Walked}
-use Rattle.walks.proofs.MidwayLaws.{every-at}
+use Rattle.laws.proofs.Lists.{every-at}
+use Rattle.plan_laws.proofs.Theorems.{round-length}
+use Rattle.trial_list.specs.Survey.{VehicleIn}
+use Rattle.trial_list.proofs.LaidLaws.{vehicle-in, round-are}
 use Rattle.trial_list.proofs.Shapes.{each-vehicle, shaped-few, shaped-length, shaped-stops}
 use Rattle.attempts.specs.Candidates.{Roundable, SomeRoundable, RoundAs, Trying, SomeNext}
-use Rattle.attempts.proofs.CopyLaws.{round-long}
-use Rattle.attempts.proofs.RoundLists.{cut-whole, cut-words, front-more, front-length, rounds-more, slice-words, stops-parts}
+use Rattle.attempts.proofs.RoundLists.{cut-whole, stops-parts}
 use Rattle.attempts.proofs.ShapeKept.{Suited, valid-suits}
 
 module _ {day plan starts : List ℕ} {m : Trial} {rounds : List Round} (t : Trying day plan starts m rounds) where
   pub few-vehicles : length rounds ≤ stops day
   few-vehicles = shaped-few day rounds (t .shaped)
 
+  few-accepted : IsAccepted day → length rounds ≤ 240
+  few-accepted ok = omega (arith, few-vehicles, accepted-ranges day ok .stopsMost)
+
+  -- where the words of one stand, and where those of all end
+  pub vehicle-stands : IsAccepted day → {v : ℕ} → v < length rounds → VehicleIn plan starts v
+  vehicle-stands ok l = vehicle-in (t .laid) l (few-accepted ok)
+
   pub plan-short : length plan ≤ 5 * stops day
-  plan-short = omega (arith, ap length (t .are), shaped-length day rounds (t .shaped))
+  plan-short = omega (arith, ap length (t .laid .text), shaped-length day rounds (t .shaped))
 
 module _ {day plan starts : List ℕ} {m : Trial} {rounds : List Round} (t : Trying day plan starts m rounds) {v : ℕ} (l : v < length rounds) where
   abbrev tasks : Round
   tasks = getD rounds v []
-
-  -- where its words begin and end
-  pub record Bounds : Type 0 where
-    pub order : getD starts v 0 ≤ getD starts (v + 1) 0
-    pub inside : getD starts (v + 1) 0 ≤ length plan
-    pub words : take (getD starts (v + 1) 0 - getD starts v 0) (drop (getD starts v 0) plan) ≡ roundWords (v + 1) tasks
-
-  pub bounds : Bounds
-  bounds =
-      let from = t .starting v (omega arith) in
-      let to = t .starting (v + 1) (omega arith) in
-      let long : length (roundsWords 0 (take (v + 1) rounds)) ≡ length (roundsWords 0 (take v rounds)) + length (roundWords (v + 1) tasks) =
-      ap (λ (xs : List Round). length (roundsWords 0 xs)) (front-more rounds v l) ∙ ap length (rounds-more (take v rounds) tasks)
-      ∙ length-append (roundsWords 0 (take v rounds)) (roundWords (length (take v rounds) + 1) tasks)
-      ∙ ap (λ (n : ℕ). length (roundsWords 0 (take v rounds)) + length (roundWords (n + 1) tasks)) (front-length rounds v l) in
-      record {
-        order = omega (arith, from, to, long);
-        inside = omega (
-          arith,
-          to,
-          long,
-          ap length (t .are),
-          plan-length rounds (greedyLefts day),
-          ap length (cut-words rounds v l),
-          length-append (roundsWords 0 (take v rounds)) (roundWords (v + 1) tasks ++ roundsWords (v + 1) (drop (v + 1) rounds)),
-          length-append (roundWords (v + 1) tasks) (roundsWords (v + 1) (drop (v + 1) rounds)),
-        );
-        words = slice-words rounds v l plan (greedyLefts day) (getD starts v 0) (getD starts (v + 1) 0) (t .are) from to;
-      }
 
   suited : Suited day m (v + 1) tasks
   suited =
@@ -97,7 +75,7 @@ module _ {day plan starts : List ℕ} {m : Trial} {rounds : List Round} (t : Try
         edited = λ y. suited .touched (sym e ∙ y) known .known;
         same = λ y. suited .touched (sym e ∙ y) known .count;
         few = omega (arith, stops-here, accepted-ranges day ok .stopsMost);
-        room = omega (arith, h, busy, room .size, round-long (v + 1) tasks _ w);
+        room = omega (arith, h, busy, room .size, ap length w, round-length (v + 1) tasks);
         more = omega (arith, h, busy);
       }
 
@@ -116,4 +94,9 @@ pub some-roundable : {day plan starts : List ℕ} {m : Trial} {v : ℕ} {part wo
     → touched ≡ touches m (v + 1) → words ≡ take (getD starts (v + 1) 0 - getD starts v 0) (drop (getD starts v 0) plan)
     → SomeRoundable day (m .edit) touched (v + 1) words part
 some-roundable {v = v} s ok e w =
-    record { tasks = getD (s .rounds) v []; roundable = round-able (s .trying) (s .inside) ok (s .room) e (w ∙ bounds (s .trying) (s .inside) .words) }
+    let words = w ∙ round-are (s .trying .laid) (s .inside) in
+    record {
+      tasks = getD (s .rounds) v [];
+      roundable = round-able (s .trying) (s .inside) ok (s .room) e words;
+      ends = omega (arith, ap length words, round-length (v + 1) (getD (s .rounds) v []));
+    }

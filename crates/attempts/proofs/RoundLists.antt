@@ -1,30 +1,15 @@
--- The vehicles of a plan, cut at one of them: their words, and what a trial makes of them. Assumes nothing.
+-- The vehicles of a plan, cut at one of them: their stops, and what a trial makes of them. Assumes nothing.
 use Prim.Native.Nat.{ℕ, suc, _+_, _-_, _<_}
 use mathlib.Core.Path.{_≡_, refl, sym, ap, _∙_}
-use mathlib.Core.List.{List, [], _∷_, _++_, map, append-assoc, append-nil}
+use mathlib.Core.List.{List, [], _∷_, _++_}
 use mathlib.Core.Option.{Option, none, some}
 use native.Mathlib.Omega.{arith}
 use native.Mathlib.Numerals.{add-one}
 use lib.ListN.{length, length-append, getD, take, drop, take-append-drop}
-use lib.Seq.{take-suc, drop-cons, take-at, drop-at, length-take-le}
-use Rattle.rules.specs.PlanWords.{leftWord}
-use Rattle.rules.specs.Plan.{Round, roundWords, roundsWords, planWords, stopsOn, stopsOnAll}
+use lib.Seq.{take-suc, drop-cons, length-take-le}
+use Rattle.rules.specs.Plan.{Round, stopsOn, stopsOnAll}
 use Rattle.rules.specs.Edits.{Trial}
 use Rattle.rules.specs.Attempts.{retried, joined, triedFrom}
-
--- the words of two parts of the vehicles
-pub rounds-append : (from : ℕ) (xs ys : List Round) → roundsWords from (xs ++ ys) ≡ roundsWords from xs ++ roundsWords (from + length xs) ys
-unfolding roundsWords
-rounds-append from [] ys = let e : from + 0 ≡ from = omega arith in rw e refl
-rounds-append from (tasks ∷ xs) ys =
-    let e : from + suc (length xs) ≡ suc from + length xs = omega arith in
-    rw (e, rounds-append (suc from) xs ys, append-assoc (roundWords (suc from) tasks) (roundsWords (suc from) xs) (roundsWords (suc from + length xs) ys)) refl
-
-pub rounds-more : (done : List Round) (tasks : Round) → roundsWords 0 (done ++ (tasks ∷ [])) ≡ roundsWords 0 done ++ roundWords (length done + 1) tasks
-unfolding roundsWords
-rounds-more done tasks =
-    let e : suc (0 + length done) ≡ length done + 1 = omega arith in
-    rounds-append 0 done (tasks ∷ []) ∙ ap (λ (ws : List ℕ). roundsWords 0 done ++ ws) (rw (e, append-nil (roundWords (length done + 1) tasks)) refl)
 
 -- the stops of two parts of the vehicles
 pub stops-parts : (front rest : List Round) → length (stopsOnAll (front ++ rest)) ≡ length (stopsOnAll front) + length (stopsOnAll rest)
@@ -51,33 +36,6 @@ module _ (rounds : List Round) (v : ℕ) (l : v < length rounds) where
 
   pub front-length : length (take v rounds) ≡ v
   front-length = length-take-le v rounds (omega arith)
-
-  -- the words of the plan, cut there
-  pub cut-words : roundsWords 0 rounds ≡ roundsWords 0 (take v rounds) ++ (roundWords (v + 1) here ++ roundsWords (v + 1) (drop (v + 1) rounds))
-  unfolding roundsWords
-  cut-words =
-      let e : suc (0 + v) ≡ v + 1 = omega arith in
-      ap (roundsWords 0) cut-whole ∙ rounds-append 0 (take v rounds) (here ∷ drop (v + 1) rounds)
-      ∙ ap (λ (n : ℕ). roundsWords 0 (take v rounds) ++ (roundWords (suc (0 + n)) here ++ roundsWords (suc (0 + n)) (drop (v + 1) rounds))) front-length
-      ∙ ap (λ (n : ℕ). roundsWords 0 (take v rounds) ++ (roundWords n here ++ roundsWords n (drop (v + 1) rounds))) e
-
-  -- the vehicle's words are a part of the plan
-  pub slice-words : (plan lefts : List ℕ) (from to : ℕ) → plan ≡ planWords rounds lefts → from ≡ length (roundsWords 0 (take v rounds))
-      → to ≡ length (roundsWords 0 (take (v + 1) rounds)) → take (to - from) (drop from plan) ≡ roundWords (v + 1) here
-  unfolding planWords
-  slice-words plan lefts from to p f t =
-      let front = roundsWords 0 (take v rounds) in
-      let mine = roundWords (v + 1) here in
-      let rest = roundsWords (v + 1) (drop (v + 1) rounds) in
-      let behind = map leftWord lefts in
-      let whole : plan ≡ front ++ (mine ++ (rest ++ behind)) =
-      p ∙ ap (λ (ws : List ℕ). ws ++ behind) cut-words ∙ append-assoc front (mine ++ rest) behind ∙ ap (λ (ws : List ℕ). front ++ ws) (append-assoc mine rest behind) in
-      let long : to ≡ length front + length mine =
-      t ∙ ap (λ (xs : List Round). length (roundsWords 0 xs)) front-more ∙ ap length (rounds-more (take v rounds) here)
-      ∙ length-append front (roundWords (length (take v rounds) + 1) here) ∙ ap (λ (n : ℕ). length front + length (roundWords (n + 1) here)) front-length in
-      let size : to - from ≡ length mine = omega (arith, long, f) in
-      ap (λ (ws : List ℕ). take (to - from) (drop from ws)) whole ∙ ap (take (to - from)) (drop-at front (mine ++ (rest ++ behind)) from (sym f))
-      ∙ take-at mine (rest ++ behind) (to - from) (sym size)
 
 -- what a trial makes of two parts of the vehicles
 unfoldable pub appended : Option (List Round) → Option (List Round) → Option (List Round)

@@ -9,18 +9,21 @@ use native.Mathlib.Omega.{arith}
 use lib.Dec.{ltb, eqb}
 use lib.ListN.{length, getD}
 use borrow.Author.Tests.{le-ltb, eq-eqb, ltb-false}
+use Rattle.rules.specs.Fields.{IsAccepted}
 use Rattle.rules.specs.Plan.{Round}
 use Rattle.rules.specs.Lawful.{distanceFrom}
 use Rattle.rules.specs.Build.{greedyLefts}
 use Rattle.rules.specs.Edits.{Trial, touches, changed}
 use Rattle.rules.specs.WalkedAgain.{walkedAgain}
 use Rattle.rules.specs.Attempts.{retried, tried, distanceOf, keptIf, attempt}
+use Rattle.day.proofs.Ranges.{accepted-ranges}
 use Rattle.laws.proofs.Decided.{known}
 use Rattle.walks.specs.Rewalks.{AgainAs}
 use Rattle.walks.specs.declared.vehicle.Walked.{Walked}
 use Rattle.trial_list.specs.Shapes.{Valid, moved-before, moved-after, swapped, removed, replaced}
-use Rattle.attempts.specs.Tries.{SomeTouched, Retries, Measured, SomeMeasured}
+use Rattle.attempts.specs.Tries.{Numbers, SomeTouched, Retries, Measured, SomeMeasured, SomeMade}
 use Rattle.attempts.proofs.Gains.{gain, tried-at, driven-one, driven-pair, tried-length}
+use Rattle.attempts.proofs.NextRounds.{few-vehicles, plan-short, vehicle-stands}
 use Rattle.attempts.proofs.RoundLists.{tried-fails}
 
 -- none is kept where the trial fails, or its plan is no shorter
@@ -39,13 +42,7 @@ pub attempt-failed : (day lefts : List ℕ) (rounds : List Round) (m : Trial) �
 unfolding attempt keptIf
 attempt-failed day lefts rounds m e = rw e refl
 
--- the numbers of the vehicles that a trial touches
-pub record Numbers (rounds : List Round) (m : Trial) : Type 0 where
-  pub firstOne : 1 ≤ m .one
-  pub lastOne : m .one ≤ length rounds
-  pub firstOther : 1 ≤ m .other
-  pub lastOther : m .other ≤ length rounds
-
+-- the numbers of the vehicles that a trial touches, and that they are touched
 pub valid-numbers : (day : List ℕ) (rounds : List Round) (m : Trial) → Valid day rounds m → Numbers rounds m
 valid-numbers day rounds m (moved-before i j number n a b) = record { firstOne = a .first; lastOne = a .within; firstOther = a .first; lastOther = a .within }
 valid-numbers day rounds m (moved-after i j number n a b) = record { firstOne = a .first; lastOne = a .within; firstOther = a .first; lastOther = a .within }
@@ -80,100 +77,113 @@ module _ (day : List ℕ) (m : Trial) (rounds : List Round) (v : ℕ) {r : Walke
       let same : a .done ≡ getD q v [] = Option·some-injective _ _ (sym (a .is) ∙ sym again-is ∙ at) in
       a .drives ∙ ap (distanceFrom day 0) same
 
--- the trial fails on a vehicle, one vehicle drives no less, or two do
-module _ {day plan starts distances tracks : List ℕ} {m : Trial} {rounds : List Round} (h : Measured day plan starts distances tracks m rounds) where
-  pub none-failed : {v : ℕ} {r : Walked} → v < length rounds → touches m (v + 1) ≡ true
-      → AgainAs day (changed (m .edit) 0 (getD rounds v [])) r → r .stuck ≡ true → attempt day (greedyLefts day) rounds m ≡ none
-  none-failed l y w g = attempt-failed day (greedyLefts day) rounds m (retry-fails day m rounds _ l y w g)
+-- a vehicle of the plan that the trial touches, counted from 0
+record IsTouched (rounds : List Round) (m : Trial) (v : ℕ) : Type 0 where
+  pub inside : v < length rounds
+  pub touched : touches m (v + 1) ≡ true
 
-  pub none-one : {v : ℕ} {r : Walked} → v < length rounds → m .one ≡ v + 1 → m .other ≡ v + 1
-      → AgainAs day (changed (m .edit) 0 (getD rounds v [])) r → r .stuck ≡ false → getD distances v 0 ≤ r .distance
-      → attempt day (greedyLefts day) rounds m ≡ none
-  none-one {v} l a b w g d =
+module _ {rounds : List Round} {m : Trial} (n : Numbers rounds m) where
+  one-touched : IsTouched rounds m (m .one - 1)
+  one-touched = record { inside = omega (arith, n .firstOne, n .lastOne); touched = touches-one m (m .one - 1 + 1) (omega (arith, n .firstOne)) }
+
+  other-touched : IsTouched rounds m (m .other - 1)
+  other-touched = record { inside = omega (arith, n .firstOther, n .lastOther); touched = touches-other m (m .other - 1 + 1) (omega (arith, n .firstOther)) }
+
+-- as the code asks for it
+module _ {day plan starts distances tracks : List ℕ} {m : Trial} (ok : IsAccepted day) where
+  pub some-measured : {count distance : ℕ} → SomeMade day plan starts distances tracks m count distance → SomeMeasured day plan starts distances tracks m
+  some-measured s =
+      let t = s .made .measured .trying in
+      record {
+        rounds = s .rounds;
+        measured = s .made .measured;
+        numbers = valid-numbers day (s .rounds) m (t .valid);
+        few = omega (arith, few-vehicles t, accepted-ranges day ok .stopsMost);
+      }
+
+  some-touched : (s : SomeMeasured day plan starts distances tracks m) {v : ℕ} → IsTouched (s .rounds) m v → SomeTouched day plan starts tracks m v
+  some-touched s i =
+      let t = s .measured .trying in
+      record {
+        rounds = s .rounds;
+        trying = t;
+        tracked = s .measured .tracked;
+        inside = i .inside;
+        touched = i .touched;
+        vehicle = vehicle-stands t ok (i .inside);
+        short = omega (arith, plan-short t, accepted-ranges day ok .stopsMost);
+      }
+
+  pub some-one : SomeMeasured day plan starts distances tracks m → SomeTouched day plan starts tracks m (m .one - 1)
+  some-one s = some-touched s (one-touched (s .numbers))
+
+  pub some-other : SomeMeasured day plan starts distances tracks m → SomeTouched day plan starts tracks m (m .other - 1)
+  some-other s = some-touched s (other-touched (s .numbers))
+
+-- what the walks of the touched vehicles say of a plan held
+module _ {day plan starts distances tracks : List ℕ} {m : Trial} {rounds : List Round} (h : Measured day plan starts distances tracks m rounds) where
+  numbers : Numbers rounds m
+  numbers = valid-numbers day rounds m (h .trying .valid)
+
+  failed-at : {v : ℕ} {r : Walked} → IsTouched rounds m v → Retries day plan starts tracks m v r → r .stuck ≡ true → attempt day (greedyLefts day) rounds m ≡ none
+  failed-at i f g =
+      attempt-failed day (greedyLefts day) rounds m (retry-fails day m rounds _ (i .inside) (i .touched) (f rounds (h .trying) (h .tracked) (i .inside) (i .touched)) g)
+
+  drives-at : {v : ℕ} {r : Walked} → IsTouched rounds m v → Retries day plan starts tracks m v r → r .stuck ≡ false
+      → (q : List Round) → tried day rounds m ≡ some q → r .distance ≡ distanceFrom day 0 (getD q v [])
+  drives-at i f g = retry-drives day m rounds _ (i .inside) (i .touched) (f rounds (h .trying) (h .tracked) (i .inside) (i .touched)) g
+
+  -- the trial fails on one of them
+  pub one-failed : {r : Walked} → Retries day plan starts tracks m (m .one - 1) r → r .stuck ≡ true → attempt day (greedyLefts day) rounds m ≡ none
+  one-failed = failed-at (one-touched numbers)
+
+  pub other-failed : {r : Walked} → Retries day plan starts tracks m (m .other - 1) r → r .stuck ≡ true → attempt day (greedyLefts day) rounds m ≡ none
+  other-failed = failed-at (other-touched numbers)
+
+  -- one vehicle drives no less, or two do
+  pub one-longer : {r : Walked} → Retries day plan starts tracks m (m .one - 1) r → r .stuck ≡ false → m .one ≡ m .other
+      → ltb (r .distance) (getD distances (m .one - 1) 0) ≡ false → attempt day (greedyLefts day) rounds m ≡ none
+  one-longer {r} f g e d =
+      let v = m .one - 1 in
+      let i = one-touched numbers in
+      let a : m .one ≡ v + 1 = omega (arith, numbers .firstOne) in
+      let b : m .other ≡ v + 1 = sym e ∙ a in
       attempt-longer day (greedyLefts day) rounds m
-      (λ q e. omega (
+      (λ q s. omega (
         arith,
-        d,
-        h .driven v l,
-        retry-drives day m rounds v l (touches-one m (v + 1) (sym a)) w g q e,
-        gain day m 0 rounds q e,
-        driven-one day m rounds v l a b,
-        driven-one day m q v (omega (arith, tried-length day m 0 rounds q e)) a b,
+        ltb-false (r .distance) (getD distances v 0) d,
+        h .driven v (i .inside),
+        drives-at i f g q s,
+        gain day m 0 rounds q s,
+        driven-one day m rounds v (i .inside) a b,
+        driven-one day m q v (omega (arith, i .inside, tried-length day m 0 rounds q s)) a b,
       ))
 
-  pub none-two : {v u : ℕ} {r s : Walked} → v < length rounds → u < length rounds → m .one ≡ v + 1 → m .other ≡ u + 1 → (v ≡ u → ⊥)
-      → AgainAs day (changed (m .edit) 0 (getD rounds v [])) r → AgainAs day (changed (m .edit) 0 (getD rounds u [])) s
-      → r .stuck ≡ false → s .stuck ≡ false → getD distances v 0 + getD distances u 0 ≤ r .distance + s .distance
+  pub both-longer : {r s : Walked} → Retries day plan starts tracks m (m .one - 1) r → r .stuck ≡ false → (m .one ≡ m .other → ⊥)
+      → Retries day plan starts tracks m (m .other - 1) s → s .stuck ≡ false
+      → {a b x y : ℕ} → a ≡ r .distance → b ≡ s .distance → x ≡ getD distances (m .one - 1) 0 → y ≡ getD distances (m .other - 1) 0 → ltb (a + b) (x + y) ≡ false
       → attempt day (greedyLefts day) rounds m ≡ none
-  none-two {v} {u} l k a b n w x g f d =
+  both-longer f g e k n {a} {b} {x} {y} p q ex ey d =
+      let v = m .one - 1 in
+      let u = m .other - 1 in
+      let i = one-touched numbers in
+      let j = other-touched numbers in
+      let one : m .one ≡ v + 1 = omega (arith, numbers .firstOne) in
+      let other : m .other ≡ u + 1 = omega (arith, numbers .firstOther) in
+      let apart : v ≡ u → ⊥ = λ z. e (one ∙ ap (λ (w : ℕ). w + 1) z ∙ sym other) in
       attempt-longer day (greedyLefts day) rounds m
-      (λ q e. omega (
+      (λ w s. omega (
         arith,
-        d,
-        h .driven v l,
-        h .driven u k,
-        retry-drives day m rounds v l (touches-one m (v + 1) (sym a)) w g q e,
-        retry-drives day m rounds u k (touches-other m (u + 1) (sym b)) x f q e,
-        gain day m 0 rounds q e,
-        driven-pair day m rounds v u l k a b n,
-        driven-pair day m q v u (omega (arith, tried-length day m 0 rounds q e)) (omega (arith, tried-length day m 0 rounds q e)) a b n,
+        p,
+        q,
+        ex,
+        ey,
+        ltb-false (a + b) (x + y) d,
+        h .driven v (i .inside),
+        h .driven u (j .inside),
+        drives-at i f g w s,
+        drives-at j k n w s,
+        gain day m 0 rounds w s,
+        driven-pair day m rounds v u (i .inside) (j .inside) one other apart,
+        driven-pair day m w v u (omega (arith, i .inside, tried-length day m 0 rounds w s)) (omega (arith, j .inside, tried-length day m 0 rounds w s)) one other apart,
       ))
-
--- the vehicles that a trial touches, counted from 0
-pub record Vehicles (rounds : List Round) (m : Trial) : Type 0 where
-  pub insideOne : m .one - 1 < length rounds
-  pub insideOther : m .other - 1 < length rounds
-  pub oneIs : m .one ≡ m .one - 1 + 1
-  pub otherIs : m .other ≡ m .other - 1 + 1
-
-pub vehicles-of : {day plan starts distances tracks : List ℕ} {m : Trial} {rounds : List Round} → Measured day plan starts distances tracks m rounds → Vehicles rounds m
-vehicles-of {day} {m = m} {rounds = rounds} h =
-    let n = valid-numbers day rounds m (h .trying .valid) in
-    record {
-      insideOne = omega (arith, n .firstOne, n .lastOne);
-      insideOther = omega (arith, n .firstOther, n .lastOther);
-      oneIs = omega (arith, n .firstOne);
-      otherIs = omega (arith, n .firstOther);
-    }
-
-pub some-one : {day plan starts distances tracks : List ℕ} {m : Trial} → SomeMeasured day plan starts distances tracks m → SomeTouched day plan starts tracks m (m .one - 1)
-some-one {m = m} s =
-    let n = vehicles-of (s .measured) in
-    record { rounds = s .rounds; trying = s .measured .trying; tracked = s .measured .tracked; inside = n .insideOne; touched = touches-one m (m .one - 1 + 1) (sym (n .oneIs)) }
-
-pub some-other : {day plan starts distances tracks : List ℕ} {m : Trial} → SomeMeasured day plan starts distances tracks m → SomeTouched day plan starts tracks m (m .other - 1)
-some-other {m = m} s =
-    let n = vehicles-of (s .measured) in
-    record { rounds = s .rounds; trying = s .measured .trying; tracked = s .measured .tracked; inside = n .insideOther; touched = touches-other m (m .other - 1 + 1) (sym (n .otherIs)) }
-
--- what the two walks say of a plan held
-module _ {day plan starts distances tracks : List ℕ} {m : Trial} {rounds : List Round} (h : Measured day plan starts distances tracks m rounds) where
-  abbrev one : ℕ
-  one = m .one - 1
-
-  abbrev other : ℕ
-  other = m .other - 1
-
-  retried-one : {r : Walked} → Retries day plan starts tracks m one r → AgainAs day (changed (m .edit) 0 (getD rounds one [])) r
-  retried-one f = let n = vehicles-of h in f rounds (h .trying) (h .tracked) (n .insideOne) (touches-one m (one + 1) (sym (n .oneIs)))
-
-  retried-other : {r : Walked} → Retries day plan starts tracks m other r → AgainAs day (changed (m .edit) 0 (getD rounds other [])) r
-  retried-other f = let n = vehicles-of h in f rounds (h .trying) (h .tracked) (n .insideOther) (touches-other m (other + 1) (sym (n .otherIs)))
-
-  pub one-failed : {r : Walked} → Retries day plan starts tracks m one r → r .stuck ≡ true → attempt day (greedyLefts day) rounds m ≡ none
-  one-failed f g = let n = vehicles-of h in none-failed h (n .insideOne) (touches-one m (one + 1) (sym (n .oneIs))) (retried-one f) g
-
-  pub other-failed : {r : Walked} → Retries day plan starts tracks m other r → r .stuck ≡ true → attempt day (greedyLefts day) rounds m ≡ none
-  other-failed f g = let n = vehicles-of h in none-failed h (n .insideOther) (touches-other m (other + 1) (sym (n .otherIs))) (retried-other f) g
-
-  pub one-longer : {r : Walked} → Retries day plan starts tracks m one r → r .stuck ≡ false → m .one ≡ m .other
-      → ltb (r .distance) (getD distances one 0) ≡ false → attempt day (greedyLefts day) rounds m ≡ none
-  one-longer f g e d = let n = vehicles-of h in none-one h (n .insideOne) (n .oneIs) (sym e ∙ n .oneIs) (retried-one f) g (ltb-false _ _ d)
-
-  pub both-longer : {r s : Walked} → Retries day plan starts tracks m one r → r .stuck ≡ false → (m .one ≡ m .other → ⊥)
-      → Retries day plan starts tracks m other s → s .stuck ≡ false
-      → {a b x y : ℕ} → a ≡ r .distance → b ≡ s .distance → x ≡ getD distances one 0 → y ≡ getD distances other 0 → ltb (a + b) (x + y) ≡ false
-      → attempt day (greedyLefts day) rounds m ≡ none
-  both-longer f g e k i {a} {b} {x} {y} p q u v d =
-      let n = vehicles-of h in
-      none-two h (n .insideOne) (n .insideOther) (n .oneIs) (n .otherIs) (λ q. e (n .oneIs ∙ ap (λ (x : ℕ). x + 1) q ∙ sym (n .otherIs))) (retried-one f) (retried-other k) g i (omega (arith, p, q, u, v, ltb-false (a + b) (x + y) d))

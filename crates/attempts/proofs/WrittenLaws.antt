@@ -23,9 +23,10 @@ use Rattle.greedy_laws.proofs.GreedyRoom.{rounds-words, plan-length}
 use Rattle.walks.specs.declared.vehicle.Walked.{Walked}
 use Rattle.walks.proofs.EditLaws.{renamed}
 use Rattle.trial_list.specs.Shapes.{EachFrom}
+use Rattle.trial_list.proofs.LaidLaws.{rounds-more}
 use Rattle.trial_list.proofs.Shapes.{each-front}
 use Rattle.attempts.specs.Candidates.{RoundDone, RoundAs, Trying, Written, RoundsAs, CandidateAs}
-use Rattle.attempts.proofs.RoundLists.{front-length, rounds-more, stops-parts, tried-more, tried-fails}
+use Rattle.attempts.proofs.RoundLists.{front-length, stops-parts, tried-more, tried-fails}
 use Rattle.attempts.proofs.ShapeKept.{Suited, valid-suits, AllRemade, tried-remade}
 
 pub below : {v count n : ℕ} → v < count → count ≡ n → v < n
@@ -115,19 +116,19 @@ module _ {day plan starts : List ℕ} {m : Trial} {rounds : List Round} {p part 
 -- the stops left out stand behind the vehicles
 module _ {day plan starts : List ℕ} {m : Trial} {rounds : List Round} {count : ℕ} (t : Trying day plan starts m rounds) (counted : count ≡ length rounds) where
   pub ends-at : getD starts count 0 ≡ length (roundsWords 0 rounds)
-  ends-at = t .starting count (omega (arith, counted)) ∙ ap (λ (xs : List Round). length (roundsWords 0 xs)) (take-all count rounds (omega (arith, counted)))
+  ends-at = t .laid .starting .at count (omega (arith, counted)) ∙ ap (λ (xs : List Round). length (roundsWords 0 xs)) (take-all count rounds (omega (arith, counted)))
 
   pub ends-inside : getD starts count 0 ≤ length plan
-  ends-inside = omega (arith, ends-at, ap length (t .are), plan-length rounds (greedyLefts day))
+  ends-inside = omega (arith, ends-at, ap length (t .laid .text), plan-length rounds (greedyLefts day))
 
   pub lefts-are : take (length plan - getD starts count 0) (drop (getD starts count 0) plan) ≡ map leftWord (greedyLefts day)
   unfolding planWords
   lefts-are =
-      rest-whole plan (getD starts count 0) ∙ ap (drop (getD starts count 0)) (t .are)
+      rest-whole plan (getD starts count 0) ∙ ap (drop (getD starts count 0)) (t .laid .text)
       ∙ drop-at (roundsWords 0 rounds) (map leftWord (greedyLefts day)) (getD starts count 0) (sym ends-at)
 
   pub lefts-long : length plan - getD starts count 0 ≡ length (greedyLefts day)
-  lefts-long = omega (arith, ends-at, ap length (t .are), plan-length rounds (greedyLefts day))
+  lefts-long = omega (arith, ends-at, ap length (t .laid .text), plan-length rounds (greedyLefts day))
 
   pub lefts-room : {p part : List ℕ} {at : ℕ} → Written day m rounds p part count at → 5 * stops day ≤ length p
       → length (take (length plan - getD starts count 0) (drop (getD starts count 0) plan)) ≤ length (take (length part - at) (drop at part))

@@ -13,6 +13,7 @@ use Rattle.rules.specs.Attempts.{retried, triedFrom, tried}
 use Rattle.laws.specs.Buffer.{Wrote}
 use Rattle.walks.specs.declared.vehicle.Walked.{Walked}
 use Rattle.trial_list.specs.Shapes.{Shaped, Valid}
+use Rattle.trial_list.specs.Survey.{Laid, VehicleIn}
 
 -- these are the words of a vehicle, and there is room for them and for what they become
 pub record Roundable (day : List ℕ) (e : Edit) (touched : Bool) (number : ℕ) (words part : List ℕ) (tasks : Round) : Type 0 where
@@ -27,6 +28,7 @@ pub record Roundable (day : List ℕ) (e : Edit) (touched : Bool) (number : ℕ)
 pub record SomeRoundable (day : List ℕ) (e : Edit) (touched : Bool) (number : ℕ) (words part : List ℕ) : Type 0 where
   pub tasks : Round
   pub roundable : Roundable day e touched number words part tasks
+  pub ends : 2 ≤ length words
 
 -- a vehicle of the candidate: the trial has failed on it, or its words stand at the front of the part
 pub record RoundDone (number : ℕ) (o : Option Round) (p part : List ℕ) (r : Walked) : Type 0 where
@@ -43,20 +45,22 @@ pub record RoundAs (number : ℕ) (o : Option Round) (p part : List ℕ) (r : Wa
 pub record Trying (day plan starts : List ℕ) (m : Trial) (rounds : List Round) : Type 0 where
   pub shaped : Shaped day rounds
   pub valid : Valid day rounds m
-  pub are : plan ≡ planWords rounds (greedyLefts day)
-  pub starting : (v : ℕ) → v ≤ length rounds → getD starts v 0 ≡ length (roundsWords 0 (take v rounds))
-  pub table : length starts ≡ 256
+  pub laid : Laid plan starts rounds (greedyLefts day)
 
 pub record SomeTrying (day plan starts : List ℕ) (m : Trial) (count : ℕ) : Type 0 where
   pub rounds : List Round
   pub trying : Trying day plan starts m rounds
   pub counted : count ≡ length rounds
+  pub few : count ≤ 240
+  pub table : length starts ≡ 256
+  pub ends : getD starts count 0 ≤ length plan
 
 -- and there is room for what vehicle v becomes
 pub record SomeNext (day plan starts : List ℕ) (m : Trial) (v : ℕ) (part : List ℕ) : Type 0 where
   pub rounds : List Round
   pub trying : Trying day plan starts m rounds
   pub inside : v < length rounds
+  pub vehicle : VehicleIn plan starts v
   pub room : 5 * length (stopsOn (getD rounds v [])) ≤ length part
 
 -- so vehicle v is written, whatever vehicles have these words

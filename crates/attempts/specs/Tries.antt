@@ -14,9 +14,17 @@ use Rattle.rules.specs.Edits.{Trial, touches, changed}
 use Rattle.rules.specs.Attempts.{distanceOf, attempt}
 use Rattle.walks.specs.Rewalks.{AgainAs}
 use Rattle.walks.specs.declared.vehicle.Walked.{Walked}
+use Rattle.trial_list.specs.Survey.{VehicleIn}
 use Rattle.tracks.specs.Tables.{TrackedIn}
 use Rattle.attempts.specs.Candidates.{Trying}
 use Rattle.attempts.specs.declared.tries.Tried.{Tried}
+
+-- the numbers of the vehicles that a trial touches
+pub record Numbers (rounds : List Round) (m : Trial) : Type 0 where
+  pub firstOne : 1 ≤ m .one
+  pub lastOne : m .one ≤ length rounds
+  pub firstOther : 1 ≤ m .other
+  pub lastOther : m .other ≤ length rounds
 
 -- a vehicle of the plan held that the trial touches
 pub record SomeTouched (day plan starts tracks : List ℕ) (m : Trial) (v : ℕ) : Type 0 where
@@ -25,6 +33,8 @@ pub record SomeTouched (day plan starts tracks : List ℕ) (m : Trial) (v : ℕ)
   pub tracked : TrackedIn day rounds tracks
   pub inside : v < length rounds
   pub touched : touches m (v + 1) ≡ true
+  pub vehicle : VehicleIn plan starts v
+  pub short : length plan ≤ 1200
 
 -- so it is measured, whatever vehicles have these words
 abbrev pub Retries : List ℕ → List ℕ → List ℕ → List ℕ → Trial → ℕ → Walked → Type 0
@@ -42,6 +52,8 @@ pub record Measured (day plan starts distances tracks : List ℕ) (m : Trial) (r
 pub record SomeMeasured (day plan starts distances tracks : List ℕ) (m : Trial) : Type 0 where
   pub rounds : List Round
   pub measured : Measured day plan starts distances tracks m rounds
+  pub numbers : Numbers rounds m
+  pub few : length rounds ≤ 240
 
 -- how many vehicles it has, and how far they drive
 pub record Made (day plan starts distances tracks : List ℕ) (m : Trial) (count distance : ℕ) (rounds : List Round) : Type 0 where

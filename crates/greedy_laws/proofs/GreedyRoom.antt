@@ -12,12 +12,13 @@ use borrow.Author.Tests.{lt-ltb}
 use Rattle.rules.specs.Tests.{if_then_else_}
 use Rattle.rules.specs.Lists.{Every, total}
 use Rattle.rules.specs.Fields.{stops}
-use Rattle.rules.specs.PlanWords.{backWord, leftWord}
-use Rattle.rules.specs.Plan.{Task, serve, empty, lunch, Round, taskWord, roundWords, roundsWords, planWords, stopsOn, stopsOnAll}
+use Rattle.rules.specs.PlanWords.{leftWord}
+use Rattle.rules.specs.Plan.{Task, serve, empty, lunch, Round, roundWords, roundsWords, planWords, stopsOn, stopsOnAll}
 use Rattle.rules.specs.Lawful.{restsIn}
 use Rattle.rules.specs.Cargo.{cargoAfter}
 use Rattle.rules.specs.Home.{due}
 use Rattle.rules.specs.Build.{Truck, fresh, doing, oneVehicle, greedyRounds, greedyLefts, greedyPlan, resting}
+pub use Rattle.plan_laws.proofs.Theorems.{round-length}
 use Rattle.day.specs.Layout.{LayoutOf}
 use Rattle.day.specs.declared.fields.Layout.{Layout}
 use Rattle.greedy_laws.specs.Reached.{Reached}
@@ -117,10 +118,6 @@ module _ (day before : List ℕ) where
   vehicle-room = paid-room (oneVehicle day before) (vehicle-routes day before .visits) (vehicle-paid day before)
 
 -- the words of a vehicle
-pub round-length : (number : ℕ) (tasks : Round) → length (roundWords number tasks) ≡ length tasks + 2
-unfolding roundWords
-round-length number tasks = omega (arith, length-append (map taskWord tasks) (backWord ∷ []), length-map tasks taskWord)
-
 pub round-words : (number : ℕ) (tasks : Round) → Room tasks → length (roundWords number tasks) ≤ 3 + 2 * length (stopsOn tasks)
 round-words number tasks r = omega (arith, r .size, round-length number tasks)
 

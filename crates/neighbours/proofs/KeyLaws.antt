@@ -5,17 +5,16 @@ use mathlib.Core.Path.{_≡_, refl, sym, ap, _∙_}
 use mathlib.Core.Bool.{Bool, true, false}
 use mathlib.Core.List.{List}
 use mathlib.Core.Logic.{⊎-elim}
-use native.Mathlib.Decide.{ℕ-discrete}
 use native.Mathlib.Nat.{eq-or-lt-of-le}
 use native.Mathlib.Numerals.{add-one}
 use native.Mathlib.Omega.{arith}
 use lib.Dec.{ltb}
 use lib.ListN.{length, getD, set, length-set}
-use lib.Seq.{getD-set-same, getD-set-other}
 use borrow.Author.Tests.{eq-eqb, ne-eqb, le-leb, lt-leb, le-ltb, ltb-true, ltb-false}
 use Rattle.rules.specs.Tests.{if_then_else_}
 use Rattle.rules.specs.Fields.{stopPlace, service}
 use Rattle.rules.specs.Neighbours.{compatible, neighbourKey}
+use Rattle.laws.proofs.Lists.{entries-next}
 use Rattle.day.specs.Layout.{LayoutOf, WindowOf, LegOf}
 use Rattle.day.specs.declared.fields.Layout.{Layout}
 use Rattle.day.specs.declared.fields.Leg.{Leg}
@@ -50,11 +49,9 @@ pub keys-none : (day : List ℕ) (i : ℕ) (keys : List ℕ) → length keys ≡
 keys-none day i keys h = record { size = h; each = λ j p l. absurd (omega arith) }
 
 pub keys-next : (day : List ℕ) (i n : ℕ) (keys : List ℕ) (x : ℕ) → KeysTo day i n keys → n < 240 → x ≡ keyOrNone day i (n + 1) → KeysTo day i (n + 1) (set keys (n + 1) x)
-keys-next day i n keys x k few e = record { size = length-set keys (n + 1) x ∙ k .size; each = λ j p l. go j p l (ℕ-discrete j (n + 1)) }
-  where
-    go : (j : ℕ) → 0 < j → j ≤ n + 1 → Dec (j ≡ n + 1) → getD (set keys (n + 1) x) j 0 ≡ keyOrNone day i j
-    go j p l (yes q) = rw q (getD-set-same keys (n + 1) x 0 (omega (arith, k .size)) ∙ e)
-    go j p l (no q) = getD-set-other keys (n + 1) j x 0 q ∙ k .each j p (omega arith)
+keys-next day i n keys x k few e =
+    let next = entries-next (λ j y. 0 < j → y ≡ keyOrNone day i j) keys (n + 1) x (omega (arith, k .size)) (λ _. e) (λ j l p. k .each j p (omega arith)) in
+    record { size = length-set keys (n + 1) x ∙ k .size; each = λ j p l. next j (omega arith) p }
 
 pub keys-all : (day : List ℕ) (layout : Layout) (i n : ℕ) (keys : List ℕ) → KeysTo day i n keys → n ≤ layout .stops → layout .stops ≤ n → KeysTo day i (layout .stops) keys
 keys-all day layout i n keys k a b = let e : layout .stops ≡ n = omega arith in rw e k

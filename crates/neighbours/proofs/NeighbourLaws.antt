@@ -28,19 +28,13 @@ module _ (day : List ℕ) (i : ℕ) where
     pub next-within : nextNeighbour day i last ≤ stops day
     next-within = next-least .within
 
-    pub next-suited : 0 < nextNeighbour day i last → compatible day i (nextNeighbour day i last) ≡ true
+    pub behind-both : (j : ℕ) → behind day i last j ≡ true → (compatible day i j ≡ true) × (last < neighbourKey day i j)
     unfolding behind
-    next-suited l =
-        let j = nextNeighbour day i last in
-        both-true (compatible day i j) (ltb last (neighbourKey day i j)) (next-least .passes l) .0
+    behind-both j e =
+        let b = both-true (compatible day i j) (ltb last (neighbourKey day i j)) e in
+        (b .0, ltb-true last (neighbourKey day i j) (b .1))
 
-    pub next-behind : 0 < nextNeighbour day i last → last < neighbourKey day i (nextNeighbour day i last)
-    unfolding behind
-    next-behind l =
-        let j = nextNeighbour day i last in
-        ltb-true _ _ (both-true (compatible day i j) (ltb last (neighbourKey day i j)) (next-least .passes l) .1)
-
-    is-behind : (j : ℕ) → compatible day i j ≡ true → last < neighbourKey day i j → behind day i last j ≡ true
+    pub is-behind : (j : ℕ) → compatible day i j ≡ true → last < neighbourKey day i j → behind day i last j ≡ true
     unfolding behind
     is-behind j c l = rw (c, lt-ltb last (neighbourKey day i j) l)
 
@@ -90,8 +84,8 @@ module _ (day : List ℕ) (i : ℕ) where
       record {
         few = omega (arith, h .few);
         known = ((l, next-within last), h .known);
-        suited = (next-suited last l, h .suited);
-        inOrder = (next-behind last l, h .inOrder);
+        suited = (behind-both last next (next-least last .passes l) .0, h .suited);
+        inOrder = (behind-both last next (next-least last .passes l) .1, h .inOrder);
         nearest = λ j a b c g. elim (eq-or-lt-of-le (next-least last .minimal l j a b (is-behind last j c g))) [
           | inl e ↦ inl (List·Memᴰ·head (sym (key-stop next j (next-within last) b e)))
           | inr s ↦ elim (h .nearest j a b c s) [ inl m ↦ inl (List·Memᴰ·tail m) | inr p ↦ inr (ap suc (p .0), (s, p .1)) ]

@@ -9,20 +9,20 @@ use native.Mathlib.Decide.{ℕ-discrete}
 use native.Mathlib.Nat.{eq-or-lt-of-le}
 use native.Mathlib.Omega.{arith}
 use native.Mathlib.Numerals.{add-one}
-use lib.Dec.{eqb, ltb}
+use lib.Dec.{eqb}
 use lib.ListN.{length, getD, set, length-set}
 use lib.Seq.{getD-set-same, getD-set-other}
-use borrow.Author.Tests.{eq-eqb, ne-eqb, eqb-true, eqb-false, lt-ltb, ltb-true}
+use borrow.Author.Tests.{eq-eqb, ne-eqb, eqb-true, eqb-false}
 use Rattle.rules.specs.Tests.{if_then_else_}
 use Rattle.laws.specs.Least.{IsLeast}
 use Rattle.rules.specs.Fields.{stops}
 use Rattle.rules.specs.Neighbours.{compatible, neighbourKey, behind, nextNeighbour, neighboursAfter, neighbours}
 use Rattle.laws.proofs.Least.{least-is, least-only}
-use Rattle.laws.proofs.Tests.{both-true}
 use Rattle.day.specs.Layout.{LayoutOf}
 use Rattle.day.specs.declared.fields.Layout.{Layout}
 use Rattle.neighbours.specs.Tables.{TableOf, RowsTo, RowOf, noKey, keyOrNone, KeysTo, leastAbove, keyAfter, stopOfKey, RowBy}
 use Rattle.neighbours.proofs.KeyLaws.{IsAbove, above-is}
+use Rattle.neighbours.proofs.NeighbourLaws.{behind-both, is-behind}
 
 -- every key is less than what stands for none, and shows its stop
 key-below : (day : List ℕ) (i j : ℕ) → j < 256 → neighbourKey day i j < noKey
@@ -49,16 +49,6 @@ key-compatible day i j h = go (compatible day i j) h
     go : (b : Bool) → (if b then neighbourKey day i j else noKey) < noKey → b ≡ true
     go true h = refl
     go false h = absurd (omega arith)
-
-behind-both : (day : List ℕ) (i last j : ℕ) → behind day i last j ≡ true → (compatible day i j ≡ true) × (last < neighbourKey day i j)
-unfolding behind
-behind-both day i last j e =
-    let b = both-true (compatible day i j) (ltb last (neighbourKey day i j)) e in
-    (b .0, ltb-true last (neighbourKey day i j) (b .1))
-
-behind-is : (day : List ℕ) (i last j : ℕ) → compatible day i j ≡ true → last < neighbourKey day i j → behind day i last j ≡ true
-unfolding behind
-behind-is day i last j e h = rw (e, lt-ltb last (neighbourKey day i j) h) refl
 
 known-test : (b : Bool) → (b ≡ true → ⊥) → b ≡ false
 known-test true n = absurd (n refl)
@@ -102,7 +92,7 @@ module _ (day : List ℕ) (i : ℕ) (keys : List ℕ) (few : stops day ≤ 240) 
     found-behind = record {
       within = h .within l;
       none = λ z. absurd (omega (arith, h .positive l));
-      passes = λ _. behind-is day i last (h .stop) found-compatible (omega (arith, h .above l, found-key));
+      passes = λ _. is-behind day i last (h .stop) found-compatible (omega (arith, h .above l, found-key));
       minimal = λ _ j p g t. least-of j p g t;
       lowest = λ _ j p g t. keys-apart day i (h .stop) j (omega (arith, h .within l)) g (least-of j p (omega (arith, h .within l)) t);
     }

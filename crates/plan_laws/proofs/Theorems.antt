@@ -11,5 +11,5 @@ pub use Rattle.plan_laws.proofs.Loads.{not-over}
 -- a plan's stops are the day's, and it has no more vehicles than stops
 pub use Rattle.plan_laws.proofs.PlanChecks.{known-all, busy-rounds}
 -- the words of a vehicle, how many they are, and what they say
-pub use Rattle.plan_laws.proofs.VehicleRounds.{round-length, rounds-append}
+pub use Rattle.plan_laws.proofs.VehicleRounds.{round-length, rounds-append, around}
 pub use Rattle.plan_laws.proofs.RoundChecks.{task-form}

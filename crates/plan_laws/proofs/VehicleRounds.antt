@@ -101,7 +101,7 @@ place-here day number tasks others i n h =
     rw (vehicle-form number n, eq-eqb number number refl) (ap (λ (m : ℕ). given (i ∷ m ∷ [])) (round-to-back day number tasks others n h))
 
 -- the words of a plan around one vehicle
-around : (before behind : List Round) (tasks : Round) (lefts : List ℕ)
+pub around : (before behind : List Round) (tasks : Round) (lefts : List ℕ)
     → planWords (before ++ (tasks ∷ behind)) lefts
     ≡ roundsWords 0 before ++ (roundWords (suc (length before)) tasks ++ (roundsWords (suc (length before)) behind ++ map leftWord lefts))
 unfolding planWords roundsWords

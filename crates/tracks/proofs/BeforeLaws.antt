@@ -20,8 +20,9 @@ use Rattle.greedy_laws.proofs.VehicleStops.{stops-append}
 use Rattle.walks.specs.Cabs.{Start, atDepot, Stands, failed, onRoad}
 use Rattle.walks.specs.Rewalks.{Means, aStop, aTip, SomeWord, WalksWord}
 use Rattle.walks.specs.declared.cabs.Cab.{Cab}
-use Rattle.walks.proofs.CabLaws.{standing-trip}
-use Rattle.walks.proofs.MidwayLaws.{every-at, get-map, fresh-stands}
+use Rattle.laws.proofs.Lists.{every-at, get-map}
+use Rattle.walks.proofs.CabLaws.{riding-trip}
+use Rattle.walks.proofs.MidwayLaws.{fresh-stands}
 use Rattle.walks.proofs.RewalkLaws.{stands-fewer, walk-append}
 use Rattle.walks.proofs.WalkLaws.{stands-goes}
 use Rattle.tracks.specs.Before.{cabAt, RowHolds, Rides, halted, rides, truckBefore, BeforeTo, BeforeOf, RowsKept, Walks, TaskAhead, WalksTask}
@@ -64,7 +65,7 @@ task-walked {day} {part} {now} {c} {r} z h start most more p o task e n s =
 -- the place of a vehicle that goes on is small
 pub place-small : {day : List ℕ} {start : Start} {most more : ℕ} {p part : List ℕ} {o : Option Truck} {c : Cab} → Stands day start most more p part o c
     → c .stuck ≡ false → c .trip .place < 4294967296
-place-small {o = o} s g = let t = standing-trip (stands-goes o s g .standing) in omega (arith, t .place)
+place-small {o = o} s g = let t = riding-trip (stands-goes o s g .standing .riding) in omega (arith, t .place)
 
 -- the row of a vehicle
 row-rides : {day before part p : List ℕ} {start : Start} {most more at : ℕ} {o : Option Truck} {c : Cab} → Stands day start most more p part o c → RowHolds before at c
@@ -73,16 +74,7 @@ row-rides {before = before} {at = at} (failed c g z) h = halted (cabAt before at
 row-rides {before = before} {at = at} (onRoad v c s) h =
     let r = s .riding in
     rides v (cabAt before at)
-    (record {
-      going = h .stuck ∙ r .going;
-      tripIs = h .trip (r .going) ∙ r .tripIs;
-      loadIs = h .load (r .going) ∙ r .loadIs;
-      modest = r .modest;
-      paid = r .paid;
-      served = r .served;
-      few = r .few;
-      limit = r .limit;
-    })
+    (record { going = h .stuck ∙ r .going; tripIs = h .trip (r .going) ∙ r .tripIs; loadIs = h .load (r .going) ∙ r .loadIs; able = r .able; few = r .few; limit = r .limit })
 
 -- a vehicle that leaves is at the depot
 pub leaving-place : (day : List ℕ) {t : Trip} → t ≡ leaving day → t .place < 4294967296

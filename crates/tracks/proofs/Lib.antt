@@ -1,11 +1,9 @@
 pub mod BeforeLaws
-pub mod CabRows
 pub mod FillLaws
 pub mod FirstLaws
 pub mod MeasureLaws
 pub mod OnwardLaws
 pub mod PartLaws
-pub mod PlacedLaws
 pub mod RowLaws
 pub mod SpanLaws
 pub mod TableLaws

@@ -214,9 +214,7 @@ module _ {day : List ℕ} {e : Edit} {words p before behind : List ℕ} {from fi
               going = g;
               tripIs = ap (λ (x : Cab). x .trip) k ∙ r .tripIs;
               loadIs = ap (λ (x : Cab). x .load) k ∙ r .loadIs;
-              modest = r .modest;
-              paid = r .paid;
-              served = r .served;
+              able = r .able;
               few = omega (arith, r .few, stops-parts, stops-whole, h .same);
               limit = h .cuttable .walkable .few;
             };

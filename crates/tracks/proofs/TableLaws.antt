@@ -1,48 +1,38 @@
 -- The tables of all vehicles of a plan, in one buffer: the tables that come back, and the rows of one vehicle more.
 -- Assumes nothing.
-use Prim.Native.Nat.{ℕ, suc, _+_, _-_, _≤_, _<_}
+use Prim.Native.Nat.{ℕ, _+_, _-_, _≤_, _<_}
 use mathlib.Core.Path.{_≡_, refl, sym, ap, _∙_, subst}
 use mathlib.Core.List.{List, []}
 use mathlib.Core.Logic.{inl}
 use native.Mathlib.Decide.{ℕ-discrete}
 use native.Mathlib.Omega.{arith}
 use lib.ListN.{length, length-map, getD, take, drop}
-use lib.Seq.{take-take}
 use borrow.Rule.Slice.PartMut.{putMid, mid-len, same-len-mid}
 use Rattle.rules.specs.Lists.{Every}
-use Rattle.rules.specs.Plan.{Round, taskWord, roundsWords, Known}
-use Rattle.walks.proofs.MidwayLaws.{every-at}
-use Rattle.trial_list.proofs.TaskPlaces.{starts-next, starts-within}
+use Rattle.rules.specs.Plan.{Round, taskWord, Known}
+use Rattle.laws.proofs.Lists.{every-at}
+use Rattle.trial_list.specs.Survey.{Laid}
+use Rattle.trial_list.proofs.LaidLaws.{behind, starts-rise, start-next, tasks-text, vehicle-in, vehicle-inside, words-are}
 use Rattle.tracks.specs.Before.{Walks, BeforeOf, FilledBefore}
 use Rattle.tracks.specs.Behind.{BehindOf, RoundTo, SomeRoundTo, FillsBehind}
 use Rattle.tracks.specs.Tables.{firstTask, beforeIn, behindIn, spotsIn, Trackable, SomeTrackable, TracksIn, SomeVehicle, TracksOne, TracksVehicle}
 use Rattle.tracks.proofs.PartLaws.{part-put, part-before, part-behind}
-use Rattle.tracks.proofs.PlacedLaws.{Laid, first-is, start-next, vehicle-words, vehicle-inside, words-are}
 
--- a vehicle stands behind those in front of it
-vehicle-behind : (rounds : List Round) (u v : ℕ) → u < v → v ≤ length rounds → firstTask rounds u + length (getD rounds u []) < firstTask rounds v
-vehicle-behind rounds u v h l =
-    omega (
-      arith,
-      starts-next 0 rounds u (omega arith),
-      starts-within 0 (take v rounds) (suc u),
-      ap (λ (xs : List Round). length (roundsWords 0 xs)) (take-take (suc u) v rounds (omega arith)),
-    )
+-- the first task of vehicle v, counted from 0, stands behind its A word
+pub first-is : {plan starts : List ℕ} {rounds : List Round} {lefts : List ℕ} → Laid plan starts rounds lefts → {v : ℕ} → v < length rounds
+    → getD starts v 0 + 1 ≡ firstTask rounds v
+first-is h {v} l = ap (λ (n : ℕ). n + 1) (h .starting .at v (omega arith))
 
--- the plan's vehicles, and where they start
-pub trackable-laid : {day plan starts : List ℕ} {room : ℕ} {rounds : List Round} {lefts : List ℕ} → Trackable day plan starts room rounds lefts → Laid plan starts rounds lefts
-trackable-laid t = record { text = t .text; starting = t .starting }
-
--- vehicle v, counted from 0
+-- the vehicle itself
 module _ {day plan starts : List ℕ} {room : ℕ} {rounds : List Round} {lefts : List ℕ} (t : Trackable day plan starts room rounds lefts) {v : ℕ} (l : v < length rounds) where
-  laid : Laid plan starts rounds lefts
-  laid = trackable-laid t
+  abbrev laid : Laid plan starts rounds lefts
+  laid = t .laid
 
   -- where its tasks stand in the plan, from the one behind its A word to its E word
-  placed : RoundTo day plan (getD starts v 0 + 1) (getD starts (v + 1) 0 - 1) (getD rounds v []) (vehicle-words laid l .rest)
+  placed : RoundTo day plan (getD starts v 0 + 1) (getD starts (v + 1) 0 - 1) (getD rounds v []) (behind laid l)
   placed =
       record {
-        roundAt = record { text = vehicle-words laid l .text; known = every-at (Every (Known day)) rounds v [] (t .known) l };
+        roundAt = record { text = tasks-text laid l; known = every-at (Every (Known day)) rounds v [] (t .known) l };
         ends = omega (arith, start-next laid l);
       }
 
@@ -162,14 +152,14 @@ tracking-next day rounds v before walks behind onwards l t o = record { walked =
     walked u h (yes e) = subst (λ (n : ℕ). BeforeOf day walks (firstTask rounds n) (getD rounds n [])) (sym e) (o .walked)
     walked u h (no e) = λ i m.
         let within : u < v = omega (arith, e) in
-        rw (o .walkedKept (firstTask rounds u + i) (omega (arith, vehicle-behind rounds u v within (omega arith)))) (t .walked u within i m)
+        rw (o .walkedKept (firstTask rounds u + i) (omega (arith, starts-rise rounds u v within (omega arith)))) (t .walked u within i m)
 
     onward : (u : ℕ) → u < v + 1 → Dec (u ≡ v) → BehindOf day onwards (firstTask rounds u) (getD rounds u [])
     onward u h (yes e) = subst (λ (n : ℕ). BehindOf day onwards (firstTask rounds n) (getD rounds n [])) (sym e) (o .onward)
     onward u h (no e) =
         let within : u < v = omega (arith, e) in
         record {
-          row = λ i m. o .onwardKept (firstTask rounds u + i) (omega (arith, vehicle-behind rounds u v within (omega arith))) ∙ t .onward u within .row i m;
+          row = λ i m. o .onwardKept (firstTask rounds u + i) (omega (arith, starts-rise rounds u v within (omega arith))) ∙ t .onward u within .row i m;
         }
 
 -- so it is for whatever vehicles the plan has
@@ -199,6 +189,8 @@ module _ {day plan starts : List ℕ} {room count v : ℕ} {tracks work : List �
         lefts = some .lefts;
         trackable = subst (λ (n : ℕ). Trackable day plan starts n (some .rounds) (some .lefts)) (sym (s .workSize)) (some .trackable);
         inside = omega (arith, some .counted);
+        vehicle = vehicle-in (some .trackable .laid) (omega (arith, some .counted)) (some .trackable .few);
+        short = some .trackable .short;
       }
 
   -- one vehicle more

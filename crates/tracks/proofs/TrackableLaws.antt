@@ -9,7 +9,7 @@ use Rattle.rules.specs.Fields.{stops, IsAccepted}
 use Rattle.rules.specs.Plan.{Round, planWords, stopsOn, stopsOnAll}
 use Rattle.rules.specs.Build.{greedyLefts}
 use Rattle.day.proofs.Ranges.{accepted-ranges}
-use Rattle.walks.proofs.MidwayLaws.{every-at}
+use Rattle.laws.proofs.Lists.{every-at}
 use Rattle.trial_list.specs.Shapes.{Shaped}
 use Rattle.trial_list.specs.Survey.{Surveyed}
 use Rattle.trial_list.proofs.Shapes.{shaped-few, shaped-length, shaped-stops}
@@ -29,10 +29,8 @@ module _ {day plan starts vehicles distances : List ℕ} {count room : ℕ} {rou
   shaped-trackable =
       let most = accepted-ranges day accepted .stopsMost in
       record {
-        text = text;
+        laid = record { text = text; starting = surveyed .starting };
         known = shaped .known;
-        starting = surveyed .starting;
-        startsSize = surveyed .startsSize;
         few = omega (arith, shaped-few day rounds shaped, most);
         short = omega (arith, ap length text, shaped-length day rounds shaped, most);
         fits = λ v l.

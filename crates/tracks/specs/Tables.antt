@@ -4,7 +4,8 @@ use mathlib.Core.Path.{_≡_}
 use mathlib.Core.List.{List, []}
 use lib.ListN.{length, getD, take, drop}
 use Rattle.rules.specs.Lists.{Every}
-use Rattle.rules.specs.Plan.{Round, roundsWords, planWords, stopsOn, Known}
+use Rattle.rules.specs.Plan.{Round, roundsWords, stopsOn, Known}
+use Rattle.trial_list.specs.Survey.{Laid, VehicleIn}
 use Rattle.tracks.specs.Before.{BeforeOf, RowsKept}
 use Rattle.tracks.specs.Behind.{BehindOf, rowAt}
 
@@ -42,12 +43,10 @@ pub record Fits (room : ℕ) (tasks : Round) : Type 0 where
   pub few : length (stopsOn tasks) ≤ 240
   pub words : 3 + 2 * length (stopsOn tasks) ≤ room
 
--- the plan has these vehicles and leaves these stops out, its starts are known, and each vehicle has room
+-- these are the plan's vehicles, it is known where they start, and each has room
 pub record Trackable (day plan starts : List ℕ) (room : ℕ) (rounds : List Round) (lefts : List ℕ) : Type 0 where
-  pub text : plan ≡ planWords rounds lefts
+  pub laid : Laid plan starts rounds lefts
   pub known : Every (Every (Known day)) rounds
-  pub starting : (v : ℕ) → v ≤ length rounds → getD starts v 0 ≡ length (roundsWords 0 (take v rounds))
-  pub startsSize : length starts ≡ 256
   pub few : length rounds ≤ 240
   pub short : length plan ≤ 1200
   pub fits : (v : ℕ) → v < length rounds → Fits room (getD rounds v [])
@@ -70,6 +69,8 @@ pub record SomeVehicle (day plan starts : List ℕ) (room v : ℕ) : Type 0 wher
   pub lefts : List ℕ
   pub trackable : Trackable day plan starts room rounds lefts
   pub inside : v < length rounds
+  pub vehicle : VehicleIn plan starts v
+  pub short : length plan ≤ 1200
 
 -- the rows of vehicle v are filled, and those of the vehicles in front of it are as they were
 pub record TracksOne (day : List ℕ) (rounds : List Round) (v : ℕ) (before walks behind onwards : List ℕ) : Type 0 where

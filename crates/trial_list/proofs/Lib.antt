@@ -1,3 +1,4 @@
+pub mod LaidLaws
 pub mod ListLength
 pub mod ListRests
 pub mod Listed
@@ -5,5 +6,4 @@ pub mod PairRests
 pub mod RideLaws
 pub mod Shapes
 pub mod SurveyLaws
-pub mod TaskPlaces
 pub mod TipRests

@@ -6,21 +6,18 @@ use mathlib.Core.Path.{_≡_, refl, sym, ap, _∙_}
 use mathlib.Core.Bool.{true, false, true≢false}
 use mathlib.Core.List.{List, [], _∷_, _++_}
 use native.Mathlib.Omega.{arith}
-use lib.ListN.{length-append}
 use Rattle.rules.specs.Lists.{Every}
 use Rattle.rules.specs.Fields.{stops, tips, IsAccepted}
-use Rattle.rules.specs.Plan.{Round, roundWords, roundsWords, planWords, Known}
+use Rattle.rules.specs.Plan.{Round, planWords, Known}
 use Rattle.rules.specs.Edits.{Trial}
 use Rattle.rules.specs.TrialList.{stopTrials, trialList}
 use Rattle.day.specs.Layout.{LayoutOf}
 use Rattle.day.specs.declared.fields.Layout.{Layout}
 use Rattle.day.proofs.Ranges.{accepted-ranges}
 use Rattle.neighbours.specs.Tables.{TableOf}
-use Rattle.greedy_laws.proofs.GreedyRoom.{round-length}
-use Rattle.walks.specs.Rewalks.{editOf, EditKnown, EditSmall}
+use Rattle.walks.specs.Rewalks.{Named, EditKnown, EditSmall}
 use Rattle.walks.specs.declared.edits.Edit as Code
 use Rattle.walks.specs.declared.edits.Edit.the-variants as Edits
-use Rattle.walks.proofs.EditLaws.{Named}
 use Rattle.trial_list.specs.Listing.{PairsOf, PairAnswer, TipsOf, TipAnswer, PlanTables, CursorFits, ListAnswer}
 use Rattle.trial_list.specs.Survey.{Surveyed}
 use Rattle.trial_list.specs.TrialRest.{listedTrial, pairRest, tipRest, restOf, listStart}
@@ -29,6 +26,7 @@ use Rattle.trial_list.specs.declared.listing.Listed.{Listed}
 use Rattle.trial_list.specs.declared.listing.PairListed.{PairListed}
 use Rattle.trial_list.specs.declared.listing.TipListed.{TipListed}
 use Rattle.trial_list.specs.declared.listing.Trial as Made
+use Rattle.trial_list.proofs.LaidLaws.{start-next}
 use Rattle.trial_list.proofs.Listed.{listed-all}
 use Rattle.trial_list.proofs.PairRests.{all-stops}
 use Rattle.trial_list.specs.Shapes.{Shaped, Valid, moved-before, moved-after, swapped, removed, replaced}
@@ -44,12 +42,10 @@ whole-list day K rounds =
 
 -- the list can begin with any plan
 pub start-fits : {day starts vehicles distances : List ℕ} {count : ℕ} (rounds : List Round) → Surveyed day rounds starts vehicles distances count → CursorFits starts count listStart
-unfolding roundsWords
-start-fits [] v = record { first = omega arith; tipFits = λ l. absurd (omega (arith, v .counted)) }
-start-fits (tasks ∷ rounds) v =
+start-fits rounds v =
     record {
       first = omega arith;
-      tipFits = λ l. omega (arith, v .starting 0 (omega arith), v .starting (0 + 1) (omega arith), round-length 1 tasks, length-append (roundWords 1 tasks) []);
+      tipFits = λ l. omega (arith, start-next {lefts = []} (record { text = refl; starting = v .starting }) {v = 0} (omega (arith, v .counted)));
     }
 
 module _ (layout : Layout) (K : ℕ) (table starts vehicles plan : List ℕ) (count : ℕ) where
@@ -98,9 +94,7 @@ module _ (layout : Layout) (K : ℕ) (table starts vehicles plan : List ℕ) (co
         known = s .known;
         few = omega (arith, s .surveyed .counted, s .few);
         counted = s .surveyed .counted;
-        starting = s .surveyed .starting;
-        size = s .surveyed .startsSize;
-        text = s .text;
+        laid = record { text = s .text; starting = s .surveyed .starting };
       }
 
   module _ (c : Cursor) (r : Listed) (a : PairListed) (fits : CursorFits starts count c) (pair : PairAnswer layout K table vehicles (c .pairs) a) where
@@ -140,14 +134,6 @@ pub record Names (day : List ℕ) (m : Made.Trial) : Type 0 where
   pub small : EditSmall (m .edit)
 
 module _ (day : List ℕ) where
-  named-known : (e : Code.Edit) → Named day (editOf e) → EditKnown day e
-  unfolding Named
-  named-known (Edits.Before i j) h = h
-  named-known (Edits.After i j) h = h
-  named-known (Edits.Swap i j) h = h
-  named-known (Edits.Remove at) h = tt
-  named-known (Edits.Replace at x) h = h
-
   known-small : (e : Code.Edit) → stops day ≤ 240 → EditKnown day e → EditSmall e
   unfolding Known
   known-small (Edits.Before i j) m h = (omega (arith, h .0 .1), omega (arith, h .1 .1))
@@ -158,7 +144,6 @@ module _ (day : List ℕ) where
 
   module _ (rounds : List Round) where
     valid-named : (m : Trial) → Valid day rounds m → Named day (m .edit)
-    unfolding Named
     valid-named _ (moved-before i j number apart a b) = (a .known, b .known)
     valid-named _ (moved-after i j number apart a b) = (a .known, b .known)
     valid-named _ (swapped i j number other apart distinct a b) = (a .known, b .known)
@@ -167,7 +152,7 @@ module _ (day : List ℕ) where
 
     pub valid-names : (m : Made.Trial) → stops day ≤ 240 → Valid day rounds (listedTrial m) → Names day m
     valid-names m most h =
-        let known = named-known (m .edit) (valid-named (listedTrial m) h) in
+        let known = valid-named (listedTrial m) h in
         record { known = known; small = known-small (m .edit) most known }
 
     -- every trial from the first cursor on may be made, and so it stays from cursor to cursor

@@ -12,7 +12,6 @@ use lib.Dec.{ltb}
 use lib.ListN.{length, getD, drop, drop-of-length-le, List·getD-eq-default}
 use lib.Seq.{drop-cons}
 use borrow.Author.Tests.{eq-eqb, ne-eqb, ltb-true, ltb-false}
-use Rattle.rules.specs.Lists.{Every}
 use Rattle.rules.specs.Fields.{stops}
 use Rattle.rules.specs.Plan.{Round}
 use Rattle.rules.specs.Neighbours.{neighbours}
@@ -21,17 +20,12 @@ use Rattle.rules.specs.TrialList.{each, rising, pairTrials}
 use Rattle.day.specs.declared.fields.Layout.{Layout}
 use Rattle.neighbours.proofs.NeighbourLaws.{neighbours-are}
 use Rattle.laws.proofs.Decided.{known}
-use Rattle.trial_list.specs.Listing.{Goes, nextRank, halfway, nextStop, PairTells, no-trial, last-trial, first-trial, PairsOf, pairsLeft, PairStep, PairAnswer}
+use Rattle.laws.proofs.Lists.{every-at}
+use Rattle.trial_list.specs.Listing.{Goes, Tells, nextRank, halfway, nextStop, PairTells, no-trial, last-trial, first-trial, PairsOf, pairsLeft, PairStep}
 use Rattle.trial_list.specs.TrialRest.{listedTrial, pairOn, fromHalf, neighboursFrom, stopsFrom, pairRest}
 use Rattle.trial_list.specs.declared.listing.PairListed.{PairListed}
 use Rattle.trial_list.specs.declared.listing.PairPlace.{PairPlace}
-
--- what holds of each element holds of the one at a place
-pub every-at : {A : Type 0} (P : A → Type 0) (xs : List A) (i : ℕ) (d : A) → Every P xs → i < length xs → P (getD xs i d)
-unfolding Every
-every-at P [] i d h l = absurd (omega arith)
-every-at P (x ∷ xs) zero d h l = h .0
-every-at P (x ∷ xs) (suc i) d h l = every-at P xs i d (h .1) (omega arith)
+use Rattle.trial_list.specs.declared.listing.Trial as Code
 
 -- the trials of a pair, by the vehicles
 module _ (i j one two : ℕ) where
@@ -256,30 +250,17 @@ module _ (layout : Layout) (K : ℕ) (table vehicles : List ℕ) (p : PairPlace)
         falls = λ f. rw (tells-rank r tells f) (omega arith);
       }
 
--- the next trial of a pair
-module _ (layout : Layout) (K : ℕ) (table vehicles : List ℕ) (p : PairPlace) where
-  -- so many pairs are passed over
-  abbrev pub Passed : PairPlace → Type 0
-  Passed q = (s : PairsOf layout K table vehicles) → pairRest (s .day) K (s .rounds) p ≡ pairRest (s .day) K (s .rounds) q
+-- so many places are passed over, whatever the tables are, up to one with a trial or to the end
+module _ {S P : Type 0} (rest : S → P → List Trial) (first : P) where
+  abbrev pub Passed : P → Type 0
+  Passed at = (s : S) → rest s first ≡ rest s at
 
-  pub pass-on : (q : PairPlace) (r : PairListed) → Passed q → PairStep layout K table vehicles q r → r .found ≡ false → Passed (r .next)
-  pass-on q r h step f = λ s. h s ∙ step .goes s .none f
+  module _ {at next : P} {found : Bool} {m : Code.Trial} (h : Passed at) where
+    pub pass-on : ((s : S) → Goes (rest s) at found m next) → found ≡ false → Passed next
+    pass-on step f = λ s. h s ∙ step s .none f
 
-  pub pair-found : (q : PairPlace) (r : PairListed) → Passed q → PairStep layout K table vehicles q r → r .found ≡ true → PairAnswer layout K table vehicles p r
-  pair-found q r h step f =
-      record {
-        tells = λ s. record { some = λ t. h s ∙ step .goes s .some t; none = λ t. absurd (true≢false (sym f ∙ t)) };
-        first = step .first;
-      }
+    pub next-found : ((s : S) → Goes (rest s) at found m next) → found ≡ true → (s : S) → Tells (rest s) first found m next
+    next-found step f = λ s. record { some = λ t. h s ∙ step s .some t; none = λ t. absurd (true≢false (sym f ∙ t)) }
 
-  pub pairs-end : (q : PairPlace) (r : PairListed) → Passed q → 1 ≤ q .stop → layout .stops < q .stop → (r .found ≡ false) × (r .next ≡ q) → PairAnswer layout K table vehicles p r
-  pairs-end q r h a l e =
-      record {
-        tells = λ s.
-            let over = pairs-over (s .day) K (s .rounds) q (omega (arith, s .layoutIs .stopsAre)) in
-            record {
-              some = λ t. absurd (true≢false (sym t ∙ e .0));
-              none = λ t. (h s ∙ over, ap (pairRest (s .day) K (s .rounds)) (e .1) ∙ over);
-            };
-        first = rw (e .1) a;
-      }
+    pub next-none : ((s : S) → rest s at ≡ []) → (found ≡ false) × (next ≡ at) → (s : S) → Tells (rest s) first found m next
+    next-none over e = λ s. record { some = λ t. absurd (true≢false (sym t ∙ e .0)); none = λ t. (h s ∙ over s, ap (rest s) (e .1) ∙ over s) }

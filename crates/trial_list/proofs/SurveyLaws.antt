@@ -8,7 +8,7 @@ use native.Mathlib.Decide.{ℕ-discrete, decLt}
 use native.Mathlib.Numerals.{add-one}
 use native.Mathlib.Omega.{arith}
 use lib.ListN.{length, getD, take, drop, set, length-set, length-drop, length-append, length-map, List·getD-eq-default}
-use lib.Seq.{take-suc, drop-cons, drop-drop, drop-at, getD-set-same, getD-set-other}
+use lib.Seq.{take-suc, drop-cons, drop-drop, drop-at}
 use borrow.Author.Tests.{lt-ltb, ltb-true}
 use Rattle.rules.specs.Tests.{if_then_else_}
 use Rattle.rules.specs.Lists.{Every, mem}
@@ -16,9 +16,11 @@ use Rattle.rules.specs.PlanWords.{vehicleWord, stopWord, backWord, leftWord}
 use Rattle.rules.specs.Plan.{Round, taskWord, roundWords, roundsWords, planWords, stopsOn, Known}
 use Rattle.rules.specs.Lawful.{distanceFrom}
 use Rattle.rules.specs.TrialList.{vehicleFrom, vehicleOf}
+use Rattle.laws.proofs.Lists.{entries-next}
 use Rattle.laws.proofs.Tests.{both-true}
 use Rattle.trial_list.specs.Survey.{PlanOf, SomePlan, Surveyed, SurveysAll, RoundAt, SomeRound, firstOf, vehicleThen, EndsAll, isVehicle}
 use Rattle.trial_list.specs.declared.survey.Driven.{Driven}
+use Rattle.trial_list.proofs.LaidLaws.{rounds-length}
 use Rattle.trial_list.proofs.RideLaws.{WordAt, word-at, first-some, first-none, first-zero}
 
 -- the first entries are cleared
@@ -30,11 +32,8 @@ pub cleared-none : (vehicles : List ℕ) → length vehicles ≡ 256 → Cleared
 cleared-none vehicles h = record { size = h; zeros = λ k l. absurd (omega arith) }
 
 pub cleared-next : (n : ℕ) (vehicles : List ℕ) → Cleared n vehicles → n < 256 → Cleared (n + 1) (set vehicles n 0)
-cleared-next n vehicles h few = record { size = length-set vehicles n 0 ∙ h .size; zeros = λ k l. go k l (ℕ-discrete k n) }
-  where
-    go : (k : ℕ) → k < n + 1 → Dec (k ≡ n) → getD (set vehicles n 0) k 0 ≡ 0
-    go k l (yes q) = rw q (getD-set-same vehicles n 0 0 (omega (arith, h .size)))
-    go k l (no q) = getD-set-other vehicles n k 0 0 q ∙ h .zeros k (omega arith)
+cleared-next n vehicles h few =
+    record { size = length-set vehicles n 0 ∙ h .size; zeros = entries-next (λ k x. x ≡ 0) vehicles n 0 (omega (arith, h .size)) refl (h .zeros) }
 
 pub cleared-all : (n : ℕ) (vehicles : List ℕ) → Cleared n vehicles → 256 ≤ n → (k : ℕ) → getD vehicles k 0 ≡ 0
 cleared-all n vehicles h all k = go (decLt k 256)
@@ -51,23 +50,6 @@ vehicle-yes plan at e = let b = both-true _ _ e in (ltb-true _ _ (b .0), ltb-tru
 vehicle-there : (plan : List ℕ) (at : ℕ) → at < length plan → getD plan at 0 < stopWord 0 → isVehicle plan at ≡ false → ⊥
 unfolding isVehicle
 vehicle-there plan at l w e = true≢false (sym (rw (lt-ltb at (length plan) l, lt-ltb (getD plan at 0) (stopWord 0) w) refl) ∙ e)
-
--- one vehicle's words, and those of one vehicle more
-round-length : (number : ℕ) (tasks : Round) → length (roundWords number tasks) ≡ length tasks + 2
-unfolding roundWords
-round-length number tasks = omega (arith, length-append (map taskWord tasks) (backWord ∷ []), length-map tasks taskWord)
-
-rounds-length : (before : ℕ) (rounds : List Round) (tasks : Round)
-    → length (roundsWords before (rounds ++ (tasks ∷ []))) ≡ length (roundsWords before rounds) + (length tasks + 2)
-unfolding roundsWords
-rounds-length before [] tasks = omega (arith, length-append (roundWords (suc before) tasks) [], round-length (suc before) tasks)
-rounds-length before (r ∷ rounds) tasks =
-    omega (
-      arith,
-      length-append (roundWords (suc before) r) (roundsWords (suc before) (rounds ++ (tasks ∷ []))),
-      length-append (roundWords (suc before) r) (roundsWords (suc before) rounds),
-      rounds-length (suc before) rounds tasks,
-    )
 
 -- the first vehicle of a stop, with those behind
 first-then : (b : Bool) (x number y : ℕ) → 0 < number → firstOf (firstOf x (if b then number else 0)) y ≡ firstOf x (if b then number else y)
@@ -187,15 +169,6 @@ following rounds v tasks todo e =
     let i : getD rounds v [] ≡ tasks = ap (λ (rs : List Round). getD rs 0 []) q in
     record { is = i; front = rw add-one (take-suc rounds v [] l ∙ ap (λ (r : Round). take v rounds ++ (r ∷ [])) i); behind = rw add-one (ap (drop 1) q) }
 
--- one entry more of a table
-entry-next : (table : List ℕ) (v x : ℕ) (f : ℕ → ℕ) → length table ≡ 256 → v < 256 → x ≡ f v
-    → ((u : ℕ) → u < v → getD table u 0 ≡ f u) → (u : ℕ) → u < v + 1 → getD (set table v x) u 0 ≡ f u
-entry-next table v x f long few e so-far u l = go (ℕ-discrete u v)
-  where
-    go : Dec (u ≡ v) → getD (set table v x) u 0 ≡ f u
-    go (yes q) = rw q (getD-set-same table v x 0 (omega arith) ∙ e)
-    go (no q) = getD-set-other table v u x 0 q ∙ so-far u (omega arith)
-
 module _ {day plan : List ℕ} {rounds : List Round} {lefts starts vehicles distances : List ℕ} {v at : ℕ}
     (s : Surveying day plan rounds lefts starts vehicles distances v at) where
   surveying-room : Room plan starts vehicles distances v at
@@ -245,9 +218,9 @@ module _ {day plan : List ℕ} {rounds : List Round} {lefts starts vehicles dist
               counted = omega arith;
               few = s .few;
               within = omega (arith, e .ends, b .1);
-              placed = rw (o .front) (omega (arith, e .ends, s .placed, rounds-length 0 (take v rounds) tasks));
-              starting = entry-next starts v at (λ u. length (roundsWords 0 (take u rounds))) (s .startsSize) fits (s .placed) (s .starting);
-              driven = entry-next distances v (d .distance) (λ u. distanceFrom day 0 (getD rounds u [])) (s .distancesSize) fits (e .drives ∙ ap (distanceFrom day 0) (sym (o .is))) (s .driven);
+              placed = rw (o .front) (omega (arith, e .ends, s .placed, rounds-length (take v rounds) tasks));
+              starting = entries-next (λ u x. x ≡ length (roundsWords 0 (take u rounds))) starts v at (omega (arith, s .startsSize)) (s .placed) (s .starting);
+              driven = entries-next (λ u x. x ≡ distanceFrom day 0 (getD rounds u [])) distances v (d .distance) (omega (arith, s .distancesSize)) (e .drives ∙ ap (distanceFrom day 0) (sym (o .is))) (s .driven);
               routed = λ j. rw (e .marks j, add-one v) (routed-next v number j (getD vehicles j 0) tasks todo (numbered ∙ add-one v) ∙ f j);
               startsSize = length-set starts v at ∙ s .startsSize;
               vehiclesSize = size ∙ s .vehiclesSize;
@@ -263,10 +236,12 @@ module _ {day plan : List ℕ} {rounds : List Round} {lefts starts vehicles dist
       go _ (isEnd n) c f =
           record {
             counted = omega arith;
-            starting = λ u l. entry-next starts v at (λ u. length (roundsWords 0 (take u rounds))) (s .startsSize) (omega (arith, s .few)) (s .placed) (s .starting) u (omega arith);
+            starting = record {
+              at = λ u l. entries-next (λ u x. x ≡ length (roundsWords 0 (take u rounds))) starts v at (omega (arith, s .few, s .startsSize)) (s .placed) (s .starting) u (omega arith);
+              size = length-set starts v at ∙ s .startsSize;
+            };
             routed = λ k a b. sym (first-end v k (getD vehicles k 0)) ∙ f k;
             driven = λ u l. s .driven u (omega arith);
-            startsSize = length-set starts v at ∙ s .startsSize;
             vehiclesSize = s .vehiclesSize;
             distancesSize = s .distancesSize;
           }

@@ -4,29 +4,29 @@
 use Prim.Native.Nat.{ℕ, zero, suc, _+_, _-_, _≤_, _<_}
 use mathlib.Core.Path.{_≡_, refl, sym, ap, _∙_}
 use mathlib.Core.Bool.{true, false, true≢false}
-use mathlib.Core.List.{List, [], _∷_, _++_, map, append-assoc}
+use mathlib.Core.List.{List, [], _∷_, _++_, append-assoc}
 use mathlib.Core.Logic.{inl, inr}
 use native.Mathlib.Numerals.{add-one}
 use native.Mathlib.Omega.{arith}
 use lib.Dec.{eqb, ltb}
-use lib.ListN.{length, getD, drop, take, drop-of-length-le, length-append, List·getD-eq-default}
+use lib.ListN.{length, getD, drop, drop-of-length-le, List·getD-eq-default}
 use lib.Seq.{drop-cons}
 use borrow.Author.Tests.{eq-eqb, ne-eqb, eqb-true, eqb-false, ltb-true, ltb-false}
 use Rattle.rules.specs.Tests.{if_then_else_}
 use Rattle.rules.specs.Lists.{Every}
 use Rattle.rules.specs.Fields.{stops, tips}
-use Rattle.rules.specs.PlanWords.{leftWord, restWord, tipWord}
-use Rattle.rules.specs.Plan.{Task, serve, empty, lunch, Round, taskWord, roundsWords, planWords, Known}
+use Rattle.rules.specs.PlanWords.{restWord, tipWord}
+use Rattle.rules.specs.Plan.{Task, serve, empty, lunch, Round, taskWord, Known}
 use Rattle.rules.specs.Edits.{remove, replace, Trial, onOne}
 use Rattle.rules.specs.TrialList.{rising, otherTip, taskTrials, roundTrials, tipTrials}
 use Rattle.day.specs.declared.fields.Layout.{Layout}
 use Rattle.laws.proofs.Decided.{known}
-use Rattle.trial_list.specs.Listing.{Goes, atTip, nextTask, nextVehicle, TipTells, no-tip, a-tip, TipFits, TipsOf, tipsLeft, TipStep, TipSteps, TipAnswer}
+use Rattle.laws.proofs.Lists.{every-at}
+use Rattle.trial_list.specs.Listing.{Goes, atTip, nextTask, nextVehicle, TipTells, no-tip, a-tip, TipFits, TipsOf, tipsLeft, TipSteps}
 use Rattle.trial_list.specs.TrialRest.{listedTrial, tipFrom, taskFrom, tasksFrom, tipRest}
 use Rattle.trial_list.specs.declared.listing.TipListed.{TipListed}
 use Rattle.trial_list.specs.declared.listing.TipPlace.{TipPlace}
-use Rattle.trial_list.proofs.PairRests.{every-at}
-use Rattle.trial_list.proofs.TaskPlaces.{word-at, starts-next, starts-within}
+use Rattle.trial_list.proofs.LaidLaws.{start-next, vehicle-inside, task-word}
 
 -- the trials of one tip
 module _ (most number t y : ℕ) where
@@ -154,18 +154,13 @@ module _ (day : List ℕ) (rounds : List Round) where
         ∙ ap (λ (ms : List Trial). here ++ (ms ++ others)) (sym (all-tasks number (suc (q .task)) (drop (suc (q .task)) its)))
         ∙ ap (λ (k : ℕ). here ++ (tasksFrom day number k 0 (drop k its) ++ others)) (sym (add-one (q .task)))
 
--- the words of a stop and of a rest have no trials, those of a tip have its own
-low-word : (day : List ℕ) (w number t x : ℕ) (task : Task) → w < tipWord 0 → w ≡ taskWord task → taskFrom (tips day) number t x task ≡ []
-unfolding taskFrom taskWord
-low-word day w number t x (serve k) h e = refl
-low-word day w number t x (empty y) h e = absurd (omega arith)
-low-word day w number t x lunch h e = absurd (omega arith)
-
-high-word : (day : List ℕ) (w number t x : ℕ) (task : Task) → stops day ≤ 240 → Known day task → restWord ≤ w → w ≡ taskWord task → taskFrom (tips day) number t x task ≡ []
+-- a word that is no tip's has no trials, and a tip's word has its own
+idle-word : (day : List ℕ) (w number t x : ℕ) (task : Task) → Known day task → ((tipWord 0) ≤ w → w < restWord → ⊥) → w ≡ taskWord task
+    → taskFrom (tips day) number t x task ≡ []
 unfolding taskFrom taskWord Known
-high-word day w number t x (serve k) m n h e = absurd (omega arith)
-high-word day w number t x (empty y) m n h e = absurd (omega arith)
-high-word day w number t x lunch m n h e = refl
+idle-word day w number t x (serve k) n o e = refl
+idle-word day w number t x (empty y) n o e = absurd (o (omega arith) (omega (arith, n .1)))
+idle-word day w number t x lunch n o e = refl
 
 tip-word : (day : List ℕ) (w number t x : ℕ) (task : Task) → stops day ≤ 240 → Known day task → (tipWord 0) ≤ w → w < restWord → w ≡ taskWord task
     → taskFrom (tips day) number t x task ≡ tipFrom (tips day) number t (w - tipWord 0) x
@@ -177,46 +172,25 @@ tip-word day w number t x (empty y) m n h l e =
 tip-word day w number t x lunch m n h l e = absurd (omega arith)
 
 -- by the tables
-module _ (layout : Layout) (starts plan : List ℕ) (count : ℕ) (s : TipsOf layout starts plan count) where
-  module _ (v : ℕ) (h : v < count) where
-    start-at : getD starts v 0 ≡ length (roundsWords 0 (take v (s .rounds)))
-    start-at = s .starting v (omega (arith, s .counted))
+module _ {layout : Layout} {starts plan : List ℕ} {count : ℕ} (s : TipsOf layout starts plan count) where
+  among : {v : ℕ} → v < count → v < length (s .rounds)
+  among h = omega (arith, s .counted)
 
-    next-at : getD starts (v + 1) 0 ≡ length (roundsWords 0 (take (v + 1) (s .rounds)))
-    next-at = s .starting (v + 1) (omega (arith, s .counted))
+  -- where a vehicle's words end, and that they stand within the plan
+  end-at : {v : ℕ} → v < count → getD starts (v + 1) 0 ≡ getD starts v 0 + length (getD (s .rounds) v []) + 2
+  end-at h = start-next (s .laid) (among h)
 
-    pub end-at : getD starts (v + 1) 0 ≡ getD starts v 0 + length (getD (s .rounds) v []) + 2
-    end-at =
-        let e = next-at ∙ ap (λ (k : ℕ). length (roundsWords 0 (take k (s .rounds)))) (add-one v) ∙ starts-next 0 (s .rounds) v (omega (arith, s .counted)) in
-        omega (arith, e, start-at)
-
-    pub end-within : getD starts (v + 1) 0 ≤ length plan
-    unfolding planWords
-    end-within =
-        omega (
-          arith,
-          next-at,
-          starts-within 0 (s .rounds) (v + 1),
-          length-append (roundsWords 0 (s .rounds)) (map leftWord (s .lefts)),
-          ap (length {A = ℕ}) (s .text),
-        )
+  end-within : {v : ℕ} → v < count → getD starts (v + 1) 0 ≤ length plan
+  end-within h = vehicle-inside (s .laid) (among h)
 
   module _ (q : TipPlace) (h : q .vehicle < count) (l : q .task < length (getD (s .rounds) (q .vehicle) [])) where
     abbrev task : Task
     task = getD (getD (s .rounds) (q .vehicle) []) (q .task) lunch
 
-    its-word : (w : ℕ) → w ≡ getD plan (getD starts (q .vehicle) 0 + 1 + q .task) 0 → w ≡ taskWord task
-    unfolding planWords
-    its-word w e =
-        e
-        ∙ ap (λ (ws : List ℕ). getD ws (getD starts (q .vehicle) 0 + 1 + q .task) 0) (s .text)
-        ∙ word-at 0 (s .rounds) (q .vehicle) (q .task) (getD starts (q .vehicle) 0 + 1 + q .task) (map leftWord (s .lefts)) (omega (arith, s .counted)) l
-        (omega (arith, start-at (q .vehicle) h))
-
     is-known : Known (s .day) task
     is-known =
         every-at (Known (s .day)) (getD (s .rounds) (q .vehicle) []) (q .task) lunch
-        (every-at (Every (Known (s .day))) (s .rounds) (q .vehicle) [] (s .known) (omega (arith, s .counted))) l
+        (every-at (Every (Known (s .day))) (s .rounds) (q .vehicle) [] (s .known) (among h)) l
 
     -- a task without trials
     passes : (r : TipListed) → taskFrom (tips (s .day)) (suc (q .vehicle)) (q .task) (q .tip) task ≡ [] → r .found ≡ false → r .next ≡ nextTask q
@@ -250,59 +224,47 @@ module _ (layout : Layout) (starts plan : List ℕ) (count : ℕ) (s : TipsOf la
 module _ (layout : Layout) (starts plan : List ℕ) (q : TipPlace) (r : TipListed) (a b : ℕ) (ea : a ≡ getD starts (q .vehicle) 0) (eb : b ≡ getD starts (q .vehicle + 1) 0) where
   pub vehicle-ends : a + 1 + q .task + 1 ≡ b → (r .found ≡ false) × (r .next ≡ nextVehicle q) → TipSteps layout starts plan q r
   vehicle-ends e n = λ count s h f.
-      let end = end-within layout starts plan count s (q .vehicle) h in
       record {
         goes = λ s.
             record {
               some = λ t. absurd (true≢false (sym t ∙ n .0));
-              none = λ t.
-                  tasks-over (s .day) (s .rounds) q (omega (arith, end-at layout starts plan count s (q .vehicle) h)) ∙ ap (tipRest (s .day) (s .rounds)) (sym (n .1));
+              none = λ t. tasks-over (s .day) (s .rounds) q (omega (arith, end-at s h)) ∙ ap (tipRest (s .day) (s .rounds)) (sym (n .1));
             };
-        fits = rw (n .1) (λ l. omega (arith, end-at layout starts plan count s (q .vehicle + 1) l));
-        falls = λ t. rw (n .1) (omega (arith, end));
+        fits = rw (n .1) (λ l. omega (arith, end-at s l));
+        falls = λ t. rw (n .1) (omega (arith, end-within s h));
       }
 
   -- at a task
   module _ (w : ℕ) (more : a + 1 + q .task + 1 ≡ b → ⊥) (ew : w ≡ getD plan (a + 1 + q .task) 0) where
-    inside : (count : ℕ) (s : TipsOf layout starts plan count) → q .vehicle < count → TipFits starts count q → q .task < length (getD (s .rounds) (q .vehicle) [])
-    inside count s h f = omega (arith, f h, end-at layout starts plan count s (q .vehicle) h)
+    module _ {count : ℕ} (h : q .vehicle < count) (f : TipFits starts count q) where
+      inside : (s : TipsOf layout starts plan count) → q .task < length (getD (s .rounds) (q .vehicle) [])
+      inside s = omega (arith, f h, end-at s h)
 
-    word-here : w ≡ getD plan (getD starts (q .vehicle) 0 + 1 + q .task) 0
-    word-here = ew ∙ ap (λ (k : ℕ). getD plan (k + 1 + q .task) 0) ea
+      its-word : (s : TipsOf layout starts plan count) → w ≡ taskWord (task s q h (inside s))
+      its-word s = ew ∙ ap (λ (k : ℕ). getD plan (k + 1 + q .task) 0) ea ∙ task-word (s .laid) (among s h) (q .task) (inside s)
 
-    -- the next task fits, and there are fewer words behind it
-    next-fits : (count : ℕ) → TipFits starts count q → r .next ≡ nextTask q → TipFits starts count (r .next)
-    next-fits count f n = rw n (λ l. omega (arith, f l))
+      -- the next task fits, and there are fewer words behind it
+      next-fits : r .next ≡ nextTask q → TipFits starts count (r .next)
+      next-fits n = rw n (λ l. omega (arith, f l))
 
-    next-falls : (count : ℕ) → TipsOf layout starts plan count → q .vehicle < count → TipFits starts count q → r .next ≡ nextTask q → tipsLeft starts plan (r .next) < tipsLeft starts plan q
-    next-falls count s h f n = rw n (omega (arith, f h, end-within layout starts plan count s (q .vehicle) h))
+      next-falls : TipsOf layout starts plan count → r .next ≡ nextTask q → tipsLeft starts plan (r .next) < tipsLeft starts plan q
+      next-falls s n = rw n (omega (arith, f h, end-within s h))
 
-    pub low-passes : w < tipWord 0 → (r .found ≡ false) × (r .next ≡ nextTask q) → TipSteps layout starts plan q r
-    low-passes low n = λ count s h f.
+    -- it is no tip
+    pub idle-passes : ((tipWord 0) ≤ w → w < restWord → ⊥) → (r .found ≡ false) × (r .next ≡ nextTask q) → TipSteps layout starts plan q r
+    idle-passes idle n = λ count s h f.
         record {
           goes = λ s.
-              let l = inside count s h f in
-              passes layout starts plan count s q h l r
-              (low-word (s .day) w (suc (q .vehicle)) (q .task) (q .tip) (task layout starts plan count s q h l) low (its-word layout starts plan count s q h l w word-here)) (n .0) (n .1);
-          fits = next-fits count f (n .1);
-          falls = λ t. next-falls count s h f (n .1);
+              let l = inside h f s in
+              passes s q h l r (idle-word (s .day) w (suc (q .vehicle)) (q .task) (q .tip) (task s q h l) (is-known s q h l) idle (its-word h f s)) (n .0) (n .1);
+          fits = next-fits h f (n .1);
+          falls = λ t. next-falls h f s (n .1);
         }
 
-    pub high-passes : restWord ≤ w → (r .found ≡ false) × (r .next ≡ nextTask q) → TipSteps layout starts plan q r
-    high-passes high n = λ count s h f.
-        record {
-          goes = λ s.
-              let l = inside count s h f in
-              passes layout starts plan count s q h l r
-              (high-word (s .day) w (suc (q .vehicle)) (q .task) (q .tip) (task layout starts plan count s q h l) (s .most) (is-known layout starts plan count s q h l) high
-              (its-word layout starts plan count s q h l w word-here)) (n .0) (n .1);
-          fits = next-fits count f (n .1);
-          falls = λ t. next-falls count s h f (n .1);
-        }
-
-    tells-fits : (count : ℕ) (y : ℕ) → TipsOf layout starts plan count → q .vehicle < count → TipFits starts count q → TipTells (layout .tips) y q r → TipFits starts count (r .next)
-    tells-fits count y s h f (no-tip _ e n m) = next-fits count f m
-    tells-fits count y s h f (a-tip _ x e n m) = rw m (λ l. f l)
+    -- it is one
+    tells-fits : {count : ℕ} (y : ℕ) → q .vehicle < count → TipFits starts count q → TipTells (layout .tips) y q r → TipFits starts count (r .next)
+    tells-fits y h f (no-tip _ e n m) = next-fits h f m
+    tells-fits y h f (a-tip _ x e n m) = rw m (λ l. f l)
 
     tells-next : (y : ℕ) → TipTells (layout .tips) y q r → r .found ≡ false → r .next ≡ nextTask q
     tells-next y (no-tip _ e n m) t = m
@@ -312,39 +274,10 @@ module _ (layout : Layout) (starts plan : List ℕ) (q : TipPlace) (r : TipListe
     tip-steps low high tells = λ count s h f.
         record {
           goes = λ s.
-              let l = inside count s h f in
-              tip-goes layout starts plan count s q h l (w - tipWord 0) r
-              (λ x. tip-word (s .day) w (suc (q .vehicle)) (q .task) x (task layout starts plan count s q h l) (s .most) (is-known layout starts plan count s q h l) low high
-              (its-word layout starts plan count s q h l w word-here))
+              let l = inside h f s in
+              tip-goes s q h l (w - tipWord 0) r
+              (λ x. tip-word (s .day) w (suc (q .vehicle)) (q .task) x (task s q h l) (s .most) (is-known s q h l) low high (its-word h f s))
               (rw (s .layoutIs .tipsAre) at tells);
-          fits = tells-fits count (w - tipWord 0) s h f tells;
-          falls = λ t. next-falls count s h f (tells-next (w - tipWord 0) tells t);
+          fits = tells-fits (w - tipWord 0) h f tells;
+          falls = λ t. next-falls h f s (tells-next (w - tipWord 0) tells t);
         }
-
--- the next trial of a tip
-module _ (layout : Layout) (starts plan : List ℕ) (count : ℕ) (q : TipPlace) where
-  -- so many tasks are passed over
-  abbrev pub Passed : TipPlace → Type 0
-  Passed p = (s : TipsOf layout starts plan count) → tipRest (s .day) (s .rounds) q ≡ tipRest (s .day) (s .rounds) p
-
-  pub pass-on : (p : TipPlace) (r : TipListed) → Passed p → TipStep layout starts plan count p r → r .found ≡ false → Passed (r .next)
-  pass-on p r h step f = λ s. h s ∙ step .goes s .none f
-
-  pub tip-found : (p : TipPlace) (r : TipListed) → Passed p → TipStep layout starts plan count p r → r .found ≡ true → TipAnswer layout starts plan count q r
-  tip-found p r h step f =
-      record {
-        tells = λ s. record { some = λ t. h s ∙ step .goes s .some t; none = λ t. absurd (true≢false (sym f ∙ t)) };
-        fits = step .fits;
-      }
-
-  pub tips-end : (p : TipPlace) (r : TipListed) → Passed p → count ≤ p .vehicle → (r .found ≡ false) × (r .next ≡ p) → TipAnswer layout starts plan count q r
-  tips-end p r h l e =
-      record {
-        tells = λ s.
-            let over = tips-over (s .day) (s .rounds) p (omega (arith, s .counted)) in
-            record {
-              some = λ t. absurd (true≢false (sym t ∙ e .0));
-              none = λ t. (h s ∙ over, ap (tipRest (s .day) (s .rounds)) (e .1) ∙ over);
-            };
-        fits = rw (e .1) (λ t. absurd (omega arith));
-      }

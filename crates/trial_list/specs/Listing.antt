@@ -4,16 +4,16 @@ use Prim.Native.Nat.{ℕ, suc, _+_, _*_, _-_, _≤_, _<_}
 use mathlib.Core.Path.{_≡_}
 use mathlib.Core.Bool.{Bool, true, false}
 use mathlib.Core.List.{List, [], _∷_}
-use lib.ListN.{length, getD, take}
+use lib.ListN.{length, getD}
 use Rattle.rules.specs.Lists.{Every}
 use Rattle.rules.specs.Fields.{stops}
-use Rattle.rules.specs.Plan.{Round, roundsWords, planWords, Known}
+use Rattle.rules.specs.Plan.{Round, planWords, Known}
 use Rattle.rules.specs.Edits.{Trial}
 use Rattle.rules.specs.TrialList.{vehicleOf}
 use Rattle.day.specs.Layout.{LayoutOf}
 use Rattle.day.specs.declared.fields.Layout.{Layout}
 use Rattle.neighbours.specs.Tables.{TableOf}
-use Rattle.trial_list.specs.Survey.{Surveyed}
+use Rattle.trial_list.specs.Survey.{Laid, VehicleIn, Surveyed}
 use Rattle.trial_list.specs.TrialRest.{listedTrial, fromHalf, pairRest, tipFrom, tipRest, restOf}
 use Rattle.trial_list.specs.declared.listing.Cursor.{Cursor}
 use Rattle.trial_list.specs.declared.listing.Listed.{Listed}
@@ -105,15 +105,14 @@ pub record TipsOf (layout : Layout) (starts plan : List ℕ) (count : ℕ) : Typ
   pub known : Every (Every (Known day)) rounds
   pub few : count ≤ 240
   pub counted : count ≡ length rounds
-  pub starting : (v : ℕ) → v ≤ length rounds → getD starts v 0 ≡ length (roundsWords 0 (take v rounds))
-  pub size : length starts ≡ 256
-  pub text : plan ≡ planWords rounds lefts
+  pub laid : Laid plan starts rounds lefts
 
 -- there are such tables, and the place is one of a vehicle of theirs
 pub record SomeTip (layout : Layout) (starts plan : List ℕ) (q : TipPlace) : Type 0 where
   pub count : ℕ
   pub tables : TipsOf layout starts plan count
   pub within : q .vehicle < count
+  pub vehicle : VehicleIn plan starts (q .vehicle)
   pub fits : getD starts (q .vehicle) 0 + q .task + 2 ≤ getD starts (q .vehicle + 1) 0
 
 -- how many words there are yet

@@ -15,6 +15,23 @@ use Rattle.rules.specs.Lawful.{distanceFrom}
 use Rattle.rules.specs.TrialList.{vehicleOf}
 use Rattle.trial_list.specs.declared.survey.Driven.{Driven}
 
+-- where vehicles start: the A word of vehicle number v + 1 stands at starts[v], and behind the last vehicle starts says where they end
+pub record StartsOf (starts : List ℕ) (rounds : List Round) : Type 0 where
+  pub at : (v : ℕ) → v ≤ length rounds → getD starts v 0 ≡ length (roundsWords 0 (take v rounds))
+  pub size : length starts ≡ 256
+
+-- the plan has these vehicles and leaves these stops out, and it is known where they start
+pub record Laid (plan starts : List ℕ) (rounds : List Round) (lefts : List ℕ) : Type 0 where
+  pub text : plan ≡ planWords rounds lefts
+  pub starting : StartsOf starts rounds
+
+-- vehicle v, counted from 0, has its words in the plan: its A word at starts[v], its E word just before starts[v + 1]
+pub record VehicleIn (plan starts : List ℕ) (v : ℕ) : Type 0 where
+  pub few : v < 240
+  pub table : length starts ≡ 256
+  pub order : getD starts v 0 + 2 ≤ getD starts (v + 1) 0
+  pub inside : getD starts (v + 1) 0 ≤ length plan
+
 -- the plan has these vehicles and leaves these stops out
 pub record PlanOf (day plan : List ℕ) (rounds : List Round) (lefts : List ℕ) : Type 0 where
   pub text : plan ≡ planWords rounds lefts
@@ -27,13 +44,12 @@ pub record SomePlan (day plan : List ℕ) : Type 0 where
   pub lefts : List ℕ
   pub planOf : PlanOf day plan rounds lefts
 
--- what the tables say of these vehicles: the A word of vehicle number v + 1 stands at starts[v], and starts[count] is where they end
+-- what the tables say of these vehicles
 pub record Surveyed (day : List ℕ) (rounds : List Round) (starts vehicles distances : List ℕ) (count : ℕ) : Type 0 where
   pub counted : count ≡ length rounds
-  pub starting : (v : ℕ) → v ≤ length rounds → getD starts v 0 ≡ length (roundsWords 0 (take v rounds))
+  pub starting : StartsOf starts rounds
   pub routed : (k : ℕ) → 1 ≤ k → k ≤ stops day → getD vehicles k 0 ≡ vehicleOf rounds k
   pub driven : (v : ℕ) → v < length rounds → getD distances v 0 ≡ distanceFrom day 0 (getD rounds v [])
-  pub startsSize : length starts ≡ 256
   pub vehiclesSize : length vehicles ≡ 256
   pub distancesSize : length distances ≡ 256
 

@@ -1,6 +1,6 @@
 -- One step of the search: the list is at its end, the budget is gone, a trial gives no plan, or its plan is kept. Assumes nothing.
 use Prim.Native.Nat.{ℕ, _+_, _-_, _≤_, _<_}
-use mathlib.Core.Path.{_≡_, sym, _∙_, subst}
+use mathlib.Core.Path.{_≡_, sym, _∙_}
 use mathlib.Core.Bool.{Bool, true, false, true≢false, not}
 use mathlib.Core.Logic.{inl, inr}
 use mathlib.Core.List.{List, _∷_}
@@ -29,7 +29,7 @@ use Rattle.trial_list.proofs.ListRests.{whole-list, start-fits, plan-tables, st
 use Rattle.attempts.specs.Tries.{Made, SomeMade, TriedAs}
 use Rattle.attempts.specs.declared.tries.Tried.{Tried}
 use Rattle.attempts.proofs.ShapeKept.{valid-shaped}
-use Rattle.trials.specs.Searches.{SomePlanAt, TakenOver, TakesOver, Searching, NextTrial, AfterTrial}
+use Rattle.trials.specs.Searches.{SomePlanAt, TakesOver, fromGreedy, Searching, endedBy, goingOn, Ahead, NextTrial, AfterTrial}
 use Rattle.trials.specs.declared.search.Search.{Search}
 use Rattle.trials.proofs.Searching.{run-nil, loop-none, loop-some, loop-spent}
 use Rattle.trials.proofs.TakeOverLaws.{slice-is}
@@ -44,40 +44,29 @@ module _ {day : List ℕ} {layout : Layout} {K budget : ℕ} {table plan starts 
       (h .held .planAt .shaped) t (h .held .surveyed) (slice-is (h .held .planAt))
 
   -- the search ends
-  pub ends-settled : (r : Search) → s .ended ≡ false → {l : Listed} → ListAnswer layout K table starts vehicles (take (s .words - 0) (drop 0 plan)) (s .count) (s .cursor) l → l .found ≡ false
-      → r .words ≡ s .words → r .count ≡ s .count → r .distance ≡ s .distance → r .made ≡ s .made → r .ended ≡ true → r .settled ≡ true
-      → Searching day K budget plan starts vehicles distances tracks r
+  ends : (settled : Bool) → record { plan = h .rounds; trials = s .made; settled = settled } ≡ fromGreedy day K budget
+      → Searching day K budget plan starts vehicles distances tracks (endedBy s settled)
+  ends settled e =
+      record { rounds = h .rounds; held = h .held; drives = h .drives; within = h .within; going = λ n. absurd (true≢false n); done = λ _. e }
+
+  pub ends-settled : {r : Search} → s .ended ≡ false → {l : Listed}
+      → ListAnswer layout K table starts vehicles (take (s .words - 0) (drop 0 plan)) (s .count) (s .cursor) l → l .found ≡ false
+      → r ≡ endedBy s true → Searching day K budget plan starts vehicles distances tracks r
   unfolding plan-tables held-tables
-  ends-settled r g a f w c d m e q =
+  ends-settled g a f e =
       let rest = a .tells held-tables .none f .0 in
       let same = (h .going g) .same in
-      record {
-        rounds = h .rounds;
-        held = subst (λ (n : ℕ). TakenOver day plan n (h .rounds) starts vehicles distances tracks (r .count)) (sym w)
-            (subst (λ (n : ℕ). TakenOver day plan (s .words) (h .rounds) starts vehicles distances tracks n) (sym c) (h .held));
-        drives = d ∙ h .drives;
-        within = omega (arith, m, h .within);
-        going = λ n. absurd (true≢false (sym e ∙ n));
-        done = λ _. rw (m, q) (sym (run-nil (trialList day K) (attempt day (greedyLefts day)) (budget - s .made) (h .rounds) (s .made)) ∙ rw rest at same);
-      }
+      rw e (ends true (sym (run-nil (trialList day K) (attempt day (greedyLefts day)) (budget - s .made) (h .rounds) (s .made)) ∙ rw rest at same))
 
-  pub ends-spent : (r : Search) → s .ended ≡ false → {l : Listed} → ListAnswer layout K table starts vehicles (take (s .words - 0) (drop 0 plan)) (s .count) (s .cursor) l → l .found ≡ true
-      → s .made ≡ budget → r .words ≡ s .words → r .count ≡ s .count → r .distance ≡ s .distance → r .made ≡ s .made → r .ended ≡ true → r .settled ≡ false
-      → Searching day K budget plan starts vehicles distances tracks r
+  pub ends-spent : {r : Search} → s .ended ≡ false → {l : Listed}
+      → ListAnswer layout K table starts vehicles (take (s .words - 0) (drop 0 plan)) (s .count) (s .cursor) l → l .found ≡ true
+      → s .made ≡ budget → r ≡ endedBy s false → Searching day K budget plan starts vehicles distances tracks r
   unfolding plan-tables held-tables
-  ends-spent r g {l} a f b w c d m e q =
+  ends-spent g {l} a f b e =
       let rest = a .tells held-tables .some f in
       let same = (h .going g) .same in
-      record {
-        rounds = h .rounds;
-        held = subst (λ (n : ℕ). TakenOver day plan n (h .rounds) starts vehicles distances tracks (r .count)) (sym w)
-            (subst (λ (n : ℕ). TakenOver day plan (s .words) (h .rounds) starts vehicles distances tracks n) (sym c) (h .held));
-        drives = d ∙ h .drives;
-        within = omega (arith, m, h .within);
-        going = λ n. absurd (true≢false (sym e ∙ n));
-        done = λ _. rw (m, q) (sym (loop-spent (trialList day K) (attempt day (greedyLefts day)) budget (h .rounds) (listedTrial (l .trial)) (restOf day K (h .rounds) (l .next)) (s .made) b)
-            ∙ rw rest at same);
-      }
+      let spent = loop-spent (trialList day K) (attempt day (greedyLefts day)) budget (h .rounds) (listedTrial (l .trial)) (restOf day K (h .rounds) (l .next)) (s .made) b in
+      rw e (ends false (sym spent ∙ rw rest at same))
 
   -- the next trial may be made
   module _ {l : Listed} (g : s .ended ≡ false) (a : ListAnswer layout K table starts vehicles (take (s .words - 0) (drop 0 plan)) (s .count) (s .cursor) l) (f : l .found ≡ true) where
@@ -103,7 +92,7 @@ module _ {day : List ℕ} {layout : Layout} {K budget : ℕ} {table plan starts 
         }
 
 -- a trial that is listed, and what comes of it
-module _ {day : List ℕ} {K budget : ℕ} {plan starts vehicles distances tracks : List ℕ} {s : Search} {l : Listed} (ok : IsAccepted day)
+module _ {day : List ℕ} {K budget : ℕ} {plan starts vehicles distances tracks : List ℕ} {s : Search} (l : Listed) (ok : IsAccepted day)
     (h : NextTrial day K budget plan starts vehicles distances tracks s l) where
   pub trial-names : Names day (l .trial)
   trial-names = valid-names day (h .rounds) (l .trial) (accepted-ranges day ok .stopsMost) (h .mayBe)
@@ -113,7 +102,7 @@ module _ {day : List ℕ} {K budget : ℕ} {plan starts vehicles distances track
       let v = h .held .surveyed in
       record {
         measured = record {
-          trying = record { shaped = h .held .planAt .shaped; valid = h .mayBe; are = slice-is (h .held .planAt); starting = v .starting; table = v .startsSize };
+          trying = record { shaped = h .held .planAt .shaped; valid = h .mayBe; laid = record { text = slice-is (h .held .planAt); starting = v .starting } };
           tracked = h .held .tracked;
           driven = v .driven;
           measures = v .distancesSize;
@@ -129,78 +118,67 @@ module _ {day : List ℕ} {K budget : ℕ} {plan starts vehicles distances track
       → ((rounds : List Round) → Made day (take (s .words - 0) (drop 0 plan)) starts distances tracks (listedTrial (l .trial)) (s .count) (s .distance) rounds
       → TriedAs day (listedTrial (l .trial)) rounds work r)
       → AfterTrial day K budget work plan starts vehicles distances tracks s (l .next) r
-  after-made r y =
-      record {
-        rounds = h .rounds;
-        held = h .held;
-        drives = h .drives;
-        left = h .left;
-        m = listedTrial (l .trial);
-        ms = h .ms;
-        valid = h .valid;
-        mayBe = h .mayBe;
-        fits = h .fits;
-        triedAs = y (h .rounds) trial-made;
-        same = h .same;
-      }
+  after-made r y = record { m = listedTrial (l .trial); ahead = h; triedAs = y (h .rounds) trial-made }
 
 -- a trial was made
 module _ {day : List ℕ} {K budget : ℕ} {work plan starts vehicles distances tracks : List ℕ} {s : Search} {next : Cursor} {tried : Tried}
-    (h : AfterTrial day K budget work plan starts vehicles distances tracks s next tried) where
+    (after : AfterTrial day K budget work plan starts vehicles distances tracks s next tried) where
+  abbrev h : Ahead day K budget plan starts vehicles distances tracks s (after .m) next
+  h = after .ahead
+
   -- no plan is kept, and the list goes on
-  pub goes-on : (r : Search) → tried .kept ≡ false → r .words ≡ s .words → r .count ≡ s .count → r .distance ≡ s .distance → r .made ≡ s .made + 1 → r .cursor ≡ next → r .ended ≡ false
-      → Searching day K budget plan starts vehicles distances tracks r
-  goes-on r k w c d m n e =
+  pub goes-on : {r : Search} → tried .kept ≡ false → r ≡ goingOn (s .words) (s .count) (s .distance) (s .made + 1) next
+      → Searching day K budget plan starts vehicles distances tracks r × (s .made < r .made)
+  goes-on k e =
       let turn =
-      loop-none (trialList day K) (attempt day (greedyLefts day)) budget (h .rounds) (h .m) (restOf day K (h .rounds) next) (s .made) (h .left) (h .triedAs .none k) in
-      record {
-        rounds = h .rounds;
-        held = subst (λ (x : ℕ). TakenOver day plan x (h .rounds) starts vehicles distances tracks (r .count)) (sym w)
-            (subst (λ (x : ℕ). TakenOver day plan (s .words) (h .rounds) starts vehicles distances tracks x) (sym c) (h .held));
-        drives = d ∙ h .drives;
-        within = omega (arith, m, h .left);
-        going = λ _. record {
-          fits = rw (c, n) (h .fits);
-          valid = rw n (h .valid);
-          same = rw (m, n) (sym turn ∙ rw (h .ms) at (h .same));
-        };
-        done = λ y. absurd (true≢false (sym y ∙ e));
-      }
+      loop-none (trialList day K) (attempt day (greedyLefts day)) budget (h .rounds) (after .m) (restOf day K (h .rounds) next) (s .made) (h .left) (after .triedAs .none k) in
+      rw e (
+        record {
+          rounds = h .rounds;
+          held = h .held;
+          drives = h .drives;
+          within = omega (arith, h .left);
+          going = λ _. record { fits = h .fits; valid = h .valid; same = sym turn ∙ rw (h .ms) at (h .same) };
+          done = λ y. absurd (true≢false (sym y));
+        },
+        omega arith,
+      )
 
   -- the trial's plan, which is kept
   pub kept-plan : tried .kept ≡ true → SomePlanAt day work (tried .words)
   kept-plan k =
-      let a = h .triedAs .some k in
-      let given = attempt-kept day (greedyLefts day) (h .rounds) (h .m) (a .q) (a .is) .given in
+      let a = after .triedAs .some k in
+      let given = attempt-kept day (greedyLefts day) (h .rounds) (after .m) (a .q) (a .is) .given in
       record {
         rounds = a .q;
-        planAt = record { shaped = valid-shaped day (h .rounds) (a .q) (h .m) (h .held .planAt .shaped) (h .mayBe) given; fits = a .fits; text = a .text };
+        planAt = record { shaped = valid-shaped day (h .rounds) (a .q) (after .m) (h .held .planAt .shaped) (h .mayBe) given; fits = a .fits; text = a .text };
       }
 
-  pub keeps-plan : {now begins owners drives rows : List ℕ} {count : ℕ} (r : Search) (k : tried .kept ≡ true)
-      → TakesOver day work (tried .words) now begins owners drives rows count
-      → r .words ≡ tried .words → r .count ≡ count → r .distance ≡ tried .distance → r .made ≡ s .made + 1 → r .cursor ≡ listStart → r .ended ≡ false
-      → Searching day K budget now begins owners drives rows r
+  pub keeps-plan : {now begins owners drives rows : List ℕ} {count : ℕ} {r : Search} {first : Cursor} (k : tried .kept ≡ true)
+      → TakesOver day work (tried .words) now begins owners drives rows count → first ≡ listStart
+      → r ≡ goingOn (tried .words) count (tried .distance) (s .made + 1) first → Searching day K budget now begins owners drives rows r × (s .made < r .made)
   unfolding kept-plan
-  keeps-plan {now} {begins} {owners} {drives} {rows} r k f w c d m n e =
-      let a = h .triedAs .some k in
+  keeps-plan k f n e =
+      let a = after .triedAs .some k in
       let p = kept-plan k in
       let over = f (a .q) (p .planAt) in
       let turn =
-      loop-some (trialList day K) (attempt day (greedyLefts day)) budget (h .rounds) (a .q) (h .m) (restOf day K (h .rounds) next) (s .made) (h .left) (a .is) in
-      record {
-        rounds = a .q;
-        held = subst (λ (x : ℕ). TakenOver day now x (a .q) begins owners drives rows (r .count)) (sym w)
-            (subst (λ (x : ℕ). TakenOver day now (tried .words) (a .q) begins owners drives rows x) (sym c) over);
-        drives = d ∙ a .distance;
-        within = omega (arith, m, h .left);
-        going = λ _. record {
-          fits = rw (c, n) (start-fits (a .q) (over .surveyed));
-          valid = rw n (start-valid day (a .q) K (p .planAt .shaped));
-          same = rw (m, n, whole-list day K (a .q)) (sym turn ∙ rw (h .ms) at (h .same));
-        };
-        done = λ y. absurd (true≢false (sym y ∙ e));
-      }
+      loop-some (trialList day K) (attempt day (greedyLefts day)) budget (h .rounds) (a .q) (after .m) (restOf day K (h .rounds) next) (s .made) (h .left) (a .is) in
+      rw e (
+        record {
+          rounds = a .q;
+          held = over;
+          drives = a .distance;
+          within = omega (arith, h .left);
+          going = λ _. record {
+            fits = rw n (start-fits (a .q) (over .surveyed));
+            valid = rw n (start-valid day (a .q) K (p .planAt .shaped));
+            same = rw (n, whole-list day K (a .q)) (sym turn ∙ rw (h .ms) at (h .same));
+          };
+          done = λ y. absurd (true≢false (sym y));
+        },
+        omega arith,
+      )
 
 -- whether the search goes on
 pub is-on : {ended going : Bool} → going ≡ not ended → going ≡ true → ended ≡ false

@@ -1,7 +1,7 @@
 -- The search while it goes on, as the code has it. It serves the contracts of this crate's own functions. Assumes nothing.
 use Prim.Native.Nat.{ℕ, _-_, _≤_, _<_}
 use mathlib.Core.Path.{_≡_}
-use mathlib.Core.Bool.{true, false}
+use mathlib.Core.Bool.{Bool, true, false}
 use mathlib.Core.List.{List, _∷_, _++_}
 use lib.ListN.{length, take, replicate}
 use Rattle.rules.specs.Lists.{Every}
@@ -78,33 +78,37 @@ pub record Searching (day : List ℕ) (K budget : ℕ) (plan starts vehicles dis
   pub going : s .ended ≡ false → Going day K budget starts rounds s
   pub done : s .ended ≡ true → record { plan = rounds; trials = s .made; settled = s .settled } ≡ fromGreedy day K budget
 
--- a trial of the plan held is listed, and may be made
-pub record NextTrial (day : List ℕ) (K budget : ℕ) (plan starts vehicles distances tracks : List ℕ) (s : Search) (l : Listed) : Type 0 where
-  pub rounds : List Round
-  pub held : TakenOver day plan (s .words) rounds starts vehicles distances tracks (s .count)
-  pub drives : s .distance ≡ distanceOf day rounds
-  pub left : s .made < budget
-  pub ms : restOf day K rounds (s .cursor) ≡ listedTrial (l .trial) ∷ restOf day K rounds (l .next)
-  pub valid : Every (Valid day rounds) (restOf day K rounds (l .next))
-  pub mayBe : Valid day rounds (listedTrial (l .trial))
-  pub fits : CursorFits starts (s .count) (l .next)
-  pub same :
-      run (trialList day K) (attempt day (greedyLefts day)) (budget - s .made) rounds (restOf day K rounds (s .cursor)) (s .made) ≡ fromGreedy day K budget
+-- the search goes on with a plan held
+abbrev pub goingOn : (words count distance made : ℕ) → Cursor → Search
+goingOn words count distance made cursor =
+    record { words = words; count = count; distance = distance; made = made; cursor = cursor; ended = false; settled = false }
 
--- a trial of the plan held was made, and the list goes on behind it
-pub record AfterTrial (day : List ℕ) (K budget : ℕ) (work plan starts vehicles distances tracks : List ℕ) (s : Search) (next : Cursor) (tried : Tried) : Type 0 where
+-- the search has ended
+abbrev pub endedBy : Search → Bool → Search
+endedBy s settled =
+    record { words = s .words; count = s .count; distance = s .distance; made = s .made; cursor = s .cursor; ended = true; settled = settled }
+
+-- the trial m of the plan held is listed and may be made, and the list goes on behind it
+pub record Ahead (day : List ℕ) (K budget : ℕ) (plan starts vehicles distances tracks : List ℕ) (s : Search) (m : Trial) (next : Cursor) : Type 0 where
   pub rounds : List Round
   pub held : TakenOver day plan (s .words) rounds starts vehicles distances tracks (s .count)
   pub drives : s .distance ≡ distanceOf day rounds
   pub left : s .made < budget
-  pub m : Trial
   pub ms : restOf day K rounds (s .cursor) ≡ m ∷ restOf day K rounds next
   pub valid : Every (Valid day rounds) (restOf day K rounds next)
   pub mayBe : Valid day rounds m
   pub fits : CursorFits starts (s .count) next
-  pub triedAs : TriedAs day m rounds work tried
   pub same :
       run (trialList day K) (attempt day (greedyLefts day)) (budget - s .made) rounds (restOf day K rounds (s .cursor)) (s .made) ≡ fromGreedy day K budget
+
+abbrev pub NextTrial : List ℕ → ℕ → ℕ → List ℕ → List ℕ → List ℕ → List ℕ → List ℕ → Search → Listed → Type 0
+NextTrial day K budget plan starts vehicles distances tracks s l = Ahead day K budget plan starts vehicles distances tracks s (listedTrial (l .trial)) (l .next)
+
+-- such a trial was made
+pub record AfterTrial (day : List ℕ) (K budget : ℕ) (work plan starts vehicles distances tracks : List ℕ) (s : Search) (next : Cursor) (tried : Tried) : Type 0 where
+  pub m : Trial
+  pub ahead : Ahead day K budget plan starts vehicles distances tracks s m next
+  pub triedAs : TriedAs day m (ahead .rounds) work tried
 
 -- the greedy plan is held, and no trial is made yet
 abbrev pub BeginsAll : List ℕ → List ℕ → List ℕ → List ℕ → List ℕ → List ℕ → Search → Type 0

@@ -14,7 +14,7 @@ ghost use Rattle.walks.specs.Rewalks.{EditKnown, EditSmall};
 ghost use Rattle.trial_list.specs.Listing.{PlanTables, CursorFits, ListAnswer};
 ghost use Rattle.trial_list.specs.TrialRest.{listedTrial};
 ghost use Rattle.attempts.specs.Tries.{Made, SomeMade, TriedAs};
-ghost use Rattle.trials.specs.Searches.{PlanAt, SomePlanAt, TakesOver, AfterTrial, NextTrial, BeginsAll, Searching};
+ghost use Rattle.trials.specs.Searches.{PlanAt, SomePlanAt, TakesOver, AfterTrial, NextTrial, BeginsAll, Searching, endedBy, goingOn};
 use crate::held::Held;
 use crate::held::make_tables;
 use attempts::candidate::copy_words;
@@ -76,7 +76,7 @@ fn take_over(
 
 // The search has ended.
 fn end(s: Search, settled: bool) -> Search
-    ensures { λ r. ⌜ (r .words ≡ s .words) × (r .count ≡ s .count) × (r .distance ≡ s .distance) × (r .made ≡ s .made) × (r .ended ≡ true) × (r .settled ≡ settled) ⌝ }
+    ensures { λ r. ⌜ r ≡ endedBy s settled ⌝ }
 {
     let cursor = s.cursor;
     Search {
@@ -92,7 +92,7 @@ fn end(s: Search, settled: bool) -> Search
 
 // The search goes on with a plan held.
 fn going(words: usize, count: usize, distance: u32, made: u64, cursor: Cursor) -> Search
-    ensures { λ r. ⌜ (r .words ≡ words) × (r .count ≡ count) × (r .distance ≡ distance) × (r .made ≡ made) × (r .cursor ≡ cursor) × (r .ended ≡ false) ⌝ }
+    ensures { λ r. ⌜ r ≡ goingOn words count distance made cursor ⌝ }
 {
     Search {
         words,

@@ -1,13 +1,13 @@
 -- A vehicle while it is walked again: each task that is written keeps it standing, and its numbers small. Assumes nothing.
 use Prim.Native.Nat.{ℕ, _+_, _*_, _≤_, _<_}
 use mathlib.Core.Path.{_≡_, refl, sym, ap, _∙_, subst}
-use mathlib.Core.Bool.{true, false}
-use mathlib.Core.List.{List, [], _∷_, _++_, map, map-append, append-assoc}
+use mathlib.Core.Bool.{Bool, true, false}
+use mathlib.Core.List.{List, [], _∷_, _++_, map-append, append-assoc}
 use mathlib.Core.Option.{none, some}
 use native.Mathlib.Omega.{arith}
 use lib.ListN.{length, length-append, length-map, set}
 use borrow.Author.Tests.{ne-eqb}
-use Rattle.rules.specs.Fields.{stops, tips, stopPlace, quantity, IsAccepted}
+use Rattle.rules.specs.Fields.{stops, places, stopPlace, quantity, IsAccepted}
 use Rattle.rules.specs.PlanWords.{vehicleWord, stopWord, tipWord, restWord}
 use Rattle.rules.specs.Plan.{Task, serve, empty, lunch, Round, taskWord, stopsOn}
 use Rattle.rules.specs.Cargo.{cargoAfter}
@@ -17,38 +17,49 @@ use Rattle.rules.specs.Home.{due, restIfDue}
 use Rattle.rules.specs.Build.{Truck, doing, resting}
 use Rattle.rules.specs.WalkedAgain.{inserting}
 use Rattle.rules.specs.declared.walk.Trip.{Trip}
-use Rattle.laws.specs.Buffer.{Wrote}
 use Rattle.laws.proofs.Buffer.{wrote-put, wrote-same}
+use Rattle.day.specs.Layout.{LayoutOf}
+use Rattle.day.specs.declared.fields.Layout.{Layout}
 use Rattle.day.proofs.Ranges.{accepted-ranges}
+use Rattle.greedy_laws.specs.Rooms.{Paid}
 use Rattle.greedy_laws.specs.States.{SmallTrip}
 use Rattle.laws.proofs.Decided.{bit-most}
 use Rattle.greedy_laws.proofs.GreedyRoom.{paid-rest, paid-serve, paid-empty, tasks-counted}
-use Rattle.greedy_laws.proofs.VehicleStops.{stops-append}
-use Rattle.walks.specs.Cabs.{Modest, Riding, Start, Standing, Stands, failed, onRoad, SomeStanding, Drives}
+use Rattle.greedy_laws.proofs.VehicleStops.{stops-append, visits-task}
+use Rattle.walks.specs.Cabs.{Able, Riding, Start, Standing, Stands, failed, onRoad, Space, SomeStanding, Drives}
 use Rattle.walks.specs.declared.cabs.Cab.{Cab}
 
--- how many words there are, and that there is room for one more
-pub record Space (part : List ℕ) (at : ℕ) : Type 0 where
-  pub inside : at < length part
-  pub few : at ≤ 482
+-- a vehicle on its way has done few tasks, so the trip and the load that the code carries are small
+module _ {day : List ℕ} {most more : ℕ} {v : Truck} {c : Cab} (r : Riding day most more v c) where
+  riding-tasks : length (v .tasks) ≤ 2 * most + 1
+  riding-tasks =
+      let once = bit-most (v .trip .rested) in
+      omega (arith, tasks-counted (v .tasks), r .able .paid .tips, r .able .paid .rests, r .able .served, r .few)
 
--- a vehicle on its way has done few tasks
-riding-tasks : {day : List ℕ} {most more : ℕ} {v : Truck} {c : Cab} → Riding day most more v c → length (v .tasks) ≤ 2 * most + 1
-riding-tasks {v = v} r = let once = bit-most (v .trip .rested) in omega (arith, tasks-counted (v .tasks), r .paid .tips, r .paid .rests, r .served, r .few)
-
--- the trip and the load that the code carries are small
-module _ {day : List ℕ} {most more : ℕ} {v : Truck} {c : Cab} where
-  pub riding-trip : Riding day most more v c → SmallTrip day 2147483648 (c .trip)
-  riding-trip r =
+  pub riding-trip : SmallTrip day 2147483648 (c .trip)
+  riding-trip =
       subst (SmallTrip day 2147483648) (sym (r .tripIs))
       (record {
-        place = r .modest .place;
-        minute = omega (arith, r .modest .minute, riding-tasks r, r .limit);
-        distance = omega (arith, r .modest .distance, riding-tasks r, r .limit);
+        place = r .able .place;
+        minute = omega (arith, r .able .minute, riding-tasks, r .limit);
+        distance = omega (arith, r .able .distance, riding-tasks, r .limit);
       })
 
-  pub riding-load : Riding day most more v c → c .load < 134217728
-  riding-load r = omega (arith, r .loadIs, r .modest .load, riding-tasks r, r .limit)
+  riding-load : c .load < 134217728
+  riding-load = omega (arith, r .loadIs, r .able .load, riding-tasks, r .limit)
+
+-- it may serve as many stops or fewer
+pub standing-fewer : {day : List ℕ} {start : Start} {most more less : ℕ} {p part : List ℕ} {v : Truck} {c : Cab} → less ≤ more
+    → Standing day start most more p part v c → Standing day start most less p part v c
+standing-fewer l s =
+    let r = s .riding in
+    record {
+      riding = record { going = r .going; tripIs = r .tripIs; loadIs = r .loadIs; able = r .able; few = omega (arith, r .few); limit = r .limit };
+      since = s .since;
+      tasks = s .tasks;
+      text = s .text;
+      room = s .room;
+    }
 
 module _ {day : List ℕ} {start : Start} {most more : ℕ} {p part : List ℕ} {v : Truck} {c : Cab} where
   pub standing-space : Standing day start most more p part v c → Space part (c .at)
@@ -60,183 +71,99 @@ module _ {day : List ℕ} {start : Start} {most more : ℕ} {p part : List ℕ} 
         few = omega (arith, size, whole, s .text .count, riding-tasks (s .riding), s .riding .limit);
       }
 
-  pub standing-trip : Standing day start most more p part v c → SmallTrip day 2147483648 (c .trip)
-  standing-trip s = riding-trip (s .riding)
-
-  pub standing-load : Standing day start most more p part v c → c .load < 134217728
-  standing-load s = riding-load (s .riding)
-
--- it may serve as many stops or fewer
-pub riding-fewer : {day : List ℕ} {most more less : ℕ} {v : Truck} {c : Cab} → less ≤ more → Riding day most more v c → Riding day most less v c
-riding-fewer l r =
-    record {
-      going = r .going;
-      tripIs = r .tripIs;
-      loadIs = r .loadIs;
-      modest = r .modest;
-      paid = r .paid;
-      served = r .served;
-      few = omega (arith, r .few);
-      limit = r .limit;
-    }
-
-pub standing-fewer : {day : List ℕ} {start : Start} {most more less : ℕ} {p part : List ℕ} {v : Truck} {c : Cab} → less ≤ more
-    → Standing day start most more p part v c → Standing day start most less p part v c
-standing-fewer l s = record { riding = riding-fewer l (s .riding); since = s .since; tasks = s .tasks; text = s .text; room = s .room }
-
--- a word more
-task-written : (number : ℕ) {word : ℕ} {p part : List ℕ} {at : ℕ} (tasks : Round) (task : Task)
-    → Wrote (vehicleWord number ∷ map taskWord tasks) p part at → at < length part → word ≡ taskWord task
-    → Wrote (vehicleWord number ∷ map taskWord (tasks ++ (task ∷ []))) p (set part at word) (at + 1)
-task-written number {word} tasks task w l e =
-    wrote-same (wrote-put w word (omega (arith, w .size)))
-    (ap (λ (ws : List ℕ). vehicleWord number ∷ ws) (ap (λ (b : ℕ). map taskWord tasks ++ (b ∷ [])) e ∙ sym (map-append taskWord tasks (task ∷ []))))
-    refl
-
-module _ (day : List ℕ) (ok : IsAccepted day) (v : Truck) where
-  modest-rest : Modest day v → Modest day (doing day v lunch)
-  unfolding cargoAfter
-  modest-rest m =
-      let a = accepted-ranges day ok in
-      let l = length-append (v .tasks) (lunch ∷ []) in
+  -- as the code asks for it
+  pub some-standing : {least : ℕ} → least ≤ more → Standing day start most more p part v c → SomeStanding day least part c
+  some-standing l s =
       record {
-        place = m .place;
-        minute = omega (arith, m .minute, l, a .restMost);
-        distance = omega (arith, m .distance, l);
-        load = omega (arith, m .load, l);
+        start = start;
+        most = most;
+        more = more;
+        p = p;
+        v = v;
+        enough = l;
+        standing = s;
+        space = standing-space s;
+        trip = riding-trip (s .riding);
+        load = riding-load (s .riding);
       }
-
-  modest-empty : (x : ℕ) → 0 < x → x ≤ tips day → Modest day v → Modest day (doing day v (empty x))
-  unfolding cargoAfter
-  modest-empty x h k m =
-      let a = accepted-ranges day ok in
-      let l = length-append (v .tasks) (empty x ∷ []) in
-      record {
-        place = omega arith;
-        minute = omega (arith, m .minute, l, a .serviceMost x h (omega arith));
-        distance = omega (arith, m .distance, l);
-        load = omega arith;
-      }
-
-  modest-serve : (k : ℕ) → 0 < k → k ≤ stops day → Modest day v → Modest day (doing day v (serve k))
-  unfolding cargoAfter
-  modest-serve k h g m =
-      let a = accepted-ranges day ok in
-      let l = length-append (v .tasks) (serve k ∷ []) in
-      record {
-        place = omega arith;
-        minute = omega (arith, m .minute, l, a .serviceMost (stopPlace day k) (omega arith) (omega arith));
-        distance = omega (arith, m .distance, l);
-        load = omega (arith, m .load, l, a .quantityMost k h g);
-      }
-
--- a rest, a tip and a stop are written
-module _ {day : List ℕ} {start : Start} {most : ℕ} {p part : List ℕ} {v : Truck} {c : Cab} (ok : IsAccepted day) where
-  -- the words of one more task
-  standing-more : {more less : ℕ} (r : Cab) {now : List ℕ} {word : ℕ} (task : Task) (s : Standing day start most more p part v c)
-      → Riding day most less (doing day v task) r → r .at ≡ c .at + 1 → word ≡ taskWord task → now ≡ set part (c .at) word
-      → Standing day start most less p now (doing day v task) r
-  standing-more r {now} task s d n e w =
-      record {
-        riding = d;
-        since = s .since ++ (task ∷ []);
-        tasks = ap (λ (ts : Round). ts ++ (task ∷ [])) (s .tasks) ∙ append-assoc (start .done) (s .since) (task ∷ []);
-        text = subst (λ (b : List ℕ). Wrote (vehicleWord (start .number) ∷ map taskWord (s .since ++ (task ∷ []))) p b (r .at)) (sym w)
-            (wrote-same (task-written (start .number) (s .since) task (s .text) (standing-space s .inside) e) refl (sym n));
-        room = s .room;
-      }
-
-  pub standing-rest : {more : ℕ} (r : Cab) {now : List ℕ} → Standing day start most more p part v c → due day (v .trip) ≡ true
-      → r .stuck ≡ false → r .trip ≡ doing day v lunch .trip → r .load ≡ c .load → r .at ≡ c .at + 1 → now ≡ set part (c .at) (taskWord lunch)
-      → Standing day start most more p now (doing day v lunch) r
-  unfolding cargoAfter stopsOn
-  standing-rest r {now} s d g t l n w =
-      let b = s .riding in
-      standing-more r lunch s
-      (record {
-        going = g;
-        tripIs = t;
-        loadIs = l ∙ b .loadIs;
-        modest = modest-rest day ok v (b .modest);
-        paid = paid-rest day v d (b .paid);
-        served = omega (arith, b .served, ap length (stops-append (v .tasks) (lunch ∷ [])), length-append (stopsOn (v .tasks)) []);
-        few = b .few;
-        limit = b .limit;
-      })
-      n refl w
-
-  pub standing-empty : {more : ℕ} (r : Cab) {now : List ℕ} {word : ℕ} (x : ℕ) → Standing day start most more p part v c → 0 < c .load → 0 < x → x ≤ tips day
-      → r .stuck ≡ false → r .trip ≡ visited day (c .trip) x → r .load ≡ 0 → r .at ≡ c .at + 1 → word ≡ taskWord (empty x) → now ≡ set part (c .at) word
-      → Standing day start most more p now (doing day v (empty x)) r
-  unfolding cargoAfter stopsOn
-  standing-empty r {now} x s q h k g t l n e w =
-      let b = s .riding in
-      standing-more r (empty x) s
-      (record {
-        going = g;
-        tripIs = t ∙ ap (λ (u : Trip). visited day u x) (b .tripIs);
-        loadIs = l;
-        modest = modest-empty day ok v x h k (b .modest);
-        paid = paid-empty day v x (omega (arith, b .loadIs)) (b .paid);
-        served = omega (arith, b .served, ap length (stops-append (v .tasks) (empty x ∷ [])), length-append (stopsOn (v .tasks)) []);
-        few = b .few;
-        limit = b .limit;
-      })
-      n e w
-
-  pub standing-serve : {more : ℕ} (r : Cab) {now : List ℕ} {word q : ℕ} (k : ℕ) → Standing day start most (1 + more) p part v c → 0 < k → k ≤ stops day
-      → r .stuck ≡ false → r .trip ≡ visited day (c .trip) (stopPlace day k) → q ≡ quantity day (stopPlace day k) → r .load ≡ c .load + q
-      → r .at ≡ c .at + 1 → word ≡ taskWord (serve k) → now ≡ set part (c .at) word
-      → Standing day start most more p now (doing day v (serve k)) r
-  unfolding cargoAfter stopsOn
-  standing-serve r {now} k s h m g t q l n e w =
-      let b = s .riding in
-      standing-more r (serve k) s
-      (record {
-        going = g;
-        tripIs = t ∙ ap (λ (u : Trip). visited day u (stopPlace day k)) (b .tripIs);
-        loadIs = omega (arith, l, q, b .loadIs);
-        modest = modest-serve day ok v k h m (b .modest);
-        paid = paid-serve day v k (b .paid);
-        served = omega (arith, b .served, ap length (stops-append (v .tasks) (serve k ∷ [])), length-append (stopsOn (v .tasks)) (k ∷ []));
-        few = omega (arith, b .few);
-        limit = b .limit;
-      })
-      n e w
 
 -- a vehicle on its way is standing
 pub on-road : {day : List ℕ} {start : Start} {most more : ℕ} {p part : List ℕ} {v : Truck} {c : Cab} → Stands day start most more p part (some v) c
     → Standing day start most more p part v c
 on-road (onRoad v c s) = s
 
--- a rest is taken where one is due
-pub rest-drives : {day part now : List ℕ} (c r : Cab) → IsAccepted day → due day (c .trip) ≡ true → r .stuck ≡ false → r .trip ≡ restIfDue day (c .trip)
-    → r .load ≡ c .load → r .at ≡ c .at + 1 → now ≡ set part (c .at) restWord
-    → Drives day 0 part c (λ v. some (resting day v)) now r
-unfolding restIfDue resting taskWord
-rest-drives {day} {part} {now} c r ok d g t l n w start most more p v s =
-    let e : due day (v .trip) ≡ true = ap (due day) (sym (s .riding .tripIs)) ∙ d in
-    rw e (onRoad _ r (standing-rest ok r (standing-fewer (omega arith) s) e g (t ∙ rw (d, s .riding .tripIs) refl) l n w))
+-- one task more keeps a vehicle's numbers small
+able-doing : (day : List ℕ) (v : Truck) (task : Task) → Able day v → doing day v task .trip .place < places day
+    → doing day v task .trip .minute ≤ v .trip .minute + 8192 → doing day v task .trip .distance ≤ v .trip .distance + 65535
+    → doing day v task .cargo .load ≤ v .cargo .load + 131072 → Paid (doing day v task) → Able day (doing day v task)
+able-doing day v task a place minute distance load paid =
+    let tasks = length-append (v .tasks) (task ∷ []) in
+    let stops = ap length (stops-append (v .tasks) (task ∷ [])) in
+    record {
+      place = place;
+      minute = omega (arith, a .minute, tasks);
+      distance = omega (arith, a .distance, tasks);
+      load = omega (arith, a .load, tasks);
+      paid = paid;
+      served = omega (arith, a .served, visits-task day (v .cargo) task, stops, length-append (stopsOn (v .tasks)) (stopsOn (task ∷ [])));
+    }
 
-pub keep-drives : {day part : List ℕ} (c : Cab) → due day (c .trip) ≡ false → Drives day 0 part c (λ v. some (resting day v)) part c
-unfolding resting
-keep-drives {day} c d start most more p v s =
-    let e : due day (v .trip) ≡ false = ap (due day) (sym (s .riding .tripIs)) ∙ d in
-    rw e (onRoad v c (standing-fewer (omega arith) s))
+-- a task done behind the others: its word is written, and the code carries the trip and the load
+abbrev drove : Cab → Trip → ℕ → Cab
+drove c trip load = record { trip = trip; load = load; at = c .at + 1; stuck = false }
+
+module _ {day : List ℕ} {start : Start} {most more less : ℕ} {p part : List ℕ} {v : Truck} {c : Cab} (s : Standing day start most more p part v c) where
+  stands-more : (task : Task) {trip : Trip} {load : ℕ} → trip ≡ doing day v task .trip → load ≡ doing day v task .cargo .load
+      → Able day (doing day v task) → doing day v task .cargo .visits + less ≤ most
+      → Stands day start most less p (set part (c .at) (taskWord task)) (some (doing day v task)) (drove c trip load)
+  stands-more task t l a few =
+      let written = wrote-put (s .text) (taskWord task) (omega (arith, standing-space s .inside, s .text .size)) in
+      onRoad _ _ (record {
+        riding = record { going = refl; tripIs = t; loadIs = l; able = a; few = few; limit = s .riding .limit };
+        since = s .since ++ (task ∷ []);
+        tasks = ap (λ (ts : Round). ts ++ (task ∷ [])) (s .tasks) ∙ append-assoc (start .done) (s .since) (task ∷ []);
+        text = wrote-same written (ap (λ (ws : List ℕ). vehicleWord (start .number) ∷ ws) (sym (map-append taskWord (s .since) (task ∷ [])))) refl;
+        room = s .room;
+      })
+
+-- a rest is taken where one is due
+module _ {day part : List ℕ} (c : Cab) {isDue : Bool} (decided : isDue ≡ due day (c .trip)) where
+  pub rest-drives : {trip : Trip} → IsAccepted day → isDue ≡ true → trip ≡ restIfDue day (c .trip)
+      → Drives day 0 part c (λ v. some (resting day v)) (set part (c .at) restWord) (drove c trip (c .load))
+  unfolding restIfDue resting taskWord cargoAfter
+  rest-drives ok y t start most more p v s =
+      let r = s .riding in
+      let d : due day (c .trip) ≡ true = sym decided ∙ y in
+      let e : due day (v .trip) ≡ true = ap (due day) (sym (r .tripIs)) ∙ d in
+      let able = able-doing day v lunch (r .able) (r .able .place) (omega (arith, accepted-ranges day ok .restMost)) (omega arith) (omega arith) (paid-rest day v e (r .able .paid)) in
+      rw e (stands-more s lunch (t ∙ rw (d, r .tripIs) refl) (r .loadIs) able (omega (arith, r .few)))
+
+  pub keep-drives : isDue ≡ false → Drives day 0 part c (λ v. some (resting day v)) part c
+  unfolding resting
+  keep-drives n start most more p v s =
+      let e : due day (v .trip) ≡ false = ap (due day) (sym (s .riding .tripIs)) ∙ sym decided ∙ n in
+      rw e (onRoad v c (standing-fewer (omega arith) s))
 
 -- the load is emptied at a tip, and a stop is served
-pub empty-drives : {day part now : List ℕ} (c r : Cab) {word : ℕ} (x : ℕ) → IsAccepted day → 0 < c .load → 0 < x → x ≤ tips day → r .stuck ≡ false
-    → r .trip ≡ visited day (c .trip) x → r .load ≡ 0 → r .at ≡ c .at + 1 → word ≡ tipWord x → now ≡ set part (c .at) word
-    → Drives day 0 part c (λ v. some (doing day v (empty x))) now r
-unfolding taskWord
-empty-drives c r x ok q h k g t l n e w start most more p v s = onRoad _ r (standing-empty ok r x (standing-fewer (omega arith) s) q h k g t l n e w)
+module _ {day part : List ℕ} {layout : Layout} (c : Cab) (laid : LayoutOf day layout) (ok : IsAccepted day) where
+  pub empty-drives : (x : ℕ) {trip : Trip} → 0 < c .load → 0 < x → x ≤ layout .tips → trip ≡ visited day (c .trip) x
+      → Drives day 0 part c (λ v. some (doing day v (empty x))) (set part (c .at) (tipWord x)) (drove c trip 0)
+  unfolding taskWord cargoAfter
+  empty-drives x q h k t start most more p v s =
+      let r = s .riding in
+      let service = accepted-ranges day ok .serviceMost x h (omega (arith, laid .tipsAre)) in
+      let able = able-doing day v (empty x) (r .able) (omega (arith, laid .tipsAre)) (omega (arith, service)) (omega arith) (omega arith) (paid-empty day v x (omega (arith, r .loadIs)) (r .able .paid)) in
+      stands-more s (empty x) (t ∙ ap (λ (u : Trip). visited day u x) (r .tripIs)) refl able (omega (arith, r .few))
 
-pub serve-drives : {day part now : List ℕ} (c r : Cab) {word q : ℕ} (k : ℕ) → IsAccepted day → 0 < k → k ≤ stops day → r .stuck ≡ false
-    → r .trip ≡ visited day (c .trip) (stopPlace day k) → q ≡ quantity day (stopPlace day k) → r .load ≡ c .load + q → r .at ≡ c .at + 1
-    → word ≡ stopWord k → now ≡ set part (c .at) word
-    → Drives day 1 part c (λ v. some (doing day v (serve k))) now r
-unfolding taskWord
-serve-drives c r k ok h b g t q l n e w start most more p v s = onRoad _ r (standing-serve ok r k s h b g t q l n e w)
+  pub serve-drives : (k : ℕ) {trip : Trip} {kg : ℕ} → 0 < k → k ≤ layout .stops → trip ≡ visited day (c .trip) (stopPlace day k)
+      → kg ≡ quantity day (stopPlace day k) → Drives day 1 part c (λ v. some (doing day v (serve k))) (set part (c .at) (stopWord k)) (drove c trip (c .load + kg))
+  unfolding taskWord cargoAfter
+  serve-drives k h b t q start most more p v s =
+      let r = s .riding in
+      let ranges = accepted-ranges day ok in
+      let within : k ≤ stops day = omega (arith, laid .stopsAre) in
+      let able = able-doing day v (serve k) (r .able) (omega arith) (omega (arith, ranges .serviceMost (stopPlace day k) (omega arith) (omega arith))) (omega arith) (omega (arith, ranges .quantityMost k h within)) (paid-serve day v k (r .able .paid)) in
+      stands-more s (serve k) (t ∙ ap (λ (u : Trip). visited day u (stopPlace day k)) (r .tripIs)) (omega (arith, q, r .loadIs)) able (omega (arith, r .few))
 
 -- the nearest tip is inserted: there is none, or it is driven to and a rest taken where one is due
 pub insert-fails : {day part : List ℕ} (c r : Cab) {x : ℕ} → x ≡ nearestTip day (c .trip .place) (c .trip .minute) → x ≡ 0 → r .stuck ≡ true
@@ -254,15 +181,13 @@ insert-drives {day} c e r {x} q z f g start most more p v s =
     let n : nearestTip day (v .trip .place) (v .trip .minute) ≡ x = ap (λ (t : Trip). nearestTip day (t .place) (t .minute)) (sym (s .riding .tripIs)) ∙ sym q in
     rw (n, ne-eqb x 0 z) (g start most more p _ (standing-fewer (omega arith) (on-road (f start most more p v s))))
 
--- there is still a vehicle behind a task that is done
-pub some-still : {day part now : List ℕ} {c e : Cab} {least : ℕ} (f : Truck → Truck) → SomeStanding day least part c
-    → Drives day 0 part c (λ v. some (f v)) now e → SomeStanding day least now e
-some-still {least = least} f s d =
-    record {
-      start = s .start;
-      most = s .most;
-      more = s .more;
-      p = s .p;
-      v = f (s .v);
-      standing = on-road (d (s .start) (s .most) (least + s .more) (s .p) (s .v) (standing-fewer (omega arith) (s .standing)));
-    }
+-- there is still a vehicle behind a rest, and behind a tip
+module _ {day part now : List ℕ} {c e : Cab} {least : ℕ} (s : SomeStanding day least part c) where
+  some-still : (f : Truck → Truck) → Drives day 0 part c (λ v. some (f v)) now e → SomeStanding day least now e
+  some-still f d = some-standing (s .enough) (on-road (d (s .start) (s .most) (s .more) (s .p) (s .v) (standing-fewer (omega arith) (s .standing))))
+
+  pub some-rested : Drives day 0 part c (λ v. some (resting day v)) now e → SomeStanding day least now e
+  some-rested = some-still (resting day)
+
+  pub some-emptied : (x : ℕ) → Drives day 0 part c (λ v. some (doing day v (empty x))) now e → SomeStanding day least now e
+  some-emptied x = some-still (λ v. doing day v (empty x))

@@ -1,8 +1,8 @@
 -- What a word becomes under an edit is what its task becomes. Assumes nothing.
 use Prim.Native.Nat.{ℕ, _+_, _≤_, _<_}
-use mathlib.Core.Path.{_≡_, refl, sym, ap, _∙_, subst}
+use mathlib.Core.Path.{_≡_, refl, sym, ap, _∙_}
 use mathlib.Core.Bool.{true, false, _&&_}
-use mathlib.Core.List.{List, [], _∷_}
+use mathlib.Core.List.{List, [], _∷_, append-nil}
 use mathlib.Core.Logic.{inl, inr}
 use native.Mathlib.Omega.{arith}
 use lib.Dec.{eqb, leb}
@@ -10,7 +10,7 @@ use borrow.Author.Tests.{eq-eqb, ne-eqb, le-leb, lt-leb, eqb-true, eqb-false}
 use Rattle.rules.specs.Tests.{if_then_else_}
 use Rattle.rules.specs.Fields.{stops}
 use Rattle.rules.specs.PlanWords.{stopWord, tipWord, restWord}
-use Rattle.rules.specs.Plan.{Task, serve, empty, lunch, taskWord, Known}
+use Rattle.rules.specs.Plan.{Task, serve, empty, lunch, Round, taskWord, Known}
 use Rattle.rules.specs.Edits.{Edit, before, after, swap, remove, replace, changeStop, changeTip, change}
 use Rattle.laws.proofs.Decided.{known}
 use Rattle.walks.specs.Rewalks.{Means, nothing, aStop, aTip, Becomes}
@@ -39,19 +39,14 @@ rest-off day e t w (serve k) q n r = absurd (omega (arith, q, r, n .1))
 rest-off day e t w (empty x) q n r = absurd (omega (arith, q, r, n .1))
 rest-off day e t w lunch q n r = record { one = []; two = []; oneIs = nothing; twoIs = nothing; same = refl }
 
--- a task that stays as it is
-stays : {day : List ℕ} {e : Edit} {t : ℕ} {task : Task} {first second : ℕ} → Means day first (task ∷ []) → second ≡ 0 → change e t task ≡ task ∷ []
-    → Becomes day e t task first second
-stays {day} {e} {t} {task} {first} m z q = record { one = task ∷ []; two = []; oneIs = m; twoIs = subst (λ (x : ℕ). Means day x []) (sym z) nothing; same = sym q }
+-- a word means what an equal one means
+means-as : {day : List ℕ} {ts : Round} {first w : ℕ} → first ≡ w → Means day w ts → Means day first ts
+means-as e m = rw e m
 
--- a task that becomes one other
-turns : {day : List ℕ} {e : Edit} {t : ℕ} {task : Task} {first second : ℕ} (other : Task) → Means day first (other ∷ []) → second ≡ 0 → change e t task ≡ other ∷ []
+-- a task that becomes these, told by one word
+becomes : {day : List ℕ} {e : Edit} {t : ℕ} {task : Task} {first second : ℕ} (ts : Round) → Means day first ts → second ≡ 0 → change e t task ≡ ts
     → Becomes day e t task first second
-turns {day} other m z q = record { one = other ∷ []; two = []; oneIs = m; twoIs = subst (λ (x : ℕ). Means day x []) (sym z) nothing; same = sym q }
-
--- a task that is dropped
-drops : {day : List ℕ} {e : Edit} {t : ℕ} {task : Task} {first second : ℕ} → first ≡ 0 → second ≡ 0 → change e t task ≡ [] → Becomes day e t task first second
-drops {day} y z q = record { one = []; two = []; oneIs = subst (λ (x : ℕ). Means day x []) (sym y) nothing; twoIs = subst (λ (x : ℕ). Means day x []) (sym z) nothing; same = sym q }
+becomes ts m z q = record { one = ts; two = []; oneIs = m; twoIs = means-as z nothing; same = append-nil ts ∙ sym q }
 
 -- no tip's word is a stop's
 tip-no-stop : (day : List ℕ) (x j : ℕ) → Known day (serve j) → eqb (tipWord x) (stopWord j) ≡ false
@@ -70,16 +65,16 @@ module _ (day : List ℕ) (e : Edit) (i j one two t w : ℕ) {first second : ℕ
       let h : eqb w (stopWord j) ≡ eqb k j = rw q (same-number (stopWord 0) k j) in
       let l : eqb w (stopWord i) ≡ eqb k i = rw q (same-number (stopWord 0) k i) in
       elim (known (eqb k j)) [
-        | inl a ↦ drops (f ∙ rw (h, a) refl) (g ∙ rw (h, a) refl) (moves k ∙ rw a refl)
+        | inl a ↦ becomes [] (means-as (f ∙ rw (h, a) refl) nothing) (g ∙ rw (h, a) refl) (moves k ∙ rw a refl)
         | inr a ↦ elim (known (eqb k i)) [
           | inl b ↦ record {
             one = serve one ∷ [];
             two = serve two ∷ [];
-            oneIs = subst (λ (x : ℕ). Means day x (serve one ∷ [])) (sym (f ∙ rw (h, a, l, b) refl)) (aStop one oneIs);
-            twoIs = subst (λ (x : ℕ). Means day x (serve two ∷ [])) (sym (g ∙ rw (h, a, l, b) refl)) (aStop two twoIs);
+            oneIs = means-as (f ∙ rw (h, a, l, b) refl) (aStop one oneIs);
+            twoIs = means-as (g ∙ rw (h, a, l, b) refl) (aStop two twoIs);
             same = sym (moves k ∙ rw (a, b) refl);
           }
-          | inr b ↦ stays (subst (λ (x : ℕ). Means day x (serve k ∷ [])) (sym (f ∙ rw (h, a, l, b) q)) (aStop k n)) (g ∙ rw (h, a, l, b) refl) (moves k ∙ rw (a, b) refl)
+          | inr b ↦ becomes (serve k ∷ []) (means-as (f ∙ rw (h, a, l, b) q) (aStop k n)) (g ∙ rw (h, a, l, b) refl) (moves k ∙ rw (a, b) refl)
         ]
       ]
 
@@ -88,7 +83,7 @@ module _ (day : List ℕ) (e : Edit) (i j one two t w : ℕ) {first second : ℕ
   moved-tip x q n =
       let h : eqb w (stopWord j) ≡ false = rw q (tip-no-stop day x j jIs) in
       let l : eqb w (stopWord i) ≡ false = rw q (tip-no-stop day x i iIs) in
-      stays (subst (λ (y : ℕ). Means day y (empty x ∷ [])) (sym (f ∙ rw (h, l) q)) (aTip x n)) (g ∙ rw (h, l) refl) (stands x)
+      becomes (empty x ∷ []) (means-as (f ∙ rw (h, l) q) (aTip x n)) (g ∙ rw (h, l) refl) (stands x)
 
   pub moved : (task : Task) → (w ≡ restWord → ⊥) → w ≡ taskWord task → Known day task → Becomes day e t task first second
   unfolding taskWord
@@ -105,15 +100,15 @@ module _ (day : List ℕ) (i j t w : ℕ) {first second : ℕ} (iIs : Known day 
   swapped (empty x) r q n =
       let h : eqb w (stopWord j) ≡ false = rw q (tip-no-stop day x j jIs) in
       let l : eqb w (stopWord i) ≡ false = rw q (tip-no-stop day x i iIs) in
-      stays (subst (λ (y : ℕ). Means day y (empty x ∷ [])) (sym (f ∙ rw (l, h) q)) (aTip x n)) g refl
+      becomes (empty x ∷ []) (means-as (f ∙ rw (l, h) q) (aTip x n)) g refl
   swapped (serve k) r q n =
       let h : eqb w (stopWord j) ≡ eqb k j = rw q (same-number (stopWord 0) k j) in
       let l : eqb w (stopWord i) ≡ eqb k i = rw q (same-number (stopWord 0) k i) in
       elim (known (eqb k i)) [
-        | inl a ↦ turns (serve j) (subst (λ (x : ℕ). Means day x (serve j ∷ [])) (sym (f ∙ rw (l, a) refl)) (aStop j jIs)) g (rw a refl)
+        | inl a ↦ becomes (serve j ∷ []) (means-as (f ∙ rw (l, a) refl) (aStop j jIs)) g (rw a refl)
         | inr a ↦ elim (known (eqb k j)) [
-          | inl b ↦ turns (serve i) (subst (λ (x : ℕ). Means day x (serve i ∷ [])) (sym (f ∙ rw (l, a, h, b) refl)) (aStop i iIs)) g (rw (a, b) refl)
-          | inr b ↦ stays (subst (λ (x : ℕ). Means day x (serve k ∷ [])) (sym (f ∙ rw (l, a, h, b) q)) (aStop k n)) g (rw (a, b) refl)
+          | inl b ↦ becomes (serve i ∷ []) (means-as (f ∙ rw (l, a, h, b) refl) (aStop i iIs)) g (rw (a, b) refl)
+          | inr b ↦ becomes (serve k ∷ []) (means-as (f ∙ rw (l, a, h, b) q) (aStop k n)) g (rw (a, b) refl)
         ]
       ]
 
@@ -129,24 +124,24 @@ module _ (day : List ℕ) (at t w other : ℕ) {first second : ℕ} (f : first �
   above : (x : ℕ) → w ≡ tipWord x → first ≡ (if eqb t at then other else w)
   above x q = let h : leb (tipWord 0) w ≡ true = le-leb (tipWord 0) w (omega (arith, q)) in elim (known (eqb t at)) [ inl a ↦ f ∙ rw (a, h) refl | inr a ↦ f ∙ rw a refl ]
 
-  pub removed : other ≡ 0 → (task : Task) → (w ≡ restWord → ⊥) → w ≡ taskWord task → Known day task → Becomes day (remove at) t task first second
-  unfolding taskWord change changeStop changeTip
-  removed z lunch r q n = absurd (r q)
-  removed z (serve k) r q n = stays (subst (λ (y : ℕ). Means day y (serve k ∷ [])) (sym (below k q n ∙ q)) (aStop k n)) g refl
-  removed z (empty x) r q n = elim (known (eqb t at)) [
-    | inl a ↦ drops (above x q ∙ rw a z) g (rw a refl)
-    | inr a ↦ stays (subst (λ (y : ℕ). Means day y (empty x ∷ [])) (sym (above x q ∙ rw a q)) (aTip x n)) g (rw a refl)
+  tipped : (e : Edit) (ts : Round) → ((k : ℕ) → changeStop e k ≡ serve k ∷ []) → ((x : ℕ) → changeTip e t x ≡ (if eqb t at then ts else empty x ∷ [])) → Means day other ts
+      → (task : Task) → (w ≡ restWord → ⊥) → w ≡ taskWord task → Known day task → Becomes day e t task first second
+  unfolding taskWord change
+  tipped e ts stops tips m lunch r q n = absurd (r q)
+  tipped e ts stops tips m (serve k) r q n = becomes (serve k ∷ []) (means-as (below k q n ∙ q) (aStop k n)) g (stops k)
+  tipped e ts stops tips m (empty x) r q n = elim (known (eqb t at)) [
+    | inl a ↦ becomes ts (means-as (above x q ∙ rw a refl) m) g (tips x ∙ rw a refl)
+    | inr a ↦ becomes (empty x ∷ []) (means-as (above x q ∙ rw a q) (aTip x n)) g (tips x ∙ rw a refl)
   ]
+
+  pub removed : other ≡ 0 → (task : Task) → (w ≡ restWord → ⊥) → w ≡ taskWord task → Known day task → Becomes day (remove at) t task first second
+  unfolding changeStop changeTip
+  removed z = tipped (remove at) [] (λ k. refl) (λ x. refl) (means-as z nothing)
 
   pub replaced : (y : ℕ) → other ≡ tipWord y → Known day (empty y) → (task : Task) → (w ≡ restWord → ⊥) → w ≡ taskWord task → Known day task
       → Becomes day (replace at y) t task first second
-  unfolding taskWord change changeStop changeTip
-  replaced y z m lunch r q n = absurd (r q)
-  replaced y z m (serve k) r q n = stays (subst (λ (x : ℕ). Means day x (serve k ∷ [])) (sym (below k q n ∙ q)) (aStop k n)) g refl
-  replaced y z m (empty x) r q n = elim (known (eqb t at)) [
-    | inl a ↦ turns (empty y) (subst (λ (v : ℕ). Means day v (empty y ∷ [])) (sym (above x q ∙ rw a z)) (aTip y m)) g (rw a refl)
-    | inr a ↦ stays (subst (λ (v : ℕ). Means day v (empty x ∷ [])) (sym (above x q ∙ rw a q)) (aTip x n)) g (rw a refl)
-  ]
+  unfolding changeStop changeTip
+  replaced y z m = tipped (replace at y) (empty y ∷ []) (λ k. refl) (λ x. refl) (means-as z (aTip y m))
 
 -- a stop moved just before another, and just after
 module _ (day : List ℕ) (i j t w : ℕ) {first second : ℕ} (iIs : Known day (serve i)) (jIs : Known day (serve j)) where

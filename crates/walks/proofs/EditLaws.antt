@@ -16,6 +16,7 @@ use Rattle.laws.proofs.Fresh.{every-append}
 use Rattle.laws.proofs.Decided.{known}
 use Rattle.greedy_laws.proofs.GreedyForm.{times-append}
 use Rattle.greedy_laws.proofs.VehicleStops.{stops-append}
+use Rattle.walks.specs.Rewalks.{Named}
 
 -- which stop stands where a stop stood: an interchange renames two, any other edit none
 unfoldable pub renamed : Edit → ℕ → ℕ
@@ -24,14 +25,6 @@ renamed (after i j) k = k
 renamed (swap i j) k = if eqb k i then j else if eqb k j then i else k
 renamed (remove at) k = k
 renamed (replace at x) k = k
-
--- the numbers in an edit are the day's
-unfoldable pub Named : List ℕ → Edit → Type 0
-Named day (before i j) = Known day (serve i) × Known day (serve j)
-Named day (after i j) = Known day (serve i) × Known day (serve j)
-Named day (swap i j) = Known day (serve i) × Known day (serve j)
-Named day (remove at) = Unit {0}
-Named day (replace at x) = Known day (empty x)
 
 -- what an edit of a vehicle's tasks keeps
 pub record Suits (day : List ℕ) (e : Edit) (tasks : Round) : Type 0 where
@@ -90,7 +83,7 @@ module _ (e : Edit) where
 
 -- the numbers stay the day's
 stop-known : (day : List ℕ) (e : Edit) (x : ℕ) → Named day e → Known day (serve x) → Every (Known day) (changeStop e x)
-unfolding changeStop Named Every
+unfolding changeStop Every
 stop-known day (before i j) x n h = elim (known (eqb x j)) [
   | inl a ↦ rw a tt
   | inr a ↦ elim (known (eqb x i)) [ inl b ↦ rw (a, b) (n .1, (n .0, tt)) | inr b ↦ rw (a, b) (h, tt) ]
@@ -107,7 +100,7 @@ stop-known day (remove at) x n h = (h, tt)
 stop-known day (replace at y) x n h = (h, tt)
 
 tip-known : (day : List ℕ) (e : Edit) (t y : ℕ) → Named day e → Known day (empty y) → Every (Known day) (changeTip e t y)
-unfolding changeTip Named Every
+unfolding changeTip Every
 tip-known day (before i j) t y n h = (h, tt)
 tip-known day (after i j) t y n h = (h, tt)
 tip-known day (swap i j) t y n h = (h, tt)

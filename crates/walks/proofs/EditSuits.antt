@@ -15,57 +15,35 @@ use Rattle.rules.specs.Lists.{Every, times}
 use Rattle.rules.specs.Plan.{serve, empty, Round, stopsOn, Known}
 use Rattle.rules.specs.Edits.{Edit, before, after, swap, remove, replace, changeStop}
 use Rattle.laws.proofs.Decided.{known}
-use Rattle.walks.proofs.EditLaws.{renamed, Named, Suits, times-all, length-all, changed-known, move-same, move-count}
+use Rattle.walks.specs.Rewalks.{Named}
+use Rattle.walks.proofs.EditLaws.{renamed, Suits, times-all, length-all, changed-known, move-same, move-count}
 
 module _ (day : List ℕ) (tasks : Round) (h : Every (Known day) tasks) where
-  module _ (i j : ℕ) (apart : i ≡ j → ⊥) (n : Known day (serve i) × Known day (serve j)) (e : times i (stopsOn tasks) ≡ times j (stopsOn tasks)) where
-    -- "j moved just before i"
-    gone-before : stopsOn (changeStop (before i j) j) ≡ []
-    unfolding changeStop stopsOn
-    gone-before = rw (eq-eqb j j refl) refl
-
-    there-before : stopsOn (changeStop (before i j) i) ≡ j ∷ i ∷ []
-    unfolding changeStop stopsOn
-    there-before = rw (ne-eqb i j apart, eq-eqb i i refl) refl
-
-    other-before : (x : ℕ) → (x ≡ j → ⊥) → (x ≡ i → ⊥) → stopsOn (changeStop (before i j) x) ≡ x ∷ []
-    unfolding changeStop stopsOn
-    other-before x a b = rw (ne-eqb x j a, ne-eqb x i b) refl
-
-    pub suits-before : Suits day (before i j) tasks
-    unfolding renamed Named
-    suits-before =
+  module _ (i j : ℕ) (apart : i ≡ j → ⊥) (n : Known day (serve i) × Known day (serve j)) (q : times i (stopsOn tasks) ≡ times j (stopsOn tasks)) where
+    -- j moved to i, the pair in either order
+    moved : (e : Edit) (pair : Round) → Named day e → ((x : ℕ) → changeStop e x ≡ (if eqb x j then [] else if eqb x i then pair else serve x ∷ []))
+        → ((k : ℕ) → times k (stopsOn pair) ≡ times k (j ∷ i ∷ [])) → length (stopsOn pair) ≡ 2 → ((k : ℕ) → renamed e k ≡ k) → Suits day e tasks
+    unfolding stopsOn
+    moved e pair m is there two keeps =
+        let gone : changeStop e j ≡ [] = is j ∙ rw (eq-eqb j j refl) refl in
+        let here : changeStop e i ≡ pair = is i ∙ rw (ne-eqb i j apart, eq-eqb i i refl) refl in
+        let other : (x : ℕ) → (x ≡ j → ⊥) → (x ≡ i → ⊥) → stopsOn (changeStop e x) ≡ x ∷ [] = λ x a b. rw (is x, ne-eqb x j a, ne-eqb x i b) refl in
+        let times-here : (k : ℕ) → times k (stopsOn (changeStop e i)) ≡ times k (j ∷ i ∷ []) = λ k. ap (λ (ts : Round). times k (stopsOn ts)) here ∙ there k in
+        let many = ap (λ (ts : Round). length (stopsOn ts)) here ∙ two in
         record {
-          known = changed-known day (before i j) 0 tasks n h;
-          count = move-count (before i j) i j apart gone-before (λ k. ap (times k) there-before) (ap length there-before) other-before tasks e;
-          same = move-same (before i j) i j apart gone-before (λ k. ap (times k) there-before) (ap length there-before) other-before tasks e;
+          known = changed-known day e 0 tasks m h;
+          count = move-count e i j apart (ap stopsOn gone) times-here many other tasks q;
+          same = λ k. move-same e i j apart (ap stopsOn gone) times-here many other tasks q k ∙ ap (λ (n : ℕ). times n (stopsOn tasks)) (sym (keeps k));
         }
 
-    -- "then just after"
-    gone-after : stopsOn (changeStop (after i j) j) ≡ []
-    unfolding changeStop stopsOn
-    gone-after = rw (eq-eqb j j refl) refl
-
-    there-after : stopsOn (changeStop (after i j) i) ≡ i ∷ j ∷ []
-    unfolding changeStop stopsOn
-    there-after = rw (ne-eqb i j apart, eq-eqb i i refl) refl
-
-    there-times : (k : ℕ) → times k (stopsOn (changeStop (after i j) i)) ≡ times k (j ∷ i ∷ [])
-    unfolding times
-    there-times k = rw there-after (omega arith)
-
-    other-after : (x : ℕ) → (x ≡ j → ⊥) → (x ≡ i → ⊥) → stopsOn (changeStop (after i j) x) ≡ x ∷ []
-    unfolding changeStop stopsOn
-    other-after x a b = rw (ne-eqb x j a, ne-eqb x i b) refl
+    -- "j moved just before i", "then just after"
+    pub suits-before : Suits day (before i j) tasks
+    unfolding changeStop renamed stopsOn
+    suits-before = moved (before i j) (serve j ∷ serve i ∷ []) n (λ x. refl) (λ k. refl) refl (λ k. refl)
 
     pub suits-after : Suits day (after i j) tasks
-    unfolding renamed Named
-    suits-after =
-        record {
-          known = changed-known day (after i j) 0 tasks n h;
-          count = move-count (after i j) i j apart gone-after there-times (ap length there-after) other-after tasks e;
-          same = move-same (after i j) i j apart gone-after there-times (ap length there-after) other-after tasks e;
-        }
+    unfolding changeStop renamed stopsOn times
+    suits-after = moved (after i j) (serve i ∷ serve j ∷ []) n (λ x. refl) (λ k. omega arith) refl (λ k. refl)
 
   -- an edit that puts one stop for each: it is the renamed one, and renaming twice is none
   module _ (e : Edit) (n : Named day e) (one : (x : ℕ) → stopsOn (changeStop e x) ≡ renamed e x ∷ []) (twice : (x : ℕ) → renamed e (renamed e x) ≡ x) where
@@ -111,16 +89,15 @@ module _ (day : List ℕ) (tasks : Round) (h : Every (Known day) tasks) where
   ]
 
   pub suits-swap : (i j : ℕ) → (i ≡ j → ⊥) → Known day (serve i) × Known day (serve j) → Suits day (swap i j) tasks
-  unfolding Named
   suits-swap i j apart n = suits-one (swap i j) n (swap-one i j) (λ x. swap-twice i j x apart)
 
   -- a C "removed", or "replaced by" another tip
   pub suits-remove : (at : ℕ) → Suits day (remove at) tasks
-  unfolding Named changeStop renamed stopsOn
+  unfolding changeStop renamed stopsOn
   suits-remove at = suits-one (remove at) tt (λ x. refl) (λ x. refl)
 
   pub suits-replace : (at x : ℕ) → Known day (empty x) → Suits day (replace at x) tasks
-  unfolding Named changeStop renamed stopsOn
+  unfolding changeStop renamed stopsOn
   suits-replace at x n = suits-one (replace at x) n (λ y. refl) (λ y. refl)
 
 -- an interchange renames no stop of a vehicle that has neither of the two

@@ -21,15 +21,13 @@ use Rattle.walks.specs.Cabs.{Start, atDepot, SomeStanding, Drives}
 use Rattle.walks.specs.Rewalks.{Walkable, Through, SomeDone, BackAs, ComesBack, Again, AgainAs, WalkedAs}
 use Rattle.walks.specs.declared.cabs.Cab.{Cab}
 use Rattle.walks.specs.declared.vehicle.Walked.{Walked}
-use Rattle.walks.proofs.CabLaws.{standing-fewer, standing-space}
+use Rattle.walks.proofs.CabLaws.{standing-fewer, standing-space, some-standing}
 use Rattle.walks.proofs.WalkLaws.{stands-goes, stands-failed}
 use Rattle.walks.proofs.Walking.{walked-on, walked-home, walked-distance}
 
 -- the vehicle before its way back
 pub done-standing : {day part : List ℕ} {c : Cab} → SomeDone day part c → c .stuck ≡ false → SomeStanding day 0 part c
-done-standing s g =
-    let t = stands-goes (s .o) (s .stands) g in
-    record { start = s .start; most = s .most; more = 0; p = s .p; v = t .v; standing = standing-fewer (omega arith) (t .standing) }
+done-standing s g = some-standing (omega arith) (stands-goes (s .o) (s .stands) g .standing)
 
 -- a trial that has failed among the tasks, and on the way back
 pub back-failed : {day part : List ℕ} {c : Cab} (r : Walked) → c .stuck ≡ true → r .stuck ≡ true → ComesBack day part c part r

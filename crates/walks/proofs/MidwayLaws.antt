@@ -1,14 +1,13 @@
 -- The tasks of a vehicle, changed and walked again one by one, and the way back. Assumes nothing.
-use Prim.Native.Nat.{ℕ, zero, suc, _+_, _-_, _*_, _≤_, _<_}
+use Prim.Native.Nat.{ℕ, _+_, _-_, _*_, _≤_, _<_}
 use mathlib.Core.Path.{_≡_, refl, sym, ap, _∙_, subst}
 use mathlib.Core.Bool.{Bool, true, false}
-use mathlib.Core.List.{List, [], _∷_, map}
+use mathlib.Core.List.{List, [], _∷_}
 use mathlib.Core.Option.{Option, some}
 use native.Mathlib.Omega.{arith}
 use lib.Dec.{eqb}
 use lib.ListN.{length, length-append, length-map, getD, drop, drop-of-length-le}
 use Rattle.rules.specs.Tests.{if_then_else_}
-use Rattle.rules.specs.Lists.{Every}
 use Rattle.rules.specs.PlanWords.{vehicleWord}
 use Rattle.rules.specs.Plan.{lunch, Round, stopsOn, taskWord}
 use Rattle.rules.specs.Trip.{leaving}
@@ -17,6 +16,7 @@ use Rattle.rules.specs.Edits.{Edit, changed}
 use Rattle.rules.specs.WalkedAgain.{walkOn}
 use Rattle.laws.specs.Buffer.{Wrote}
 use Rattle.laws.proofs.Buffer.{wrote-same}
+use Rattle.laws.proofs.Lists.{get-map}
 use Rattle.greedy_laws.proofs.GreedyRoom.{paid-fresh}
 use Rattle.greedy_laws.proofs.VehicleStops.{stops-append}
 use Rattle.walks.specs.Cabs.{Start, atDepot, Stands, failed, onRoad}
@@ -25,18 +25,6 @@ use Rattle.walks.specs.declared.cabs.Cab.{Cab}
 use Rattle.walks.specs.declared.edits.Edit as Code
 use Rattle.walks.specs.declared.vehicle.Turn.{Turn}
 use Rattle.walks.proofs.RewalkLaws.{stands-fewer, walk-append}
-
--- an element of a list of which each has a property
-pub every-at : {A : Type 0} (P : A → Type 0) (xs : List A) (i : ℕ) (d : A) → Every P xs → i < length xs → P (getD xs i d)
-unfolding Every
-every-at P [] i d e l = absurd (omega arith)
-every-at P (x ∷ xs) zero d e l = e .0
-every-at P (x ∷ xs) (suc i) d e l = every-at P xs i d (e .1) (omega arith)
-
-pub get-map : {A : Type 0} (f : A → ℕ) (xs : List A) (i d : ℕ) (a : A) → i < length xs → getD (map f xs) i d ≡ f (getD xs i a)
-get-map f [] i d a l = absurd (omega arith)
-get-map f (x ∷ xs) zero d a l = refl
-get-map f (x ∷ xs) (suc i) d a l = get-map f xs i d a (omega arith)
 
 -- an empty vehicle at the depot, behind its A word
 pub fresh-stands : {day : List ℕ} {number most : ℕ} {p part : List ℕ} {c : Cab} → Wrote (vehicleWord number ∷ []) p part 1 → most ≤ 240 → 3 + 2 * most ≤ length p
@@ -49,9 +37,7 @@ fresh-stands {day} {c = c} w few room g t l n =
         going = g;
         tripIs = t;
         loadIs = l;
-        modest = record { place = omega arith; minute = omega arith; distance = omega arith; load = omega arith };
-        paid = paid-fresh day [];
-        served = refl;
+        able = record { place = omega arith; minute = omega arith; distance = omega arith; load = omega arith; paid = paid-fresh day []; served = refl };
         few = omega arith;
         limit = few;
       };

@@ -19,7 +19,7 @@ use Rattle.walks.specs.Cabs.{Start, Stands, failed, onRoad, SomeStanding
 use Rattle.walks.specs.Rewalks.{Means, nothing, aStop, aTip, Becomes, SomeWord, WalksWord, Left, fromTask, fromWaiting, Turned, steps}
 use Rattle.walks.specs.declared.cabs.Cab.{Cab}
 use Rattle.walks.specs.declared.vehicle.Turn.{Turn}
-use Rattle.walks.proofs.CabLaws.{standing-fewer, on-road}
+use Rattle.walks.proofs.CabLaws.{standing-fewer, some-standing, on-road}
 use Rattle.walks.proofs.WalkLaws.{stands-goes, stands-failed}
 use Rattle.walks.proofs.Walking.{failed-on}
 
@@ -73,24 +73,14 @@ word-failed {day} {c = c} g start most more p o tasks m s =
 
 -- the vehicle before a word
 pub word-standing : {day part : List ℕ} {c : Cab} {w : ℕ} (s : SomeWord day part c w) → c .stuck ≡ false → SomeStanding day (length (stopsOn (s .tasks))) part c
-word-standing s g =
-    let t = stands-goes (s .o) (s .stands) g in
-    record { start = s .start; most = s .most; more = s .more; p = s .p; v = t .v; standing = t .standing }
+word-standing s g = some-standing (omega arith) (stands-goes (s .o) (s .stands) g .standing)
 
 one-stop : {tasks : Round} {k : ℕ} → tasks ≡ serve k ∷ [] → length (stopsOn tasks) ≡ 1
 unfolding stopsOn
 one-stop e = rw e refl
 
 pub stop-standing : {day part : List ℕ} {c : Cab} {w : ℕ} {tasks : Round} → StopWord day w tasks → SomeStanding day (length (stopsOn tasks)) part c → SomeStanding day 1 part c
-stop-standing {tasks = tasks} t s =
-    record {
-      start = s .start;
-      most = s .most;
-      more = s .more;
-      p = s .p;
-      v = s .v;
-      standing = standing-fewer (omega (arith, one-stop (t .is))) (s .standing);
-    }
+stop-standing t s = some-standing (omega (arith, one-stop (t .is), s .enough)) (s .standing)
 
 -- a stop and a tip, behind a rest where one is due
 pub word-stop : {day part mid now : List ℕ} {c e r : Cab} {w : ℕ} → (w ≡ 0 → ⊥) → c .stuck ≡ false → Drives day 0 part c (λ v. some (resting day v)) mid e → w < tipWord 0

@@ -16,7 +16,7 @@ use Rattle.rules.specs.WalkedAgain.{inserting, emptiedFirst, exceeds, servingTh
 use Rattle.laws.proofs.Tests.{both-true}
 use Rattle.walks.specs.Cabs.{Start, Standing, Stands, failed, onRoad, SomeStanding, Drives}
 use Rattle.walks.specs.declared.cabs.Cab.{Cab}
-use Rattle.walks.proofs.CabLaws.{standing-fewer, on-road}
+use Rattle.walks.proofs.CabLaws.{standing-fewer, some-standing, on-road}
 
 -- a vehicle by the mark that the code carries
 pub record Goes (day : List ℕ) (start : Start) (most more : ℕ) (p part : List ℕ) (o : Option Truck) (c : Cab) : Type 0 where
@@ -72,13 +72,11 @@ full-load day load q e y = ltb-true 0 load (both-true (ltb 0 load) (ltb (loadLim
 -- it may serve stops behind the tip
 pub some-served : {day part now : List ℕ} {c e : Cab} {least : ℕ} (f : Truck → Option Truck) → SomeStanding day least part c → Drives day 0 part c f now e → e .stuck ≡ false
     → SomeStanding day least now e
-some-served {least = least} f s d g =
-    let t = stands-goes (f (s .v)) (d (s .start) (s .most) (least + s .more) (s .p) (s .v) (standing-fewer (omega arith) (s .standing))) g in
-    record { start = s .start; most = s .most; more = s .more; p = s .p; v = t .v; standing = t .standing }
+some-served f s d g =
+    some-standing (s .enough) (stands-goes (f (s .v)) (d (s .start) (s .most) (s .more) (s .p) (s .v) (standing-fewer (omega arith) (s .standing))) g .standing)
 
 pub some-fewer : {day part : List ℕ} {c : Cab} {least : ℕ} → SomeStanding day least part c → SomeStanding day 0 part c
-some-fewer s =
-    record { start = s .start; most = s .most; more = s .more; p = s .p; v = s .v; standing = standing-fewer (omega arith) (s .standing) }
+some-fewer s = some-standing (omega arith) (s .standing)
 
 -- a tip with a load, and without one
 pub tip-dropped : {day part : List ℕ} {c : Cab} (x : ℕ) → c .load ≡ 0 → Drives day 0 part c (λ v. walkTask day v (empty x)) part c

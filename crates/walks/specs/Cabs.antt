@@ -12,23 +12,24 @@ use Rattle.rules.specs.Plan.{Round, taskWord, stopsOn}
 use Rattle.rules.specs.Build.{Truck}
 use Rattle.laws.specs.Buffer.{Wrote}
 use Rattle.greedy_laws.specs.Rooms.{Paid}
+use Rattle.greedy_laws.specs.States.{SmallTrip}
 use Rattle.walks.specs.declared.cabs.Cab.{Cab}
 
--- the numbers of a vehicle are small, by the tasks that it has done
-pub record Modest (day : List ℕ) (v : Truck) : Type 0 where
+-- the numbers of a vehicle are small, by the tasks that it has done, and its stops are counted
+pub record Able (day : List ℕ) (v : Truck) : Type 0 where
   pub place : v .trip .place < places day
   pub minute : v .trip .minute ≤ 8192 * (1 + length (v .tasks))
   pub distance : v .trip .distance ≤ 65535 * length (v .tasks)
   pub load : v .cargo .load ≤ 131072 * length (v .tasks)
+  pub paid : Paid v
+  pub served : length (stopsOn (v .tasks)) ≡ v .cargo .visits
 
 -- the vehicle v is on its way, as the code carries it; of most stops it may still serve more
 pub record Riding (day : List ℕ) (most more : ℕ) (v : Truck) (c : Cab) : Type 0 where
   pub going : c .stuck ≡ false
   pub tripIs : c .trip ≡ v .trip
   pub loadIs : c .load ≡ v .cargo .load
-  pub modest : Modest day v
-  pub paid : Paid v
-  pub served : length (stopsOn (v .tasks)) ≡ v .cargo .visits
+  pub able : Able day v
   pub few : v .cargo .visits + more ≤ most
   pub limit : most ≤ 240
 
@@ -54,14 +55,23 @@ pub data Stands (day : List ℕ) (start : Start) (most more : ℕ) (p part : Lis
   failed : (c : Cab) → c .stuck ≡ true → length part ≡ length p → Stands day start most more p part none c
   onRoad : (v : Truck) (c : Cab) → Standing day start most more p part v c → Stands day start most more p part (some v) c
 
--- there is such a vehicle, and it may serve so many stops at least
+-- how many words there are, and that there is room for one more
+pub record Space (part : List ℕ) (at : ℕ) : Type 0 where
+  pub inside : at < length part
+  pub few : at ≤ 482
+
+-- there is such a vehicle, and it may serve so many stops at least; what it carries is small
 pub record SomeStanding (day : List ℕ) (least : ℕ) (part : List ℕ) (c : Cab) : Type 0 where
   pub start : Start
   pub most : ℕ
   pub more : ℕ
   pub p : List ℕ
   pub v : Truck
-  pub standing : Standing day start most (least + more) p part v c
+  pub enough : least ≤ more
+  pub standing : Standing day start most more p part v c
+  pub space : Space part (c .at)
+  pub trip : SmallTrip day 2147483648 (c .trip)
+  pub load : c .load < 134217728
 
 -- each vehicle that stood so now stands as f says, having served so many stops
 abbrev pub Drives : List ℕ → ℕ → List ℕ → Cab → (Truck → Option Truck) → List ℕ → Cab → Type 0

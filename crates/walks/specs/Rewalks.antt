@@ -36,13 +36,16 @@ editOf (Edits.Replace at x) = replace at x
 abbrev pub trialOf : Code.Edit → ℕ → ℕ → Trial
 trialOf e one other = onTwo (editOf e) one other
 
--- the numbers of an edit are those of stops and tips
+-- the numbers of an edit are those of the day's stops and tips
+abbrev pub Named : List ℕ → Edit → Type 0
+Named day (before i j) = Known day (serve i) × Known day (serve j)
+Named day (after i j) = Known day (serve i) × Known day (serve j)
+Named day (swap i j) = Known day (serve i) × Known day (serve j)
+Named day (remove at) = Unit {0}
+Named day (replace at x) = Known day (empty x)
+
 abbrev pub EditKnown : List ℕ → Code.Edit → Type 0
-EditKnown day (Edits.Before i j) = Known day (serve i) × Known day (serve j)
-EditKnown day (Edits.After i j) = Known day (serve i) × Known day (serve j)
-EditKnown day (Edits.Swap i j) = Known day (serve i) × Known day (serve j)
-EditKnown day (Edits.Remove at) = Unit {0}
-EditKnown day (Edits.Replace at x) = Known day (empty x)
+EditKnown day e = Named day (editOf e)
 
 -- and small, so that their words can be made
 abbrev pub EditSmall : Code.Edit → Type 0

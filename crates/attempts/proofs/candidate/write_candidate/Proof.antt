@@ -2,35 +2,13 @@
 use native.Mathlib.Omega.{arith}
 use mathlib.Core.Path.{refl}
 use Rattle.greedy_laws.proofs.GreedyRoom.{room-is}
-use Rattle.attempts.proofs.NextRounds.{few-vehicles, plan-short}
-use Rattle.attempts.proofs.WrittenLaws.{room-left, ends-inside, lefts-long, lefts-room, candidate-fails, candidate-ends}
+use Rattle.attempts.proofs.WrittenLaws.{room-left, lefts-long, lefts-room, candidate-fails, candidate-ends}
 use borrow.Author.Needs.{needs}
 use Rattle.attempts.proofs.candidate.write_candidate.Statement.{statement}
 use Rattle.attempts.proofs.candidate.write_candidate.Tie as tie
 
 returns : tie.Need-returns
 returns c = λ rounds t n. candidate-fails t n (c .before .before .before .write-rounds .ensures rounds t n) (c .if1 .taken)
-
-mul-from : tie.Need-mul-from
-mul-from c = let s = c .before .before .before .before .before .before .before .before .before .pre .4 in omega (arith, s .counted, few-vehicles (s .trying))
-
-shared-slice-read-from : tie.Need-shared-slice-read-from
-shared-slice-read-from c = let s = c .before .before .before .before .before .before .before .before .before .before .pre .4 in omega (arith, s .counted, few-vehicles (s .trying), s .trying .table)
-
-cast-from : tie.Need-cast-from
-cast-from c = let s = c .before .before .before .before .before .before .before .before .before .before .pre .4 in omega (arith, ends-inside (s .trying) (s .counted), plan-short (s .trying))
-
-sub-lefts : tie.Need-sub-lefts
-sub-lefts c = let s = c .before .before .before .before .before .before .before .before .before .before .pre .4 in ends-inside (s .trying) (s .counted)
-
-mul-copy-words : tie.Need-mul-copy-words
-mul-copy-words c = let s = c .before .before .before .before .before .before .before .before .before .before .pre .4 in omega (arith, ends-inside (s .trying) (s .counted), plan-short (s .trying))
-
-sub-copy-words : tie.Need-sub-copy-words
-sub-copy-words c = let s = c .before .before .before .before .before .before .before .before .before .before .pre .4 in ends-inside (s .trying) (s .counted)
-
-part-copy-words-start : tie.Need-part-copy-words-start
-part-copy-words-start c = let s = c .before .before .before .before .before .before .before .before .before .before .pre .4 in omega (arith, ends-inside (s .trying) (s .counted))
 
 mul-copy-words-2 : tie.Need-mul-copy-words-2
 mul-copy-words-2 c = let s = c .before .before .before .before .before .before .before .before .before .before .before .pre .4 in let w = c .before .before .before .before .before .write-rounds .ensures (s .rounds) (s .trying) (s .counted) .written (c .before .before .if1 .left) in omega (arith, room-left (s .trying) w)
@@ -57,13 +35,13 @@ write-candidate-spec =
     (λ c κs. search needs)
     (λ c. search needs)
     returns
-    mul-from
-    shared-slice-read-from
-    cast-from
-    sub-lefts
-    mul-copy-words
-    sub-copy-words
-    part-copy-words-start
+    (λ c. search needs)
+    (λ c. search needs)
+    (λ c. search needs)
+    (λ c. search needs)
+    (λ c. search needs)
+    (λ c. search needs)
+    (λ c. search needs)
     (λ c. search needs)
     mul-copy-words-2
     sub-copy-words-2

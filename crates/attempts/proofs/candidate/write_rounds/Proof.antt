@@ -1,4 +1,5 @@
 -- `attempts::candidate::write_rounds` meets its contract.
+use borrow.Author.Needs.{needs}
 use Prim.Native.Nat.{_-_, _≤_}
 use mathlib.Core.Path.{_≡_, refl}
 use mathlib.Core.List.{List}
@@ -8,7 +9,7 @@ use Rattle.rules.specs.Plan.{Round}
 use Rattle.greedy_laws.proofs.GreedyRoom.{room-is}
 use Rattle.walks.specs.Rewalks.{trialOf}
 use Rattle.attempts.specs.Candidates.{Trying, Written}
-use Rattle.attempts.proofs.NextRounds.{few-vehicles}
+use Rattle.attempts.proofs.NextRounds.{vehicle-stands}
 use Rattle.attempts.proofs.WrittenLaws.{below, written-start, room-left, next-room, written-next, written-fails, written-end}
 use Rattle.attempts.proofs.candidate.write_rounds.Statement.{statement}
 use Rattle.attempts.proofs.candidate.write_rounds.Tie as tie
@@ -31,14 +32,13 @@ sub-next-round c = let s = c .before .before .before .before .before .before .pr
 part-next-round-start : tie.Need-part-next-round-start Inv-loop μ-loop
 part-next-round-start c = let s = c .before .before .before .before .before .before .pre .4 in let w = c .before .loop .inv .2 (s .rounds) (s .trying) (s .counted) in omega (arith, room-left (s .trying) w, room-is (c .before .before .before .before .before .before .pre .0) (c .before .before .before .before .before .before .pre .5), c .before .loop .inv .1)
 
-part-next-round-end : tie.Need-part-next-round-end Inv-loop μ-loop
-part-next-round-end c = let s = c .before .before .before .before .before .before .pre .4 in let w = c .before .loop .inv .2 (s .rounds) (s .trying) (s .counted) in omega (arith, room-left (s .trying) w, room-is (c .before .before .before .before .before .before .pre .0) (c .before .before .before .before .before .before .pre .5), c .before .loop .inv .1)
-
 next-round-requires : tie.Need-next-round-requires Inv-loop μ-loop
-next-round-requires c κs = let s = c .before .before .before .before .before .before .before .pre .4 in let w = c .before .before .loop .inv .2 (s .rounds) (s .trying) (s .counted) in let l = below (c .before .loop-test .taken) (s .counted) in (c .before .before .before .before .before .before .before .pre .0, c .before .before .before .before .before .before .before .pre .1, c .before .before .before .before .before .before .before .pre .2, c .before .before .before .before .before .before .before .pre .3, record { rounds = s .rounds; trying = s .trying; inside = l; room = next-room (s .trying) w l (room-is (c .before .before .before .before .before .before .before .pre .0) (c .before .before .before .before .before .before .before .pre .5)) })
-
-same-length : tie.Need-same-length Inv-loop μ-loop
-same-length c = let s = c .before .before .before .before .before .before .before .before .before .before .before .pre .4 in let w = c .before .before .before .before .before .before .loop .inv .2 (s .rounds) (s .trying) (s .counted) in let l = below (c .before .before .before .before .before .loop-test .taken) (s .counted) in written-fails (s .trying) w l 0 (c .before .before .before .next-round .ensures (s .rounds) (s .trying) l (next-room (s .trying) w l (room-is (c .before .before .before .before .before .before .before .before .before .before .before .pre .0) (c .before .before .before .before .before .before .before .before .before .before .before .pre .5)))) (c .if1 .taken) .size
+next-round-requires c κs =
+    let p = c .before .before .before .before .before .before .before .pre in
+    let s = p .4 in
+    let l = below (c .before .loop-test .taken) (s .counted) in
+    let room = next-room (s .trying) (c .before .before .loop .inv .2 (s .rounds) (s .trying) (s .counted)) l (room-is (p .0) (p .5)) in
+    (p .0, p .1, p .2, p .3, record { rounds = s .rounds; trying = s .trying; inside = l; vehicle = vehicle-stands (s .trying) (p .1) l; room = room })
 
 returns : tie.Need-returns Inv-loop μ-loop
 returns c = λ rounds t n. let w = c .before .before .before .before .before .before .loop .inv .2 rounds t n in let l = below (c .before .before .before .before .before .loop-test .taken) n in written-fails t w l _ (c .before .before .before .next-round .ensures rounds t l (next-room t w l (room-is (c .before .before .before .before .before .before .before .before .before .before .before .pre .0) (c .before .before .before .before .before .before .before .before .before .before .before .pre .5)))) (c .if1 .taken)
@@ -46,17 +46,8 @@ returns c = λ rounds t n. let w = c .before .before .before .before .before .be
 add-at : tie.Need-add-at Inv-loop μ-loop
 add-at c = let s = c .before .before .before .before .before .before .before .before .before .before .before .before .pre .4 in let w = c .before .before .before .before .before .before .before .loop .inv .2 (s .rounds) (s .trying) (s .counted) in let l = below (c .before .before .before .before .before .before .loop-test .taken) (s .counted) in omega (arith, room-left (s .trying) (written-next (s .trying) w l (c .before .before .before .before .next-round .ensures (s .rounds) (s .trying) l (next-room (s .trying) w l (room-is (c .before .before .before .before .before .before .before .before .before .before .before .before .pre .0) (c .before .before .before .before .before .before .before .before .before .before .before .before .pre .5))) .written (c .before .if1 .left))))
 
-add-v : tie.Need-add-v Inv-loop μ-loop
-add-v c = let s = c .before .before .before .before .before .before .before .before .before .before .before .before .pre .4 in omega (arith, c .before .before .before .before .before .before .loop-test .taken, s .counted, few-vehicles (s .trying))
-
-loop-less : tie.Need-loop-less Inv-loop μ-loop
-loop-less c = omega (arith, c .before .before .before .before .before .before .loop-test .taken)
-
 loop-again : tie.Need-loop-again Inv-loop μ-loop
 loop-again c = (omega (arith, c .before .before .before .before .before .before .loop-test .taken), (let s = c .before .before .before .before .before .before .before .before .before .before .before .before .pre .4 in let w = c .before .before .before .before .before .before .before .loop .inv .2 (s .rounds) (s .trying) (s .counted) in let l = below (c .before .before .before .before .before .before .loop-test .taken) (s .counted) in written-next (s .trying) w l (c .before .before .before .before .next-round .ensures (s .rounds) (s .trying) l (next-room (s .trying) w l (room-is (c .before .before .before .before .before .before .before .before .before .before .before .before .pre .0) (c .before .before .before .before .before .before .before .before .before .before .before .before .pre .5))) .written (c .before .if1 .left)) .text .size), λ rounds t n. let w = c .before .before .before .before .before .before .before .loop .inv .2 rounds t n in let l = below (c .before .before .before .before .before .before .loop-test .taken) n in written-next t w l (c .before .before .before .before .next-round .ensures rounds t l (next-room t w l (room-is (c .before .before .before .before .before .before .before .before .before .before .before .before .pre .0) (c .before .before .before .before .before .before .before .before .before .before .before .before .pre .5))) .written (c .before .if1 .left)))
-
-same-length-2 : tie.Need-same-length-2 Inv-loop μ-loop
-same-length-2 c = c .before .loop .inv .1
 
 returns-2 : tie.Need-returns-2 Inv-loop μ-loop
 returns-2 c = λ rounds t n. written-end t (c .before .loop .inv .2 rounds t n) _ _ (c .before .loop .inv .0) (c .loop-test .left) refl refl
@@ -71,13 +62,13 @@ write-rounds-spec =
     mul-next-round
     sub-next-round
     part-next-round-start
-    part-next-round-end
+    (λ c. search needs)
     next-round-requires
-    same-length
+    (λ c. search needs)
     returns
     add-at
-    add-v
-    loop-less
+    (λ c. search needs)
+    (λ c. search needs)
     loop-again
-    same-length-2
+    (λ c. search needs)
     returns-2)

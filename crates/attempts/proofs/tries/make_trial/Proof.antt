@@ -1,12 +1,16 @@
 -- `attempts::tries::make_trial` meets its contract.
 use native.Mathlib.Omega.{arith}
-use Rattle.attempts.proofs.KeptLaws.{candidate-fits, tried-none, tried-stuck, tried-judged}
+use Rattle.attempts.proofs.ShorterLaws.{some-measured}
+use Rattle.attempts.proofs.KeptLaws.{trying-made, candidate-fits, tried-none, tried-stuck, tried-judged}
 use borrow.Author.Needs.{needs}
 use Rattle.attempts.proofs.tries.make_trial.Statement.{statement}
 use Rattle.attempts.proofs.tries.make_trial.Tie as tie
 
+is-shorter-requires : tie.Need-is-shorter-requires
+is-shorter-requires c κs = search (needs, some-measured)
+
 write-candidate-requires : tie.Need-write-candidate-requires
-write-candidate-requires c κs = let s = c .before .before .before .before .before .before .before .before .before .before .before .before .pre .4 in (c .before .before .before .before .before .before .before .before .before .before .before .before .pre .0, c .before .before .before .before .before .before .before .before .before .before .before .before .pre .1, c .before .before .before .before .before .before .before .before .before .before .before .before .pre .2, c .before .before .before .before .before .before .before .before .before .before .before .before .pre .3, record { rounds = s .rounds; trying = s .made .measured .trying; counted = s .made .counted }, omega (arith, c .before .before .before .before .before .before .before .before .before .before .before .before .pre .5, c .before .before .before .before .is-shorter .kept .1 .1 .1 .1 .1 .1 .1 .0))
+write-candidate-requires c κs = let p = c .before .before .before .before .before .before .before .before .before .before .before .before .pre in (p .0, p .1, p .2, p .3, trying-made (p .1) (p .4 .made), omega (arith, p .5, c .before .before .before .before .is-shorter .kept .1 .1 .1 .1 .1 .1 .1 .0))
 
 returns : tie.Need-returns
 returns c = λ rounds h. tried-stuck (c .before .before .before .before .before .before .before .before .before .before .before .before .before .before .before .before .before .pre .1) h _ (c .before .before .before .before .write-candidate .ensures rounds (h .measured .trying) (h .counted)) (c .before .if2 .taken) (c .not-kept .ensures)
@@ -24,7 +28,7 @@ pub make-trial-spec : {M : Type 1} → statement M
 make-trial-spec =
     tie.close
     (tie.spec
-    (λ c κs. search needs)
+    is-shorter-requires
     write-candidate-requires
     (λ c κs. search needs)
     (λ c. search needs)

@@ -21,14 +21,8 @@ Inv-loop day layout words from before₀ part₀ c₀ i₀ before part c i = (le
 abbrev μ-loop : tie.MeasureT-loop
 μ-loop day layout words from before₀ part₀ c₀ i₀ before part c i = length words - i
 
-slice-write-part : tie.Need-slice-write-part Inv-loop μ-loop
-slice-write-part c = omega (arith, c .before .before .before .before .pre .2 .walks .room)
-
-fresh-cab-requires : tie.Need-fresh-cab-requires Inv-loop μ-loop
-fresh-cab-requires c κs = c .before .before .before .before .pre .0
-
 put-cab-requires : tie.Need-put-cab-requires Inv-loop μ-loop
-put-cab-requires c κs = (c .before .before .before .before .before .before .pre .3, omega (arith, c .before .before .before .before .before .before .pre .4), λ _. leaving-place (c .before .before .before .before .before .before .args .day .now) (c .before .fresh-cab .ensures .1))
+put-cab-requires c κs = search (needs, leaving-place)
 
 loop-holds : tie.Need-loop-holds Inv-loop μ-loop
 loop-holds c = (search needs, λ at l. refl, λ p ts w h. let f = c .before .before .before .before .fresh-cab .ensures in filling-start w h (f .0) (f .1) (f .2) (f .3) (c .before .before .put-cab .ensures .0))
@@ -42,9 +36,6 @@ put-cab-requires-2 c κs = let s = c .before .before .before .before .before .be
 loop-again : tie.Need-loop-again Inv-loop μ-loop
 loop-again c = (search needs, λ at l. c .before .before .put-cab2 .ensures .1 at (omega (arith, l)) ∙ c .before .before .before .before .before .before .before .before .before .before .loop .inv .1 at l, λ p ts w h. filling-step h (c .before .before .before .before .before .before .before .before .before .loop-test .taken) (c .before .before .before .before .before .before .before .before .before .before .loop .inv .2 p ts w h) (c .before .before .before .before .before .before .walk-task .ensures) (c .before .before .put-cab2 .ensures .0) (c .before .before .put-cab2 .ensures .1))
 
-same-length : tie.Need-same-length Inv-loop μ-loop
-same-length c = c .before .loop .inv .0 ∙ sym (c .before .before .before .before .before .before .before .before .before .before .before .pre .3)
-
 same-length-2 : tie.Need-same-length-2 Inv-loop μ-loop
 same-length-2 c = let s = c .before .before .before .before .before .before .before .before .before .before .before .pre .2 in stands-size (c .before .loop .inv .2 _ (s .tasks) (wrote-put (wrote-none _) _ (omega (arith, s .walks .room))) (s .walks) .stands)
 
@@ -57,8 +48,8 @@ fill-before-spec =
     (tie.spec
     Inv-loop
     μ-loop
-    slice-write-part
-    fresh-cab-requires
+    (λ c. search needs)
+    (λ c κs. search needs)
     put-cab-requires
     loop-holds
     (λ c. search needs)
@@ -69,6 +60,6 @@ fill-before-spec =
     put-cab-requires-2
     (λ c. search needs)
     loop-again
-    same-length
+    (λ c. search needs)
     same-length-2
     returns)

@@ -1,13 +1,13 @@
 -- `tracks::before::put_cab` meets its contract.
 use native.Mathlib.Omega.{arith}
 use lib.ListN.{length-set}
-use Rattle.tracks.proofs.CabRows.{failed-row, failed-others, written-row, written-others}
+use Rattle.tracks.proofs.RowLaws.{failed-row, failed-others, written-row, written-others}
 use borrow.Author.Needs.{needs}
 use Rattle.tracks.proofs.before.put_cab.Statement.{statement}
 use Rattle.tracks.proofs.before.put_cab.Tie as tie
 
 returns : tie.Need-returns
-returns c = (failed-row (c .before .before .before .args .before .now) (c .before .before .before .args .at) (c .before .before .before .args .c) (c .before .before .before .pre .0) (c .before .before .before .pre .1) (c .before .flag .ensures) (c .if1 .taken), failed-others (c .before .before .before .args .before .now) (c .before .before .before .args .at) (c .before .before .before .args .c) (c .before .before .before .pre .0) (c .before .before .before .pre .1) (c .before .flag .ensures))
+returns c = search (failed-row, failed-others)
 
 slice-write-before-2 : tie.Need-slice-write-before-2
 slice-write-before-2 c = simp length-set (omega (arith, c .before .before .before .before .pre .0, c .before .before .before .before .pre .1))
@@ -28,7 +28,7 @@ slice-write-before-6 : tie.Need-slice-write-before-6
 slice-write-before-6 c = simp length-set (omega (arith, c .before .before .before .before .before .before .pre .0, c .before .before .before .before .before .before .pre .1))
 
 returns-2 : tie.Need-returns-2
-returns-2 c = (written-row (c .before .before .before .before .before .before .args .before .now) (c .before .before .before .before .before .before .args .at) (c .before .before .before .before .before .before .args .c) (c .before .before .before .before .before .before .pre .0) (c .before .before .before .before .before .before .pre .1) (c .before .before .before .before .flag .ensures) (c .flag2 .ensures), written-others (c .before .before .before .before .before .before .args .before .now) (c .before .before .before .before .before .before .args .at) (c .before .before .before .before .before .before .args .c) (c .before .before .before .before .before .before .pre .0) (c .before .before .before .before .before .before .pre .1) (c .before .before .before .before .flag .ensures) (c .flag2 .ensures))
+returns-2 c = search (written-row, written-others)
 
 pub put-cab-spec : {M : Type 1} → statement M
 put-cab-spec =

@@ -1,7 +1,7 @@
 -- `tracks::behind::fill_behind` meets its contract.
 use borrow.Author.Needs.{needs}
 use Prim.Native.Nat.{_-_, _≤_}
-use mathlib.Core.Path.{_∙_, sym}
+use mathlib.Core.Path.{_∙_}
 use native.Mathlib.Omega.{arith}
 use Rattle.tracks.proofs.FillLaws.{Filling, filling-inside, filling-start, filling-writes, filling-next, filling-end}
 use Rattle.tracks.proofs.behind.fill_behind.Statement.{statement}
@@ -34,11 +34,8 @@ put-row-requires-2 c κs = let p = c .before .before .before .before .before .be
 loop-again : tie.Need-loop-again Inv-loop μ-loop
 loop-again c = let p = c .before .before .before .before .before .before .before .before .before .before .before .before .before .before .before .pre in filling-next (p .2) (c .before .before .before .before .before .before .before .loop .inv) (c .before .before .before .before .before .before .before .loop .at - 1) _ (omega arith) (omega arith) (c .before .before .before .before .onward-before .ensures) (c .before .before .put-row2 .ensures) (c .before .before .put-row2 .kept .0)
 
-same-length : tie.Need-same-length Inv-loop μ-loop
-same-length c = c .before .loop .inv .size ∙ sym (c .before .before .before .before .before .before .before .before .before .pre .3)
-
 returns : tie.Need-returns Inv-loop μ-loop
-returns c = filling-end (c .before .before .before .before .before .before .before .before .before .pre .2) (c .before .loop .inv) (c .loop-test .left) (c .before .before .before .before .put-row .ensures)
+returns c = search filling-end
 
 pub fill-behind-spec : {M : Type 1} → statement M
 fill-behind-spec =
@@ -55,5 +52,5 @@ fill-behind-spec =
     put-row-requires-2
     (λ c. search needs)
     loop-again
-    same-length
+    (λ c. search needs)
     returns)

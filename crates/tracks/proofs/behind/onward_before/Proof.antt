@@ -1,6 +1,5 @@
 -- `tracks::behind::onward_before` meets its contract.
 use native.Mathlib.Omega.{arith}
-use mathlib.Core.Path.{refl}
 use Rattle.tracks.proofs.FirstLaws.{stop-number, tip-number, puts-stop, puts-tip, puts-rest}
 use borrow.Author.Needs.{needs}
 use Rattle.tracks.proofs.behind.onward_before.Statement.{statement}
@@ -22,7 +21,7 @@ returns-2 : tie.Need-returns-2
 returns-2 c = search puts-tip
 
 returns-3 : tie.Need-returns-3
-returns-3 c = puts-rest _ _ _ _ (c .if2 .left) refl
+returns-3 c = search puts-rest
 
 pub onward-before-spec : {M : Type 1} → statement M
 onward-before-spec =

@@ -24,12 +24,6 @@ abbrev μ-loop : tie.MeasureT-loop
 loop-holds : tie.Need-loop-holds Inv-loop μ-loop
 loop-holds c = let s = c .before .before .before .before .pre .6 in (omega (arith, s .cuttable .outside .within, ap length (s .cuttable .walkable .are), length-map (s .tasks) taskWord), λ ts start p h m. m)
 
-add-onward-at : tie.Need-add-onward-at Inv-loop μ-loop
-add-onward-at c = omega (arith, c .before .before .before .before .before .before .pre .5, c .loop-test .taken)
-
-onward-at-requires : tie.Need-onward-at-requires Inv-loop μ-loop
-onward-at-requires c κs = omega (arith, c .before .before .before .before .before .before .pre .4, c .before .before .before .before .before .before .pre .5, c .loop-test .taken)
-
 same-length : tie.Need-same-length Inv-loop μ-loop
 same-length c = let s = c .before .before .before .before .before .before .before .before .before .before .before .pre .6 in stands-size (c .before .before .before .before .before .before .loop .inv .1 (s .tasks) (s .start) (s .p) (s .cuttable) (s .midway) .stands) ∙ sym (stands-size (s .midway .stands))
 
@@ -45,20 +39,11 @@ same-length-2 c = let s = c .before .before .before .before .before .before .bef
 returns-2 : tie.Need-returns-2 Inv-loop μ-loop
 returns-2 c = λ ts start p h m. left-drives h (c .before .before .before .before .before .before .loop .inv .1 ts start p h m) (c .before .before .before .before .before .loop-test .taken) (c .before .before .before .before .onward-at .ensures) (sym (c .before .before .before .is-cut .ensures) ∙ c .before .before .if1 .taken) (c .before .if2 .left) _ (c .drive-onward .ensures .0) (c .drive-onward .ensures .1)
 
-mul-next-turn : tie.Need-mul-next-turn Inv-loop μ-loop
-mul-next-turn c = omega (arith, c .before .before .before .loop-test .taken, c .before .before .before .before .before .before .before .before .before .pre .5)
-
-shared-slice-read-next-turn : tie.Need-shared-slice-read-next-turn Inv-loop μ-loop
-shared-slice-read-next-turn c = c .before .before .before .before .loop-test .taken
-
-next-turn-requires : tie.Need-next-turn-requires Inv-loop μ-loop
-next-turn-requires c κs = (c .before .before .before .before .before .before .before .before .before .before .pre .2, omega (arith, c .before .before .before .before .loop-test .taken, c .before .before .before .before .before .before .before .before .before .before .pre .5))
-
 walk-word-requires : tie.Need-walk-word-requires Inv-loop μ-loop
 walk-word-requires c κs = let s = c .before .before .before .before .before .before .before .before .before .before .before .before .pre .6 in (c .before .before .before .before .before .before .before .before .before .before .before .before .pre .0, c .before .before .before .before .before .before .before .before .before .before .before .before .pre .1, midway-word (c .before .before .before .before .before .before .before .before .before .before .before .before .args .e) (s .cuttable .walkable) (c .before .before .before .before .before .before .before .before .before .before .before .before .pre .3) (c .before .before .before .before .before .before .loop-test .taken) 0 (c .before .before .before .before .before .before .before .loop .inv .1 (s .tasks) (s .start) (s .p) (s .cuttable) (s .midway)) (c .before .next-turn .ensures .0))
 
 loop-less : tie.Need-loop-less Inv-loop μ-loop
-loop-less c = turns-left (length (c .before .before .before .before .before .before .before .before .before .before .before .before .before .before .before .args .tasks .now)) (c .before .before .before .before .before .before .before .before .before .before .loop .i) (c .before .before .before .before .before .before .before .before .before .before .loop .waiting) (c .before .before .before .before .next-turn .result .next) (c .before .before .before .before .next-turn .result .waiting) (c .before .before .before .before .before .before .before .before .before .loop-test .taken) (c .before .before .before .before .next-turn .ensures .1 .0)
+loop-less c = search turns-left
 
 loop-again : tie.Need-loop-again Inv-loop μ-loop
 loop-again c = (omega (arith, c .before .before .before .before .before .before .before .before .before .loop-test .taken, c .before .before .before .before .next-turn .ensures .1 .1), λ ts start p h m. midway-step (c .before .before .before .before .before .before .before .before .before .before .before .before .before .before .before .args .e) (h .walkable) (c .before .before .before .before .before .before .before .before .before .before .before .before .before .before .before .pre .3) (c .before .before .before .before .before .before .before .before .before .loop-test .taken) 0 (c .before .before .before .before .before .before .before .before .before .before .loop .inv .1 ts start p h m) (c .before .before .before .before .next-turn .ensures .0) (c .before .before .walk-word .ensures))
@@ -79,8 +64,8 @@ walk-span-spec =
     Inv-loop
     μ-loop
     loop-holds
-    add-onward-at
-    onward-at-requires
+    (λ c. search needs)
+    (λ c κs. search needs)
     (λ c κs. search needs)
     (λ c κs. search needs)
     same-length
@@ -88,9 +73,9 @@ walk-span-spec =
     drive-onward-requires
     same-length-2
     returns-2
-    mul-next-turn
-    shared-slice-read-next-turn
-    next-turn-requires
+    (λ c. search needs)
+    (λ c. search needs)
+    (λ c κs. search needs)
     walk-word-requires
     loop-less
     loop-again

@@ -5,22 +5,22 @@ use Rattle.trial_list.proofs.listing.pair_trial.Statement.{statement}
 use Rattle.trial_list.proofs.listing.pair_trial.Tie as tie
 
 returns : tie.Need-returns
-returns c = tells-loose-one _ _ _ _ _ _ (c .before .if1 .taken) (c .no-pair .ensures)
+returns c = search tells-loose-one
 
 returns-2 : tie.Need-returns-2
-returns-2 c = tells-loose-two _ _ _ _ _ _ (c .before .before .if1 .left) (c .before .if2 .taken) (c .no-pair2 .ensures)
+returns-2 c = search tells-loose-two
 
 returns-3 : tie.Need-returns-3
-returns-3 c = tells-no-second _ _ _ _ _ _ (c .before .before .before .before .if1 .left) (c .before .before .before .if2 .left) (c .before .before .if3 .taken) (c .before .if4 .taken) (c .no-pair3 .ensures)
+returns-3 c = search tells-no-second
 
 returns-4 : tie.Need-returns-4
-returns-4 c = let h = c .found-pair .ensures in tells-swap _ _ _ _ _ _ (c .before .before .before .before .if1 .left) (c .before .before .before .if2 .left) (c .before .before .if3 .taken) (c .before .if4 .left) (h .0) (h .1) (h .2)
+returns-4 c = search tells-swap
 
 returns-5 : tie.Need-returns-5
-returns-5 c = let h = c .found-pair2 .ensures in tells-after _ _ _ _ _ _ (c .before .before .before .before .if1 .left) (c .before .before .before .if2 .left) (c .before .before .if3 .left) (c .before .if5 .taken) (h .0) (h .1) (h .2)
+returns-5 c = search tells-after
 
 returns-6 : tie.Need-returns-6
-returns-6 c = let h = c .found-pair3 .ensures in tells-before _ _ _ _ _ _ (c .before .before .before .before .if1 .left) (c .before .before .before .if2 .left) (c .before .before .if3 .left) (c .before .if5 .left) (h .0) (h .1) (h .2)
+returns-6 c = search tells-before
 
 pub pair-trial-spec : {M : Type 1} → statement M
 pair-trial-spec =

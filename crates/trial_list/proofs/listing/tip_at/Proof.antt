@@ -1,25 +1,22 @@
 -- `trial_list::listing::tip_at` meets its contract.
 use mathlib.Core.Path.{_∙_}
 use native.Mathlib.Omega.{arith}
-use Rattle.trial_list.proofs.TipRests.{end-within, vehicle-ends, low-passes, high-passes, tip-steps}
+use Rattle.trial_list.proofs.TipRests.{vehicle-ends, idle-passes, tip-steps}
 use borrow.Author.Needs.{needs}
 use Rattle.trial_list.proofs.listing.tip_at.Statement.{statement}
 use Rattle.trial_list.proofs.listing.tip_at.Tie as tie
 
 returns : tie.Need-returns
-returns c = vehicle-ends _ _ _ _ _ _ _ (c .before .before .before .before .number-at .ensures .0) (c .before .before .before .number-at2 .ensures .0) (c .before .if1 .taken) (c .no-tip .ensures)
-
-number-at-requires-3 : tie.Need-number-at-requires-3
-number-at-requires-3 c κs = omega (arith, c .before .before .before .number-at .ensures .0, c .before .before .number-at2 .ensures .0, end-within _ _ _ _ (c .before .before .before .before .before .before .pre .tables) _ (c .before .before .before .before .before .before .pre .within), c .before .before .before .before .before .before .pre .fits)
+returns c = search vehicle-ends
 
 returns-2 : tie.Need-returns-2
-returns-2 c = low-passes _ _ _ _ _ _ _ (c .before .before .before .before .before .before .before .number-at .ensures .0) (c .before .before .before .before .before .before .number-at2 .ensures .0) _ (c .before .before .before .before .if1 .left) (c .before .before .before .number-at3 .ensures .0) (c .before .before .if2 .taken) (c .no-tip2 .ensures .0, c .no-tip2 .ensures .1 ∙ c .before .next-task .ensures)
+returns-2 c = idle-passes _ _ _ _ _ _ _ (c .before .before .before .before .before .before .before .number-at .ensures .0) (c .before .before .before .before .before .before .number-at2 .ensures .0) _ (c .before .before .before .before .if1 .left) (c .before .before .before .number-at3 .ensures .0) (λ a b. omega (arith, c .before .before .if2 .taken)) (c .no-tip2 .ensures .0, c .no-tip2 .ensures .1 ∙ c .before .next-task .ensures)
 
 returns-3 : tie.Need-returns-3
-returns-3 c = high-passes _ _ _ _ _ _ _ (c .before .before .before .before .before .before .before .before .number-at .ensures .0) (c .before .before .before .before .before .before .before .number-at2 .ensures .0) _ (c .before .before .before .before .before .if1 .left) (c .before .before .before .before .number-at3 .ensures .0) (c .before .before .if3 .taken) (c .no-tip3 .ensures .0, c .no-tip3 .ensures .1 ∙ c .before .next-task2 .ensures)
+returns-3 c = idle-passes _ _ _ _ _ _ _ (c .before .before .before .before .before .before .before .before .number-at .ensures .0) (c .before .before .before .before .before .before .before .number-at2 .ensures .0) _ (c .before .before .before .before .before .if1 .left) (c .before .before .before .before .number-at3 .ensures .0) (λ a b. omega (arith, c .before .before .if3 .taken)) (c .no-tip3 .ensures .0, c .no-tip3 .ensures .1 ∙ c .before .next-task2 .ensures)
 
 returns-4 : tie.Need-returns-4
-returns-4 c = tip-steps _ _ _ _ _ _ _ (c .before .before .before .before .before .before .before .number-at .ensures .0) (c .before .before .before .before .before .before .number-at2 .ensures .0) _ (c .before .before .before .before .if1 .left) (c .before .before .before .number-at3 .ensures .0) (c .before .before .if2 .left) (c .before .if3 .left) (c .tip-trial .ensures)
+returns-4 c = search tip-steps
 
 pub tip-at-spec : {M : Type 1} → statement M
 tip-at-spec =
@@ -34,7 +31,7 @@ tip-at-spec =
     (λ c. search needs)
     (λ c κs. search needs)
     returns
-    number-at-requires-3
+    (λ c κs. search needs)
     (λ c. search needs)
     (λ c κs. search needs)
     (λ c κs. search needs)

@@ -6,10 +6,10 @@ use Rattle.trial_list.proofs.listing.tip_trial.Statement.{statement}
 use Rattle.trial_list.proofs.listing.tip_trial.Tie as tie
 
 returns : tie.Need-returns
-returns c = let h = c .found-tip .ensures in tells-removal _ _ _ _ (c .before .if1 .taken) (h .0) (h .1) (h .2)
+returns c = search tells-removal
 
 returns-2 : tie.Need-returns-2
-returns-2 c = let h = c .found-tip2 .ensures in tells-other _ _ _ _ _ (c .before .before .before .if1 .left) (c .before .before .other-tip .ensures) (c .before .if2 .taken) (h .0) (h .1) (h .2)
+returns-2 c = search tells-other
 
 returns-3 : tie.Need-returns-3
 returns-3 c = tells-none _ _ _ _ _ (c .before .before .before .before .if1 .left) (c .before .before .before .other-tip .ensures) (c .before .before .if2 .left) (c .no-tip .ensures .0, c .no-tip .ensures .1 ∙ c .before .next-task .ensures)

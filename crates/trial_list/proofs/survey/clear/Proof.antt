@@ -1,7 +1,7 @@
 -- `trial_list::survey::clear` meets its contract.
 use borrow.Author.Needs.{needs}
 use Prim.Native.Nat.{_-_, _≤_}
-use Rattle.trial_list.proofs.SurveyLaws.{Cleared, cleared-none, cleared-next, cleared-all}
+use Rattle.trial_list.proofs.SurveyLaws.{Cleared, cleared-next, cleared-all}
 use Rattle.trial_list.proofs.survey.clear.Statement.{statement}
 use Rattle.trial_list.proofs.survey.clear.Tie as tie
 
@@ -11,14 +11,11 @@ Inv-loop vehicles₀ k₀ vehicles k = (k ≤ 256) × Cleared k vehicles
 abbrev μ-loop : tie.MeasureT-loop
 μ-loop vehicles₀ k₀ vehicles k = 256 - k
 
-loop-holds : tie.Need-loop-holds Inv-loop μ-loop
-loop-holds c = (search needs, search cleared-none)
-
 loop-again : tie.Need-loop-again Inv-loop μ-loop
 loop-again c = (search needs, search cleared-next)
 
 returns : tie.Need-returns Inv-loop μ-loop
-returns c = cleared-all _ _ (c .before .loop .inv .1) (c .loop-test .left)
+returns c = search cleared-all
 
 pub clear-spec : {M : Type 1} → statement M
 clear-spec =
@@ -26,7 +23,7 @@ clear-spec =
     (tie.spec
     Inv-loop
     μ-loop
-    loop-holds
+    (λ c. search needs)
     (λ c. search needs)
     (λ c. search needs)
     (λ c. search needs)

@@ -8,9 +8,7 @@ returns : tie.Need-returns
 returns c = (search place-rests, search distance-rests)
 
 leg-between-requires : tie.Need-leg-between-requires
-leg-between-requires c κs =
-    let p = c .before .before .before .pre in
-    (p .0, p .2, ride-inside _ _ _ _ (p .0) (c .place-of .ensures) (c .before .if1 .left) (p .1))
+leg-between-requires c κs = search (needs, ride-inside)
 
 returns-2 : tie.Need-returns-2
 returns-2 c =

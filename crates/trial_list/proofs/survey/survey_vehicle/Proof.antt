@@ -1,7 +1,6 @@
 -- `trial_list::survey::survey_vehicle` meets its contract.
 use borrow.Author.Needs.{needs}
 use Prim.Native.Nat.{_-_}
-use mathlib.Core.Path.{refl}
 use native.Mathlib.Omega.{arith}
 use lib.ListN.{length}
 use Rattle.trial_list.proofs.RideLaws.{Rides, rides-start, rides-word, rides-next, rides-end}
@@ -15,7 +14,7 @@ abbrev μ-loop : tie.MeasureT-loop
 μ-loop day layout plan from number vehicles₀ place₀ distance₀ at₀ vehicles place distance at = length plan - at
 
 loop-holds : tie.Need-loop-holds Inv-loop μ-loop
-loop-holds c = let p = c .before .before .before .pre in rides-start (p .2) _ _ (p .4)
+loop-holds c = search rides-start
 
 mark-stop-requires : tie.Need-mark-stop-requires Inv-loop μ-loop
 mark-stop-requires c κs =
@@ -31,17 +30,10 @@ drive-on-requires c κs =
     (p .0, rides-word (p .2) (l .inv) (c .before .before .before .before .before .if1 .taken), omega (arith, o .inside, p .0 .placesAre), omega (arith, o .few, o .within, p .1))
 
 loop-again : tie.Need-loop-again Inv-loop μ-loop
-loop-again c =
-    let p = c .before .before .before .before .before .before .before .before .before .before .before .before .pre in
-    rides-next (p .2) (c .before .before .before .before .before .before .before .before .loop .inv) _ _ _ (c .before .before .before .before .before .before .if1 .taken) (p .3) (c .before .before .before .mark-stop .ensures) (c .drive-on .ensures .0) (c .drive-on .ensures .1)
-
-add-t22 : tie.Need-add-t22 Inv-loop μ-loop
-add-t22 c =
-    let o = c .before .before .before .before .loop .inv .onward in
-    omega (arith, o .few, o .within, c .before .before .before .before .before .before .before .before .pre .1, c .before .leg-between .ensures .spans)
+loop-again c = search rides-next
 
 returns : tie.Need-returns Inv-loop μ-loop
-returns c = rides-end (c .before .before .before .before .before .before .before .before .pre .2) (c .before .before .before .before .loop .inv) _ _ (c .before .before .if1 .left) (c .before .leg-between .ensures) refl refl
+returns c = search rides-end
 
 pub survey-vehicle-spec : {M : Type 1} → statement M
 survey-vehicle-spec =
@@ -61,6 +53,6 @@ survey-vehicle-spec =
     loop-again
     (λ c κs. search needs)
     (λ c. search needs)
-    add-t22
+    (λ c. search needs)
     (λ c. search needs)
     returns)

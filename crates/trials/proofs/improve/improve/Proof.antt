@@ -14,7 +14,7 @@ run-trials-requires : tie.Need-run-trials-requires
 run-trials-requires c κs = let p = c .before .before .before .before .before .before .before .before .before .before .before .before .before .pre in ((p .0, p .1, p .2, c .before .before .before .before .before .before .before .before .fill-table .ensures, p .4, omega (arith, p .3)), ((p .5, p .6), (refl, refl, refl, refl)))
 
 returns : tie.Need-returns
-returns c = improved (c .before .before .before .before .before .before .before .before .before .before .before .before .run-trials .ensures .0) (c .before .before .before .before .before .before .before .before .before .before .before .before .run-trials .ensures .1) (c .before .before .fill-zeros .ensures) (search needs)
+returns c = search improved
 
 pub improve-spec : {M : Type 1} → statement M
 improve-spec =

@@ -1,5 +1,4 @@
 -- `trials::search::after_trial` meets its contract.
-use mathlib.Core.Path.{_∙_}
 use native.Mathlib.Omega.{arith}
 use Rattle.trials.proofs.SearchSteps.{goes-on, kept-plan, keeps-plan}
 use borrow.Author.Needs.{needs}
@@ -7,19 +6,19 @@ use Rattle.trials.proofs.search.after_trial.Statement.{statement}
 use Rattle.trials.proofs.search.after_trial.Tie as tie
 
 take-over-requires : tie.Need-take-over-requires
-take-over-requires c κs = let h = c .before .before .before .before .before .before .before .before .before .before .before .before .before .before .pre .4 in let v = h .held .surveyed in ((c .before .before .before .before .before .before .before .before .before .before .before .before .before .before .pre .0, c .before .before .before .before .before .before .before .before .before .before .before .before .before .before .pre .1, kept-plan h (c .before .before .before .before .before .before .if1 .taken), c .before .before .before .before .before .before .before .before .before .before .before .before .before .before .pre .2, c .before .before .before .before .before .before .before .before .before .before .before .before .before .before .pre .3), (v .startsSize, v .vehiclesSize, v .distancesSize, h .held .tracked .size))
+take-over-requires c κs = let h = c .before .before .before .before .before .before .before .before .before .before .before .before .before .before .pre .4 in let v = h .ahead .held .surveyed in ((c .before .before .before .before .before .before .before .before .before .before .before .before .before .before .pre .0, c .before .before .before .before .before .before .before .before .before .before .before .before .before .before .pre .1, kept-plan h (c .before .before .before .before .before .before .if1 .taken), c .before .before .before .before .before .before .before .before .before .before .before .before .before .before .pre .2, c .before .before .before .before .before .before .before .before .before .before .before .before .before .before .pre .3), (v .starting .size, v .vehiclesSize, v .distancesSize, h .ahead .held .tracked .size))
 
 add-going : tie.Need-add-going
-add-going c = omega (arith, c .before .before .before .before .before .before .before .before .before .before .before .before .before .before .before .before .before .before .before .before .before .before .before .before .before .before .before .before .pre .4 .left, c .before .before .before .before .before .before .before .before .before .before .before .before .before .before .before .before .before .before .before .before .before .before .before .before .before .before .before .before .good, c .struct-known .given)
+add-going c = omega (arith, c .before .before .before .before .before .before .before .before .before .before .before .before .before .before .before .before .before .before .before .before .before .before .before .before .before .before .before .before .pre .4 .ahead .left, c .before .before .before .before .before .before .before .before .before .before .before .before .before .before .before .before .before .before .before .before .before .before .before .before .before .before .before .before .good, c .struct-known .given)
 
 same-length : tie.Need-same-length
 same-length c = c .before .before .before .before .before .before .before .before .before .before .before .before .before .before .before .take-over .kept .1 .1 .0
 
 returns : tie.Need-returns
-returns c = let e = c .going .ensures in (keeps-plan (c .before .before .before .before .before .before .before .before .before .before .before .before .before .before .before .before .before .before .before .before .before .before .before .before .before .before .before .before .before .before .pre .4) _ (c .before .before .before .before .before .before .before .before .before .before .before .before .before .before .before .before .before .before .before .before .before .before .if1 .taken) (c .before .before .before .before .before .before .before .before .before .before .before .before .before .before .before .take-over .ensures) (e .0) (e .1) (e .2) (e .3) (e .4 ∙ c .before .first-trial .ensures) (e .5), omega (arith, e .3))
+returns c = keeps-plan (c .before .before .before .before .before .before .before .before .before .before .before .before .before .before .before .before .before .before .before .before .before .before .before .before .before .before .before .before .before .before .pre .4) (c .before .before .before .before .before .before .before .before .before .before .before .before .before .before .before .before .before .before .before .before .before .before .if1 .taken) (c .before .before .before .before .before .before .before .before .before .before .before .before .before .before .before .take-over .ensures) (c .before .first-trial .ensures) (c .going .ensures)
 
 returns-2 : tie.Need-returns-2
-returns-2 c = let e = c .going2 .ensures in (goes-on (c .before .before .before .before .before .before .before .before .before .before .pre .4) _ (c .before .before .if1 .left) (e .0) (e .1) (e .2) (e .3) (e .4) (e .5), omega (arith, e .3))
+returns-2 c = goes-on (c .before .before .before .before .before .before .before .before .before .before .pre .4) (c .before .before .if1 .left) (c .going2 .ensures)
 
 pub after-trial-spec : {M : Type 1} → statement M
 after-trial-spec =

@@ -16,32 +16,20 @@ Inv-loop day layout set table work₀ plan₀ starts₀ vehicles₀ driven₀ tr
 abbrev μ-loop : tie.MeasureT-loop
 μ-loop day layout set table work₀ plan₀ starts₀ vehicles₀ driven₀ tracks₀ s₀ work plan starts vehicles driven tracks s = if s .ended then 0 else set .budget - s .made + 1
 
-begin-requires : tie.Need-begin-requires Inv-loop μ-loop
-begin-requires c κs = ((c .before .before .before .before .before .before .before .before .before .before .before .before .before .before .pre .0 .0, c .before .before .before .before .before .before .before .before .before .before .before .before .before .before .pre .0 .1, c .before .before .before .before .before .before .before .before .before .before .before .before .before .before .pre .1 .0 .0, c .before .before .before .before .before .before .before .before .before .before .before .before .before .before .pre .1 .0 .1, c .before .before .before .before .before .before .before .before .before .before .before .before .before .before .pre .0 .4), c .before .before .before .before .before .before .before .before .before .before .before .before .before .before .pre .1 .1)
-
 loop-holds : tie.Need-loop-holds Inv-loop μ-loop
 loop-holds c = (c .before .before .before .before .before .before .before .before .before .before .begin .ensures _ _, refl, refl)
-
-is-going-requires : tie.Need-is-going-requires Inv-loop μ-loop
-is-going-requires c κs = tt
 
 next-step-requires : tie.Need-next-step-requires Inv-loop μ-loop
 next-step-requires c κs = ((c .before .before .before .before .before .before .before .before .before .before .before .before .before .before .before .before .before .before .before .before .before .before .before .before .before .before .before .before .before .before .before .before .before .before .pre .0 .0, c .before .before .before .before .before .before .before .before .before .before .before .before .before .before .before .before .before .before .before .before .before .before .before .before .before .before .before .before .before .before .before .before .before .before .pre .0 .1, c .before .before .before .before .before .before .before .before .before .before .before .before .before .before .before .before .before .before .before .before .before .before .before .before .before .before .before .before .before .before .before .before .before .before .pre .0 .2, c .before .before .before .before .before .before .before .before .before .before .before .before .before .before .before .before .before .before .before .before .before .before .before .before .before .before .before .before .before .before .before .before .before .before .pre .0 .3, omega (arith, c .before .before .before .before .before .before .before .before .before .before .before .before .before .before .before .before .before .before .before .before .before .before .before .before .before .before .before .before .before .before .before .before .before .before .pre .0 .4, c .before .before .before .before .before .before .before .before .loop .inv .2, c .before .before .before .before .before .before .before .before .before .before .before .before .before .before .before .before .before .before .before .begin .kept .1 .1 .1 .1 .1 .1 .1 .1 .0), omega (arith, c .before .before .before .before .before .before .before .before .before .before .before .before .before .before .before .before .before .before .before .before .before .before .before .before .before .before .before .before .before .before .before .before .before .before .pre .0 .5, c .before .before .before .before .before .before .before .before .loop .inv .1)), (c .before .before .before .before .before .before .before .before .loop .inv .0, is-on (c .before .before .before .before .before .before .before .is-going .ensures) (c .before .before .before .before .before .before .if1 .taken)))
 
 loop-less : tie.Need-loop-less Inv-loop μ-loop
-loop-less c = fewer-left (c .before .before .before .before .before .before .before .before .before .before .before .before .before .before .before .before .before .before .before .before .before .loop .s) (c .before .before .before .before .before .before .before .before .before .before .before .before .next-step .result) (is-on (c .before .before .before .before .before .before .before .before .before .before .before .before .before .before .before .before .before .before .before .before .is-going .ensures) (c .before .before .before .before .before .before .before .before .before .before .before .before .before .before .before .before .before .before .before .if1 .taken)) (c .before .before .before .before .before .before .before .before .before .before .before .before .next-step .ensures .0) (c .before .before .before .before .before .before .before .before .before .before .before .before .next-step .ensures .1)
+loop-less c = search (is-on, fewer-left)
 
 loop-again : tie.Need-loop-again Inv-loop μ-loop
 loop-again c = (c .before .before .before .before .before .before .before .before .before .before .before .before .next-step .ensures .0, search needs, search needs)
 
-same-length : tie.Need-same-length Inv-loop μ-loop
-same-length c = c .before .before .loop .inv .2 ∙ c .before .before .before .before .before .before .before .before .before .before .before .before .before .begin .kept .1 .1 .1 .1 .1 .1 .1 .1 .0
-
-same-length-2 : tie.Need-same-length-2 Inv-loop μ-loop
-same-length-2 c = c .before .before .loop .inv .1
-
 same-length-3 : tie.Need-same-length-3 Inv-loop μ-loop
-same-length-3 c = c .before .before .loop .inv .0 .held .surveyed .startsSize ∙ sym (c .before .before .before .before .before .before .before .before .before .before .before .before .before .before .before .before .before .before .before .before .before .before .before .before .before .before .before .before .pre .1 .1 .0)
+same-length-3 c = c .before .before .loop .inv .0 .held .surveyed .starting .size ∙ sym (c .before .before .before .before .before .before .before .before .before .before .before .before .before .before .before .before .before .before .before .before .before .before .before .before .before .before .before .before .pre .1 .1 .0)
 
 same-length-4 : tie.Need-same-length-4 Inv-loop μ-loop
 same-length-4 c = c .before .before .loop .inv .0 .held .surveyed .vehiclesSize ∙ sym (c .before .before .before .before .before .before .before .before .before .before .before .before .before .before .before .before .before .before .before .before .before .before .before .before .before .before .before .before .pre .1 .1 .1)
@@ -53,7 +41,7 @@ same-length-6 : tie.Need-same-length-6 Inv-loop μ-loop
 same-length-6 c = c .before .before .loop .inv .0 .held .tracked .size ∙ sym (c .before .before .before .before .before .before .before .before .before .before .before .before .before .before .before .before .before .before .before .before .before .before .before .before .before .before .before .before .pre .1 .1 .3)
 
 returns : tie.Need-returns Inv-loop μ-loop
-returns c = (c .before .before .loop .inv .0, is-off (c .before .is-going .ensures) (c .if1 .left))
+returns c = search is-off
 
 pub run-trials-spec : {M : Type 1} → statement M
 run-trials-spec =
@@ -61,14 +49,14 @@ run-trials-spec =
     (tie.spec
     Inv-loop
     μ-loop
-    begin-requires
+    (λ c κs. search needs)
     loop-holds
-    is-going-requires
+    (λ c κs. search needs)
     next-step-requires
     loop-less
     loop-again
-    same-length
-    same-length-2
+    (λ c. search needs)
+    (λ c. search needs)
     same-length-3
     same-length-4
     same-length-5

@@ -6,10 +6,18 @@ use Rattle.trials.proofs.search.step_on.Statement.{statement}
 use Rattle.trials.proofs.search.step_on.Tie as tie
 
 try-next-requires : tie.Need-try-next-requires
-try-next-requires c κs = let n = trial-names (c .before .before .before .before .before .before .before .before .before .before .before .before .before .before .pre .1) (c .before .before .before .before .before .before .before .before .before .before .before .before .before .before .pre .4) in (c .before .before .before .before .before .before .before .before .before .before .before .before .before .before .pre .0, c .before .before .before .before .before .before .before .before .before .before .before .before .before .before .pre .1, n .small, n .known, some-made (c .before .before .before .before .before .before .before .before .before .before .before .before .before .before .pre .1) (c .before .before .before .before .before .before .before .before .before .before .before .before .before .before .pre .4), c .before .before .before .before .before .before .before .before .before .before .before .before .before .before .pre .2, c .before .before .before .before .before .before .before .before .before .before .before .before .before .before .pre .4 .held .planAt .fits)
+try-next-requires c κs =
+    let start = c .before .before .before .before .before .before .before .before .before .before .before .before .before .before in
+    let p = start .pre in
+    let n = trial-names (start .args .listed) (p .1) (p .4) in
+    (p .0, p .1, n .small, n .known, some-made (start .args .listed) (p .1) (p .4), p .2, p .4 .held .planAt .fits)
 
 after-trial-requires : tie.Need-after-trial-requires
-after-trial-requires c κs = (c .before .before .before .before .before .before .before .before .before .before .before .before .before .before .before .before .before .before .before .before .before .before .before .pre .0, c .before .before .before .before .before .before .before .before .before .before .before .before .before .before .before .before .before .before .before .before .before .before .before .pre .1, c .before .before .before .before .before .before .before .before .before .before .before .before .before .before .before .before .before .before .before .before .before .before .before .pre .3, omega (arith, c .before .before .before .before .before .before .before .before .before .before .before .before .before .before .before .before .before .before .before .before .before .before .before .pre .2, c .before .before .before .before .before .before .before .before .try-next .kept .1 .1 .1 .1 .1 .1 .1 .1 .0), after-made (c .before .before .before .before .before .before .before .before .before .before .before .before .before .before .before .before .before .before .before .before .before .before .before .pre .1) (c .before .before .before .before .before .before .before .before .before .before .before .before .before .before .before .before .before .before .before .before .before .before .before .pre .4) _ (c .before .before .before .before .before .before .before .before .try-next .ensures))
+after-trial-requires c κs =
+    let start = c .before .before .before .before .before .before .before .before .before .before .before .before .before .before .before .before .before .before .before .before .before .before .before in
+    let tried = c .before .before .before .before .before .before .before .before .try-next in
+    let p = start .pre in
+    (p .0, p .1, p .3, omega (arith, p .2, tried .kept .1 .1 .1 .1 .1 .1 .1 .1 .0), after-made (start .args .listed) (p .1) (p .4) _ (tried .ensures))
 
 pub step-on-spec : {M : Type 1} → statement M
 step-on-spec =

@@ -1,28 +1,23 @@
 -- `walks::cabs::insert_tip` meets its contract.
-use native.Mathlib.Omega.{arith}
-use mathlib.Core.Path.{refl}
-use Rattle.walks.proofs.CabLaws.{standing-trip, insert-fails, some-still, insert-drives}
+use Rattle.walks.proofs.CabLaws.{insert-fails, some-emptied, insert-drives}
 use borrow.Author.Needs.{needs}
 use Rattle.walks.proofs.cabs.insert_tip.Statement.{statement}
 use Rattle.walks.proofs.cabs.insert_tip.Tie as tie
 
-nearest-tip-requires : tie.Need-nearest-tip-requires
-nearest-tip-requires c κs = let t = standing-trip (c .before .before .before .pre .2 .standing) in (c .before .before .before .pre .0, omega (arith, c .before .before .before .pre .0 .placesAre, t .place), t .minute)
-
 returns : tie.Need-returns
-returns c = insert-fails _ _ (c .before .nearest-tip .ensures .0) (c .if1 .taken) refl
+returns c = search insert-fails
 
 rest-cab-requires : tie.Need-rest-cab-requires
-rest-cab-requires c κs = (c .before .before .before .before .before .before .before .before .before .before .pre .0, c .before .before .before .before .before .before .before .before .before .before .pre .1, some-still _ (c .before .before .before .before .before .before .before .before .before .before .pre .2) (c .before .before .before .empty-cab .ensures))
+rest-cab-requires c κs = search (needs, some-emptied (c .before .before .before .before .before .before .before .before .before .before .pre .2) _ (c .before .before .before .empty-cab .ensures))
 
 returns-2 : tie.Need-returns-2
-returns-2 c = insert-drives _ _ _ (c .before .before .before .before .before .before .before .before .before .nearest-tip .ensures .0) (c .before .before .before .before .before .before .before .before .if1 .left) (c .before .before .before .before .before .before .empty-cab .ensures) (c .before .before .rest-cab .ensures)
+returns-2 c = search insert-drives
 
 pub insert-tip-spec : {M : Type 1} → statement M
 insert-tip-spec =
     tie.close
     (tie.spec
-    nearest-tip-requires
+    (λ c κs. search needs)
     returns
     (λ c κs. search needs)
     rest-cab-requires

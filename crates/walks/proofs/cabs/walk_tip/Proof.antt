@@ -5,10 +5,10 @@ use Rattle.walks.proofs.cabs.walk_tip.Statement.{statement}
 use Rattle.walks.proofs.cabs.walk_tip.Tie as tie
 
 returns : tie.Need-returns
-returns c = tip-dropped _ (c .if1 .taken)
+returns c = search tip-dropped
 
 returns-2 : tie.Need-returns-2
-returns-2 c = tip-driven _ (c .before .before .before .before .if1 .left) (c .before .before .empty-cab .ensures)
+returns-2 c = search tip-driven
 
 pub walk-tip-spec : {M : Type 1} → statement M
 walk-tip-spec = tie.close (tie.spec returns (λ c κs. search needs) (λ c. search needs) returns-2)

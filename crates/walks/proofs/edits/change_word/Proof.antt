@@ -7,7 +7,7 @@ use Rattle.walks.proofs.edits.change_word.Statement.{statement}
 use Rattle.walks.proofs.edits.change_word.Tie as tie
 
 returns : tie.Need-returns
-returns c = λ day task k q n. rest-off day _ _ _ task q n (c .if1 .taken)
+returns c = search rest-off
 
 add-i : tie.Need-add-i
 add-i c = let w = rw (c .before .e .given .1) at (c .before .before .before .before .pre) in omega (arith, w .0)

@@ -4,13 +4,13 @@ use Rattle.walks.proofs.edits.move_word.Statement.{statement}
 use Rattle.walks.proofs.edits.move_word.Tie as tie
 
 returns : tie.Need-returns
-returns c = (search branches, search branches)
+returns c = search branches
 
 returns-2 : tie.Need-returns-2
-returns-2 c = (search branches, search branches)
+returns-2 c = search branches
 
 returns-3 : tie.Need-returns-3
-returns-3 c = (search branches, search branches)
+returns-3 c = search branches
 
 pub move-word-spec : {M : Type 1} → statement M
 move-word-spec = tie.close (tie.spec returns returns-2 returns-3)

@@ -2,7 +2,7 @@
 use mathlib.Core.Path.{refl}
 use Rattle.rules.specs.Plan.{lunch, Known}
 use Rattle.walks.proofs.RewalkLaws.{turn-waiting, turn-single, turn-double, step-waiting, step-single, step-double}
-use Rattle.walks.proofs.MidwayLaws.{every-at}
+use Rattle.laws.proofs.Lists.{every-at}
 use borrow.Author.Needs.{needs}
 use Rattle.walks.proofs.vehicle.next_turn.Statement.{statement}
 use Rattle.walks.proofs.vehicle.next_turn.Tie as tie

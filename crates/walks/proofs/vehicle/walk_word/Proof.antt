@@ -1,6 +1,6 @@
 -- `walks::vehicle::walk_word` meets its contract.
 use native.Mathlib.Omega.{arith}
-use Rattle.walks.proofs.CabLaws.{some-still}
+use Rattle.walks.proofs.CabLaws.{some-rested}
 use Rattle.walks.proofs.WalkLaws.{some-fewer}
 use Rattle.walks.proofs.RewalkLaws.{means-stop, means-tip, word-none, word-failed, word-standing, stop-standing, word-stop, word-tip}
 use borrow.Author.Needs.{needs}
@@ -8,10 +8,10 @@ use Rattle.walks.proofs.vehicle.walk_word.Statement.{statement}
 use Rattle.walks.proofs.vehicle.walk_word.Tie as tie
 
 returns : tie.Need-returns
-returns c = word-none (c .if1 .taken)
+returns c = search word-none
 
 returns-2 : tie.Need-returns-2
-returns-2 c = word-failed (c .if2 .taken)
+returns-2 c = search word-failed
 
 rest-cab-requires : tie.Need-rest-cab-requires
 rest-cab-requires c κs = (c .before .before .before .before .before .pre .0, c .before .before .before .before .before .pre .1, some-fewer (word-standing (c .before .before .before .before .before .pre .2) (c .before .if2 .left)))
@@ -20,16 +20,16 @@ sub-walk-stop : tie.Need-sub-walk-stop
 sub-walk-stop c = means-stop (c .before .before .before .before .before .before .before .before .before .pre .2 .means) (c .before .before .before .before .before .before .if1 .left) (c .if3 .taken) .least
 
 walk-stop-requires : tie.Need-walk-stop-requires
-walk-stop-requires c κs = let t = means-stop (c .before .before .before .before .before .before .before .before .before .before .pre .2 .means) (c .before .before .before .before .before .before .before .if1 .left) (c .before .if3 .taken) in (c .before .before .before .before .before .before .before .before .before .before .pre .0, c .before .before .before .before .before .before .before .before .before .before .pre .1, some-still _ (stop-standing t (word-standing (c .before .before .before .before .before .before .before .before .before .before .pre .2) (c .before .before .before .before .before .before .if2 .left))) (c .before .before .before .before .rest-cab .ensures), t .first, omega (arith, t .within, c .before .before .before .before .before .before .before .before .before .before .pre .0 .stopsAre))
+walk-stop-requires c κs = let t = means-stop (c .before .before .before .before .before .before .before .before .before .before .pre .2 .means) (c .before .before .before .before .before .before .before .if1 .left) (c .before .if3 .taken) in (c .before .before .before .before .before .before .before .before .before .before .pre .0, c .before .before .before .before .before .before .before .before .before .before .pre .1, some-rested (stop-standing t (word-standing (c .before .before .before .before .before .before .before .before .before .before .pre .2) (c .before .before .before .before .before .before .if2 .left))) (c .before .before .before .before .rest-cab .ensures), t .first, omega (arith, t .within, c .before .before .before .before .before .before .before .before .before .before .pre .0 .stopsAre))
 
 returns-3 : tie.Need-returns-3
-returns-3 c = word-stop (c .before .before .before .before .before .before .before .before .before .before .if1 .left) (c .before .before .before .before .before .before .before .before .before .if2 .left) (c .before .before .before .before .before .before .before .rest-cab .ensures) (c .before .before .before .before .if3 .taken) (c .before .before .walk-stop .ensures)
+returns-3 c = search word-stop
 
 walk-tip-requires : tie.Need-walk-tip-requires
-walk-tip-requires c κs = let t = means-tip (c .before .before .before .before .before .before .before .before .before .before .pre .2 .means) (c .before .before .before .before .before .before .before .if1 .left) (c .before .if3 .left) in (c .before .before .before .before .before .before .before .before .before .before .pre .0, c .before .before .before .before .before .before .before .before .before .before .pre .1, some-still _ (some-fewer (word-standing (c .before .before .before .before .before .before .before .before .before .before .pre .2) (c .before .before .before .before .before .before .if2 .left))) (c .before .before .before .before .rest-cab .ensures), t .first, omega (arith, t .within, c .before .before .before .before .before .before .before .before .before .before .pre .0 .tipsAre))
+walk-tip-requires c κs = let t = means-tip (c .before .before .before .before .before .before .before .before .before .before .pre .2 .means) (c .before .before .before .before .before .before .before .if1 .left) (c .before .if3 .left) in (c .before .before .before .before .before .before .before .before .before .before .pre .0, c .before .before .before .before .before .before .before .before .before .before .pre .1, some-rested (some-fewer (word-standing (c .before .before .before .before .before .before .before .before .before .before .pre .2) (c .before .before .before .before .before .before .if2 .left))) (c .before .before .before .before .rest-cab .ensures), t .first, omega (arith, t .within, c .before .before .before .before .before .before .before .before .before .before .pre .0 .tipsAre))
 
 returns-4 : tie.Need-returns-4
-returns-4 c = word-tip (c .before .before .before .before .before .before .before .before .before .before .if1 .left) (c .before .before .before .before .before .before .before .before .before .if2 .left) (c .before .before .before .before .before .before .before .rest-cab .ensures) (c .before .before .before .before .if3 .left) (c .before .before .walk-tip .ensures)
+returns-4 c = search word-tip
 
 pub walk-word-spec : {M : Type 1} → statement M
 walk-word-spec =
