@@ -5,10 +5,10 @@ use Rattle.plan_queries.proofs.same_rounds.Statement.{statement}
 use Rattle.plan_queries.proofs.same_rounds.Tie as tie
 
 returns : tie.Need-returns
-returns c = let told = c .before in (first-lawful _ _ _ (rw (told .enum-told .given .1) at (told .before .before .check .ensures)) (c .second-answer .ensures .0), c .second-answer .ensures .1)
+returns c = (search first-lawful, search needs)
 
 returns-2 : tie.Need-returns-2
-returns-2 c = let told = c .before in let refuses = rw (told .answer .given .1) at (told .before .before .check .ensures) in (first-refused _ _ _ refuses, plan-numbered _ _ refuses)
+returns-2 c = (search first-refused, search plan-numbered)
 
 pub same-rounds-spec : {M : Type 1} → statement M
 same-rounds-spec =

@@ -6,16 +6,16 @@ use Rattle.plan_queries.proofs.second_answer.Statement.{statement}
 use Rattle.plan_queries.proofs.second_answer.Tie as tie
 
 returns : tie.Need-returns
-returns c = let told = c .before .before in (rounds-same _ _ _ (rw (told .enum-told .given .1) at (told .before .before .check .ensures)) (c .before .are-same .ensures) (c .if1 .taken), tt)
+returns c = (search rounds-same, tt)
 
 add-t10 : tie.Need-add-t10
-add-t10 c = omega (arith, place-small _ _ (rw (c .before .answer .given .1) at (c .before .before .before .check .ensures)))
+add-t10 c = omega (arith, place-small _ _ (c .before .before .before .check .ensures) (c .before .answer .given .1))
 
 returns-2 : tie.Need-returns-2
-returns-2 c = let told = c .before .before in (rounds-differ _ _ _ (rw (told .enum-told .given .1) at (told .before .before .check .ensures)) (c .before .are-same .ensures) (c .if1 .left), tt)
+returns-2 c = (search rounds-differ, tt)
 
 returns-3 : tie.Need-returns-3
-returns-3 c = let refuses = rw (c .before .answer .given .1) at (c .before .before .before .check .ensures) in (second-refused _ _ _ refuses, plan-numbered _ _ refuses)
+returns-3 c = (search second-refused, search plan-numbered)
 
 pub second-answer-spec : {M : Type 1} → statement M
 second-answer-spec =

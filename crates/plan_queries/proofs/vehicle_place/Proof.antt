@@ -5,10 +5,10 @@ use Rattle.plan_queries.proofs.vehicle_place.Statement.{statement}
 use Rattle.plan_queries.proofs.vehicle_place.Tie as tie
 
 returns : tie.Need-returns
-returns c = let told = c .before in place-asked _ _ _ (rw (told .enum-told .given .1) at (told .before .before .check .ensures)) (c .place-in .ensures)
+returns c = search place-asked
 
 returns-2 : tie.Need-returns-2
-returns-2 c = let told = c .before in place-refused _ _ _ (rw (told .answer .given .1) at (told .before .before .check .ensures))
+returns-2 c = search place-refused
 
 pub vehicle-place-spec : {M : Type 1} → statement M
 vehicle-place-spec =

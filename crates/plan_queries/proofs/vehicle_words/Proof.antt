@@ -1,8 +1,7 @@
 -- `plan_queries::vehicle_words` meets its contract: the part lies within the plan.
-use Prim.Native.Nat.{_≤_, _+_, _-_}
+use Prim.Native.Nat.{_≤_, _+_}
 use borrow.Author.Needs.{needs}
-use lib.ListN.{length, take, drop}
-use mathlib.Core.Path.{_≡_, ap, _∙_}
+use lib.ListN.{length}
 use native.Mathlib.Omega.{arith}
 use Rattle.plan_queries.proofs.PlanCalls.{part-within, part-handed, part-empty}
 use Rattle.plan_queries.proofs.vehicle_words.Statement.{statement}
@@ -10,7 +9,7 @@ use Rattle.plan_queries.proofs.vehicle_words.Tie as tie
 
 -- the part lies within the plan
 inside : (c : tie.After-known-told) → c .before .answer .given .0 .0 + c .before .answer .given .0 .1 .0 ≤ length (c .before .before .before .before .before .before .args .plan .now)
-inside c = part-within _ _ _ (rw (c .before .answer .given .1) at (c .before .before .before .vehicle-place .ensures))
+inside c = search part-within
 
 add-end : tie.Need-add-end
 add-end c = let i = inside c in omega arith
@@ -22,10 +21,10 @@ part-result-end : tie.Need-part-result-end
 part-result-end c = inside c
 
 returns : tie.Need-returns
-returns c = let a = c .before .before .answer .given in let e : (a .0 .0 + a .0 .1 .0) - a .0 .0 ≡ a .0 .1 .0 = omega arith in ap (λ k. take k (drop (a .0 .0) (c .before .before .before .before .before .before .before .args .plan .now))) e ∙ part-handed _ _ _ (rw (a .1) at (c .before .before .before .before .vehicle-place .ensures))
+returns c = search part-handed
 
 returns-2 : tie.Need-returns-2
-returns-2 c = part-empty _ _ _ (rw (c .before .enum-told .given .1) at (c .before .before .before .vehicle-place .ensures))
+returns-2 c = search part-empty
 
 pub vehicle-words-spec : {M : Type 1} → statement M
 vehicle-words-spec =
