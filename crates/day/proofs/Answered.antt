@@ -3,57 +3,46 @@
 use Prim.Native.Nat.{ℕ, zero, suc, _+_, _-_, _/_, _<_, _≤_}
 use mathlib.Core.Path.{_≡_, refl, sym, ap, subst, _∙_}
 use mathlib.Core.List.{List, [], _∷_}
-use mathlib.Core.Bool.{Bool, true, false}
+use mathlib.Core.Bool.{true, false}
 use native.Mathlib.Omega.{arith}
 use lib.ListN.{length, getD, drop, length-drop}
 use lib.Seq.{getD-drop}
 use lib.Dec.{eqb, ltb}
-use borrow.Author.Tests.{eqb-true, eqb-false, ltb-false, not-false, ne-eqb}
-use Rattle.rules.specs.Tests.{if_then_else_, neb}
+use borrow.Author.Tests.{eqb-true, eqb-false, ltb-false, not-false}
+use Rattle.rules.specs.Tests.{neb}
 use Rattle.rules.specs.Answers.{given, refused, isGiven}
 use Rattle.rules.specs.DayFile.{tipsIn, stopsIn, wordsOf, formAt, faultOf, judgeFrom, judgeSized, judgeDay}
 use Rattle.rules.specs.Fields.{wordAt, tips, stops, IsAccepted}
 use Rattle.rules.specs.AnswerValues.{dayValues}
 use Rattle.rules.specs.declared.answers.DayAnswer.{DayAnswer}
 use Rattle.rules.specs.declared.answers.DayAnswer.the-variants as Days
+use Rattle.laws.proofs.Answering.{Answering, values, refusal, answering-if, answering-fault, refusal-not-given}
 use Rattle.laws.proofs.Tests.{only-first, only-second}
 
--- an answer of the judge: a size, or a refusal's number and place
-pub data Judged : List ℕ → Type 0 where
-  accepted : (n d : ℕ) → Judged (given (n ∷ d ∷ []))
-  refusal : (number place : ℕ) → 0 < number → Judged (refused number place)
+-- an answer of the judge: stops and tips, or a refusal
+pub data Size : List ℕ → Type 0 where
+  size : (n d : ℕ) → Size (n ∷ d ∷ [])
 
-judged-if : (t : Bool) {x y : List ℕ} → Judged x → Judged y → Judged (if t then x else y)
-judged-if true a b = a
-judged-if false a b = b
-
-judged-fault : (t : Bool) (x i : ℕ) {y : List ℕ} → eqb x 0 ≡ t → Judged y → Judged (if t then y else refused x i)
-judged-fault true x i e a = a
-judged-fault false x i e a = refusal x i (omega (arith, eqb-false x 0 e))
-
-judged-from : (d n : ℕ) (ws : List ℕ) (i : ℕ) → Judged (judgeFrom d n ws i)
+judged-from : (most d n : ℕ) (ws : List ℕ) (i : ℕ) → i + length ws ≤ most → Answering Size most (judgeFrom d n ws i)
 unfolding judgeFrom
-judged-from d n [] i = accepted n d
-judged-from d n (w ∷ ws) i = judged-fault (eqb (faultOf (formAt d n i) w) 0) (faultOf (formAt d n i) w) i refl (judged-from d n ws (suc i))
+judged-from most d n [] i h = values (n ∷ d ∷ []) (size n d) (omega arith)
+judged-from most d n (w ∷ ws) i h =
+    answering-fault (eqb (faultOf (formAt d n i) w) 0) (faultOf (formAt d n i) w) i refl (omega arith) (judged-from most d n ws (suc i) (omega arith))
 
-pub day-judged : (day : List ℕ) → Judged (judgeDay day)
+pub day-judged : (day : List ℕ) → Answering Size (length day + 1) (judgeDay day)
 unfolding judgeDay judgeSized
 day-judged day =
     let w = getD day 0 0 in
-    judged-if (ltb (length day) 7) (refusal 1 (length day) (omega arith))
-    (judged-if (neb (w / 4096) 65536) (refusal 2 0 (omega arith))
-    (judged-if (ltb 240 (stopsIn w)) (refusal 3 0 (omega arith))
-    (judged-if (eqb (tipsIn w) 0) (refusal 3 0 (omega arith))
-    (judged-if (neb (length day) (wordsOf (tipsIn w) (stopsIn w))) (refusal 4 (length day) (omega arith))
-    (judged-from (tipsIn w) (stopsIn w) (drop 1 day) 1)))))
+    answering-if (ltb (length day) 7) (refusal 1 (length day) (omega arith) (omega arith))
+    (answering-if (neb (w / 4096) 65536) (refusal 2 0 (omega arith) (omega arith))
+    (answering-if (ltb 240 (stopsIn w)) (refusal 3 0 (omega arith) (omega arith))
+    (answering-if (eqb (tipsIn w) 0) (refusal 3 0 (omega arith) (omega arith))
+    (answering-if (neb (length day) (wordsOf (tipsIn w) (stopsIn w))) (refusal 4 (length day) (omega arith) (omega arith))
+    (judged-from (length day + 1) (tipsIn w) (stopsIn w) (drop 1 day) 1 (omega (arith, length-drop 1 day)))))))
 
 -- a refused day has no answer
-refusal-not-given : (answer : List ℕ) → Judged answer → {number place : ℕ} → refused number place ≡ answer → isGiven answer ≡ false
-refusal-not-given answer (accepted n d) e = let z : _≡_ {A = ℕ} 2 3 = ap length e in absurd (omega arith)
-refusal-not-given answer (refusal number place h) e = ne-eqb number 0 (λ z. omega arith)
-
 pub refused-not-given : (day : List ℕ) {number place : ℕ} → refused number place ≡ judgeDay day → isGiven (judgeDay day) ≡ false
-refused-not-given day e = refusal-not-given (judgeDay day) (day-judged day) e
+refused-not-given day e = refusal-not-given (day-judged day) e
 
 -- an accepted day: its size, its length, and no word at fault
 pub record Faultless (day : List ℕ) (d n : ℕ) : Type 0 where
@@ -132,3 +121,10 @@ module _ (day : List ℕ) (judged : DayAnswer) (e : dayValues judged ≡ judgeDa
 
     pub accepted-long : length day ≡ wordsOf (tips day) (stops day)
     accepted-long = let f = given-faultless day n d (sym accepted-day) in f .long ∙ rw (f .tipsAre, f .stopsAre)
+
+pub judged-accepted : (day : List ℕ) → isGiven (judgeDay day) ≡ true → IsAccepted day
+judged-accepted day g = go (day-judged day) refl g
+  where
+    go : {answer : List ℕ} → Answering Size (length day + 1) answer → answer ≡ judgeDay day → isGiven answer ≡ true → IsAccepted day
+    go (values vs (size n d) l) e h = given-accepted day e
+    go (refusal number place some l) e h = absurd (omega (arith, eqb-true number 0 h))

@@ -1,15 +1,15 @@
 -- The legs, row by row: the look at a whole row, its words one by one, and the loop over the rows.
 -- Assumes nothing.
 use Prim.Native.Nat.{ℕ, zero, suc, _+_, _-_, _*_, _<_, _≤_}
-use mathlib.Core.Path.{_≡_, refl, sym, ap, subst, _∙_}
+use mathlib.Core.Path.{_≡_, refl, sym, ap, _∙_}
 use mathlib.Core.List.{List}
 use mathlib.Core.Bool.{Bool, true, false}
-use mathlib.Core.Logic.{⊎-elim}
-use native.Mathlib.Nat.{eq-or-lt-of-le, suc-mul}
+use native.Mathlib.Nat.{suc-mul}
 use native.Mathlib.Numerals.{add-one}
 use native.Mathlib.Omega.{arith}
 use lib.ListN.{length, getD}
 use lib.Dec.{eqb}
+use borrow.Author.Count.{below-more}
 use borrow.Author.Tests.{eq-eqb, ne-eqb, eqb-true, eqb-false}
 use Rattle.rules.specs.Tests.{if_then_else_}
 use Rattle.rules.specs.DayFile.{leg, stay, placesOf, legsAt, formAt, faultOf}
@@ -22,9 +22,7 @@ use Rattle.day_faults.proofs.Parts.{faultAt, word-stops, word-passes, n
 
 -- what holds of each index below i, and of i, holds of each below i + 1
 below-next : (P : ℕ → Type 0) (from i : ℕ) → ((k : ℕ) → from ≤ k → k < i → P k) → P i → (k : ℕ) → from ≤ k → k < i + 1 → P k
-below-next P from i all here k h g =
-    let l : k ≤ i = omega arith in
-    ⊎-elim (λ (e : k ≡ i). subst P (sym e) here) (λ (b : k < i). all k h b) (eq-or-lt-of-le l)
+below-next P from i all here k h g = below-more (λ j. from ≤ j → P j) i (λ j l m. all j m l) (λ _. here) k g h
 
 -- the count of words out of range: none so far, or the count is not 0
 pub range-start : (day : List ℕ) (from : ℕ) → InRange day from from

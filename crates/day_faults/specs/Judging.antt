@@ -1,4 +1,4 @@
--- How the judge goes over a day in parts. It serves the contracts of its own functions; no definition of the day rests on it.
+-- How the judge goes over a day in parts. It serves contracts; no definition of the day rests on it.
 -- Assumes nothing.
 use Prim.Native.Nat.{ℕ, _+_, _*_, _<_, _≤_}
 use mathlib.Core.Path.{_≡_}

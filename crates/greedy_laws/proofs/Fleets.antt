@@ -64,14 +64,6 @@ routed-more day (suc most) (suc more) taken h g = elim (eq-zero-or-pos (oneVehic
       ∙ sym (routed-some day most taken l)
 ]
 
--- the whole build: n + 1 vehicles are enough
-module _ (day : List ℕ) (more : ℕ) (h : stops day + 1 ≤ more) where
-  pub greedy-fleet-more : fleet day more [] ≡ greedyRounds day
-  greedy-fleet-more = fleet-more day (stops day + 1) more [] (omega (arith, unmet-most (stops day) [])) h
-
-  pub greedy-routed-more : routed day more [] ≡ routed day (stops day + 1) []
-  greedy-routed-more = routed-more day (stops day + 1) more [] (omega (arith, unmet-most (stops day) [])) h
-
 -- the vehicles that still go out when some stops are routed, and the stops routed then, with no number of vehicles to count down
 unfoldable pub fleetFrom : List ℕ → List ℕ → List Round
 fleetFrom day taken = fleet day (suc (unmet (stops day) taken)) taken

@@ -1,5 +1,4 @@
--- What the build carries from task to task. It serves the contracts of this crate's own functions; no definition of the build rests on it.
--- Assumes nothing.
+-- What the build carries from task to task. It serves contracts; no definition of the build rests on it. Assumes nothing.
 use Prim.Native.Nat.{ℕ, _<_}
 use mathlib.Core.Bool.{Bool, not, _&&_}
 use mathlib.Core.List.{List}

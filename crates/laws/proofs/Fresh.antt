@@ -1,11 +1,9 @@
 -- Numbers that are each new when they are collected: what that says of how often each occurs, and of which of 1..n are missing.
 -- Assumes nothing.
 use Prim.Native.Nat.{ℕ, zero, suc, _+_, _≤_, _<_}
-use mathlib.Core.Path.{_≡_, refl, sym, ap, _∙_, subst}
+use mathlib.Core.Path.{_≡_, refl, ap, _∙_}
 use mathlib.Core.Bool.{Bool, true, false, _||_}
 use mathlib.Core.List.{List, [], _∷_, _++_}
-use mathlib.Core.Logic.{⊎-elim}
-use native.Mathlib.Nat.{eq-or-lt-of-le}
 use native.Mathlib.Decide.{decLe}
 use native.Mathlib.Omega.{arith}
 use lib.ListN.{length}
@@ -14,6 +12,7 @@ use borrow.Author.Tests.{eq-eqb, ne-eqb, eqb-true}
 use Rattle.rules.specs.Tests.{if_then_else_}
 use Rattle.rules.specs.Lists.{Every, mem, times, unmet}
 use Rattle.laws.specs.Lists.{collect, Fresh}
+use Rattle.laws.proofs.Least.{up-to-suc}
 use Rattle.laws.proofs.Lists.{unmet-less}
 
 -- one where a number stands in the list, else none
@@ -64,14 +63,11 @@ unfolding times
 times-head k ks = rw (eq-eqb k k refl) (omega arith)
 
 once-none : (k : ℕ) (met : List ℕ) → once k met ≡ 0 → mem k met ≡ false
-once-none k met e = go (mem k met) refl
+once-none k met e = go (mem k met) e
   where
-    go : (b : Bool) → mem k met ≡ b → mem k met ≡ false
-    go false q = q
-    go true q = absurd (one (ap (λ (b : Bool). if b then 1 else 0) (sym q) ∙ e))
-      where
-        one : _≡_ {A = ℕ} 1 0 → ⊥
-        one z = omega arith
+    go : (b : Bool) → _≡_ {A = ℕ} (if b then 1 else 0) 0 → b ≡ false
+    go true z = absurd (omega arith)
+    go false z = refl
 
 pub times-fresh : (met ks : List ℕ) → ((k : ℕ) → times k ks + once k met ≤ 1) → Fresh met ks
 unfolding Fresh times
@@ -79,10 +75,6 @@ times-fresh met [] h = tt
 times-fresh met (x ∷ ks) h =
     let new : mem x met ≡ false = once-none x met (omega (arith, h x, times-head x ks)) in
     (new, times-fresh (x ∷ met) ks (λ k. omega (arith, h k, once-front k x met new)))
-
--- a number that is not too large stands below the next, or is it
-at-most-suc : (P : ℕ → Type 0) (n : ℕ) → ((k : ℕ) → 1 ≤ k → k ≤ n → P k) → P (suc n) → (k : ℕ) → 1 ≤ k → k ≤ suc n → P k
-at-most-suc P n all here k h g = ⊎-elim (λ (e : k ≡ suc n). subst P (sym e) here) (λ (l : k < suc n). all k h (omega arith)) (eq-or-lt-of-le g)
 
 -- none of 1..n is missing: each stands there
 pub unmet-none : (n : ℕ) (met : List ℕ) → unmet n met ≡ 0 → (k : ℕ) → 1 ≤ k → k ≤ n → mem k met ≡ true
@@ -92,7 +84,7 @@ unmet-none (suc n) met e k h g = go (mem (suc n) met) refl e (unmet-none n met)
   where
     go : (b : Bool) → mem (suc n) met ≡ b → (if b then 0 else 1) + unmet n met ≡ 0
         → (unmet n met ≡ 0 → (k : ℕ) → 1 ≤ k → k ≤ n → mem k met ≡ true) → mem k met ≡ true
-    go true q z rest = at-most-suc (λ j. mem j met ≡ true) n (rest (omega arith)) q k h g
+    go true q z rest = up-to-suc (λ j. mem j met ≡ true) n (rest (omega arith)) q k h g
     go false q z rest = absurd (omega arith)
 
 pub all-met : (n : ℕ) (met : List ℕ) → ((k : ℕ) → 1 ≤ k → k ≤ n → mem k met ≡ true) → unmet n met ≡ 0
@@ -151,14 +143,11 @@ module _ (n : ℕ) (ks : List ℕ) where
       most k (yes a) (no b) = omega (arith, times-other k ks (every-weaker (λ j. (1 ≤ j) × (j ≤ n)) (λ j. k ≡ j → ⊥) (λ j q e. absurd (omega arith)) ks r))
 
   once-mem : (k : ℕ) (met : List ℕ) → once k met ≡ 1 → mem k met ≡ true
-  once-mem k met e = go (mem k met) refl
+  once-mem k met e = go (mem k met) e
     where
-      go : (b : Bool) → mem k met ≡ b → mem k met ≡ true
-      go true q = q
-      go false q = absurd (none (ap (λ (b : Bool). if b then 1 else 0) (sym q) ∙ e))
-        where
-          none : _≡_ {A = ℕ} 0 1 → ⊥
-          none z = omega arith
+      go : (b : Bool) → _≡_ {A = ℕ} (if b then 1 else 0) 1 → b ≡ true
+      go true z = refl
+      go false z = absurd (omega arith)
 
   pub once-all : Fresh [] ks → ((k : ℕ) → 1 ≤ k → k ≤ n → times k ks ≡ 1) → unmet n (collect [] ks) ≡ 0
   unfolding mem

@@ -25,7 +25,7 @@ not-both : {x : Bool} → x ≡ true → x ≡ false → ⊥
 not-both t f = true≢false (sym t ∙ f)
 
 -- what holds of 1..m and of the number after m holds of them all
-up-to-suc : (P : ℕ → Type 0) (m : ℕ) → ((k : ℕ) → 0 < k → k ≤ m → P k) → P (suc m)
+pub up-to-suc : (P : ℕ → Type 0) (m : ℕ) → ((k : ℕ) → 0 < k → k ≤ m → P k) → P (suc m)
     → (k : ℕ) → 0 < k → k ≤ suc m → P k
 up-to-suc P m all here k p l =
     ⊎-elim (λ (q : k ≡ suc m). subst P (sym q) here) (λ (w : k < suc m). all k p (omega arith)) (eq-or-lt-of-le l)

@@ -1,6 +1,6 @@
 -- Demand 2: a plan is called lawful exactly when it has document 01's form, meets its loads and counts, and a timetable exists; its
 -- distance, vehicles and stops served are document 01's. Assumes nothing.
-use Prim.Native.Nat.{ℕ, suc, _+_, _≤_, _<_}
+use Prim.Native.Nat.{ℕ, suc, _+_, _≤_}
 use mathlib.Core.Path.{_≡_, refl, sym, ap, ap₂, _∙_}
 use mathlib.Core.Bool.{Bool, true, false, false≢true}
 use mathlib.Core.List.{List, [], _∷_, _++_}
@@ -8,9 +8,9 @@ use mathlib.Core.Logic.{_↔_}
 use native.Mathlib.Omega.{arith}
 use lib.ListN.{length}
 use lib.Dec.{ltb, eqb}
-use borrow.Author.Tests.{eqb-false, ltb-false, ne-eqb}
+use borrow.Author.Tests.{eqb-true, ltb-false}
 use Rattle.rules.specs.Tests.{if_then_else_}
-use Rattle.rules.specs.Answers.{given, refused, isGiven}
+use Rattle.rules.specs.Answers.{given, isGiven}
 use Rattle.rules.specs.Lists.{Every, unmet, total}
 use Rattle.rules.specs.DayFile.{judgeDay}
 use Rattle.rules.specs.Fields.{stops, IsAccepted}
@@ -19,9 +19,10 @@ use Rattle.rules.specs.Plan.{Round, planWords, stopsOnAll}
 use Rattle.rules.specs.Lawful.{Loads, Timed, Lawful, totals, distanceFrom}
 use Rattle.rules.specs.Trip.{leaving}
 use Rattle.rules.specs.Check.{Walk, start, faultAt, walkAfter, finished, checkFrom, checkWords, checkPlan}
+use Rattle.laws.proofs.Answering.{Answering, values, refusal, answering-if, answering-fault}
 use Rattle.laws.proofs.Fresh.{fresh-once}
 use Rattle.laws.proofs.Tests.{only-second}
-use Rattle.day.proofs.Answered.{Judged, accepted, refusal, day-judged, given-accepted}
+use Rattle.day.proofs.Answered.{judged-accepted}
 use Rattle.plan_laws.specs.Vehicles.{Clear, tripHome}
 use Rattle.plan_laws.proofs.Clear.{clear-loads, clear-timed, timed-clear}
 use Rattle.plan_laws.proofs.Passing.{given-not-refused}
@@ -29,30 +30,24 @@ use Rattle.plan_laws.proofs.PlanChecks.{plan-check}
 use Rattle.plan_laws.proofs.PlanParsing.{plan-parse}
 use Rattle.plan_laws.proofs.Timetables.{home-distance}
 
--- an answer of the check: distance, vehicles and stops served, or a refusal's number and place
-pub data Checked : List ℕ → Type 0 where
-  lawful : (distance vehicles served : ℕ) → Checked (given (distance ∷ vehicles ∷ served ∷ []))
-  fault : (number place : ℕ) → 0 < number → Checked (refused number place)
+-- an answer of the check: distance, vehicles and stops served, or a refusal
+pub data Totals : List ℕ → Type 0 where
+  totalled : (distance vehicles served : ℕ) → Totals (distance ∷ vehicles ∷ served ∷ [])
 
-checked-if : (t : Bool) {x y : List ℕ} → Checked x → Checked y → Checked (if t then x else y)
-checked-if true a b = a
-checked-if false a b = b
-
-checked-fault : (t : Bool) (x i : ℕ) {y : List ℕ} → eqb x 0 ≡ t → Checked y → Checked (if t then y else refused x i)
-checked-fault true x i e a = a
-checked-fault false x i e a = fault x i (omega (arith, eqb-false x 0 e))
-
-checked-from : (day ws : List ℕ) (i : ℕ) (s : Walk) → Checked (checkFrom day ws i s)
+checked-from : (most : ℕ) (day ws : List ℕ) (i : ℕ) (s : Walk) → i + length ws ≤ most → Answering Totals most (checkFrom day ws i s)
 unfolding checkFrom finished
-checked-from day [] i s =
-    checked-if (s .tally .inside) (fault 7 i (omega arith))
-    (checked-if (ltb 0 (unmet (stops day) (s .met))) (fault 8 i (omega arith)) (lawful (s .tally .distance) (s .tally .vehicles) (s .tally .served)))
-checked-from day (w ∷ ws) i s =
-    checked-fault (eqb (faultAt day s (wordOf w)) 0) (faultAt day s (wordOf w)) i refl (checked-from day ws (suc i) (walkAfter day s (wordOf w)))
+checked-from most day [] i s h =
+    answering-if (s .tally .inside) (refusal 7 i (omega arith) (omega arith))
+    (answering-if (ltb 0 (unmet (stops day) (s .met))) (refusal 8 i (omega arith) (omega arith))
+    (values _ (totalled (s .tally .distance) (s .tally .vehicles) (s .tally .served)) (omega arith)))
+checked-from most day (w ∷ ws) i s h =
+    let fault = faultAt day s (wordOf w) in
+    answering-fault (eqb fault 0) fault i refl (omega arith) (checked-from most day ws (suc i) (walkAfter day s (wordOf w)) (omega arith))
 
-pub words-checked : (day plan : List ℕ) → Checked (checkWords day plan)
+pub words-checked : (day plan : List ℕ) → Answering Totals (length plan + 4096) (checkWords day plan)
 unfolding checkWords
-words-checked day plan = checked-if (ltb 4096 (length plan)) (fault 6 4096 (omega arith)) (checked-from day plan 0 (start day))
+words-checked day plan =
+    answering-if (ltb 4096 (length plan)) (refusal 6 4096 (omega arith) (omega arith)) (checked-from (length plan + 4096) day plan 0 (start day) (omega arith))
 
 -- each vehicle of a lawful plan is clear by itself, and the other way round
 clear-all : (day : List ℕ) (rounds : List Round) → Every (Loads day) rounds → Every (Timed day) rounds → Every (Clear day) rounds
@@ -113,16 +108,12 @@ words-lawful day plan a b c e =
     }
 
 -- an answer is given, or not
-checked-lawful : (day plan : List ℕ) (answer : List ℕ) → Checked answer → checkWords day plan ≡ answer → isGiven answer ≡ true → Lawful day plan
-checked-lawful day plan answer (lawful a b c) e g = words-lawful day plan a b c e
-checked-lawful day plan answer (fault number place h) e g = absurd (false≢true (sym (ne-eqb number 0 (λ z. omega arith)) ∙ g))
-
-day-accepted : (day answer : List ℕ) → Judged answer → answer ≡ judgeDay day → isGiven answer ≡ true → IsAccepted day
-day-accepted day answer (accepted n d) e g = given-accepted day e
-day-accepted day answer (refusal number place h) e g = absurd (false≢true (sym (ne-eqb number 0 (λ z. omega arith)) ∙ g))
+checked-lawful : (day plan : List ℕ) {most : ℕ} {answer : List ℕ} → Answering Totals most answer → checkWords day plan ≡ answer → isGiven answer ≡ true → Lawful day plan
+checked-lawful day plan (values vs (totalled a b c) l) e g = words-lawful day plan a b c e
+checked-lawful day plan (refusal number place h l) e g = absurd (omega (arith, eqb-true number 0 g))
 
 answered : (day plan : List ℕ) (b : Bool) → isGiven (judgeDay day) ≡ b → isGiven (if b then checkWords day plan else judgeDay day) ≡ true → IsAccepted day × Lawful day plan
-answered day plan true e g = (day-accepted day (judgeDay day) (day-judged day) refl e, checked-lawful day plan (checkWords day plan) (words-checked day plan) refl g)
+answered day plan true e g = (judged-accepted day e, checked-lawful day plan (words-checked day plan) refl g)
 answered day plan false e g = absurd (false≢true (sym e ∙ g))
 
 -- a day and a plan are called lawful exactly when the day is accepted and the plan is lawful

@@ -35,12 +35,14 @@ rounds-check day s before (tasks ∷ rounds) behind i e l n v h f c b =
     let words = roundWords (suc before) tasks in
     let others = roundsWords (suc before) rounds in
     let r = after-round day s tasks in
+    let old = fresh-first (s .met) (stopsOn tasks) (stopsOnAll rounds) f in
     let new = fresh-second (s .met) (stopsOn tasks) (stopsOnAll rounds) f in
     let first : checkFrom day (words ++ (others ++ behind)) i s ≡ checkFrom day (others ++ behind) (i + length words) (walkRound day s tasks) =
-    rw (← n) (round-check day s tasks (roundsWords (suc (s .tally .vehicles)) rounds ++ behind) i e l (omega arith) (h .0) (fresh-first (s .met) (stopsOn tasks) (stopsOnAll rounds) f) (c .0) (b .0)) in
+    rw (← n) (round-check day s tasks (roundsWords (suc (s .tally .vehicles)) rounds ++ behind) i e l (omega arith) (h .0) old (c .0) (b .0)) in
     ap (λ (ws : List ℕ). checkFrom day ws i s) (append-assoc words others behind)
     ∙ first
-    ∙ rounds-check day (walkRound day s tasks) (suc before) rounds behind (i + length words) (r .outside) (r .last ∙ l) (omega (arith, r .vehicles)) (omega arith) (h .1) (rw (r .met) new) (c .1) (b .1)
+    ∙ rounds-check day (walkRound day s tasks) (suc before) rounds behind (i + length words) (r .outside) (r .last ∙ l) (omega (arith, r .vehicles))
+    (omega arith) (h .1) (rw (r .met) new) (c .1) (b .1)
     ∙ ap (λ (j : ℕ). checkFrom day behind j (walkRounds day (walkRound day s tasks) rounds)) (omega (arith, length-append words others))
 
 -- a stop left out passes, behind the vehicles

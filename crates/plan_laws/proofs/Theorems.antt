@@ -1,5 +1,5 @@
--- What the floors above may cite of the check. The planner relies on the check's call and on these theorems, and on no other law of
--- this crate. Assumes nothing.
+-- What the build and the trials cite of the check: beside its call they rely on these theorems, and on no other law of this crate.
+-- Assumes nothing.
 
 -- demand 2: a plan is called lawful exactly when it is, and is answered with its distance, its vehicles and its stops served
 pub use Rattle.plan_laws.proofs.LawfulIff.{lawful-iff, lawful-totals}

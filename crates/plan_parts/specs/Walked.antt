@@ -1,5 +1,5 @@
--- What the check hands on over many words, or a part of the plan. It serves the contracts of this crate's own functions; no definition
--- of the check rests on it. Assumes nothing.
+-- What the check hands on over many words, or a part of the plan. It serves contracts; no definition of the check rests on it. Assumes
+-- nothing.
 use Prim.Native.Nat.{ℕ, zero, suc, _+_, _<_, _≤_}
 use mathlib.Core.Path.{_≡_}
 use mathlib.Core.Bool.{true}
@@ -11,6 +11,8 @@ use Rattle.rules.specs.Answers.{given, refused}
 use Rattle.rules.specs.Lists.{mem, unmet}
 use Rattle.rules.specs.Fields.{stops}
 use Rattle.rules.specs.PlanWords.{left, wordOf}
+use Rattle.rules.specs.Cargo.{empty}
+use Rattle.rules.specs.Trip.{leaving}
 use Rattle.rules.specs.Check.{metAfter, Walk, start, checkFrom}
 use Rattle.rules.specs.declared.walk.Cargo.{Cargo}
 use Rattle.rules.specs.declared.walk.Tally.{Tally}
@@ -57,6 +59,10 @@ outWith y c t =
       cargo = c;
       trip = t;
     }
+
+-- a vehicle that has just left
+abbrev pub Leaves : List ℕ → List ℕ → ℕ → Tally → List ℕ → Type 0
+Leaves day plan i y met = Reached day plan i (outWith y empty (leaving day)) met
 
 -- a part of the plan is behind, with no word at fault
 pub record PartTo (day plan met : List ℕ) (from : ℕ) (r : Part) : Type 0 where

@@ -4,11 +4,9 @@ ghost use mathlib.Core.Path.{_≡_};
 ghost use mathlib.Core.Bool.{true, false};
 ghost use Prim.Native.Nat.{_+_, _<_, _≤_};
 ghost use lib.ListN.{length};
-ghost use Rattle.rules.specs.Cargo.{empty};
-ghost use Rattle.rules.specs.Trip.{leaving};
 ghost use Rattle.day.specs.Layout.{LayoutOf};
 ghost use Rattle.trips.specs.Trips.{LimitsOf};
-ghost use Rattle.plan_parts.specs.Walked.{outWith, PartTo, Reached, ToldAll};
+ghost use Rattle.plan_parts.specs.Walked.{outWith, Leaves, PartTo, Reached, ToldAll};
 use crate::start::first_state;
 use crate::start::no_stops;
 use rules::walk::Cargo;
@@ -80,7 +78,7 @@ fn round(
     plan: &[u32],
     from: usize,
 ) -> Part
-    requires { ⌜ LayoutOf (now day) layout × LimitsOf (now day) limits × (length (now plan) ≤ 4096) × (from ≤ length (now plan)) × Reached (now day) (now plan) from (outWith y empty (leaving (now day))) (now met) ⌝ }
+    requires { ⌜ LayoutOf (now day) layout × LimitsOf (now day) limits × (length (now plan) ≤ 4096) × (from ≤ length (now plan)) × Leaves (now day) (now plan) from y (now met) ⌝ }
     ensures { λ r. ⌜ (r .done ≡ true → PartTo (now (day .entry)) (now (plan .entry)) (now (met .exit)) from r) ⌝ }
 {
     let mut cargo = nothing();

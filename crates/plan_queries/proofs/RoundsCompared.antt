@@ -104,8 +104,8 @@ module _ (first second : List ℕ) where
     pub words-differ : {same : Bool} → i < length first → j < length second → same ≡ sameWord (getD first i 0) (getD second j 0) → not same ≡ true → false ≡ sameWords (counted first) (counted second)
     words-differ h l e f = rw (sym e ∙ not-true _ f) at (side h l)
 
-    pub words-agree : {i′ j′ : ℕ} {same : Bool} → i < length first → j < length second → same ≡ sameWord (getD first i 0) (getD second j 0) → not same ≡ false → NextCounted first (i + 1) i′ → NextCounted second (j + 1) j′
-        → Alike first second i′ j′
+    pub words-agree : {i′ j′ : ℕ} {same : Bool} → i < length first → j < length second → same ≡ sameWord (getD first i 0) (getD second j 0)
+        → not same ≡ false → NextCounted first (i + 1) i′ → NextCounted second (j + 1) j′ → Alike first second i′ j′
     words-agree h l e t n m =
         record {
           firstFrom = i + 1;

@@ -1,4 +1,4 @@
--- How the words that count are gone through. It serves the contracts of this crate's own functions. Assumes nothing.
+-- How the words that count are gone through, as contracts say it. Assumes nothing.
 use Prim.Native.Nat.{ℕ, _≤_, _<_}
 use mathlib.Core.Path.{_≡_}
 use mathlib.Core.Bool.{true}

@@ -1,23 +1,25 @@
 -- Laws of the day's plan that is to be printed: it is what planning with trials answers, and has no more words than its buffer.
 -- Assumes nothing.
 use Prim.Native.Nat.{ℕ, _+_, _*_, _≤_}
-use mathlib.Core.Path.{_≡_, refl, sym, ap, _∙_}
+use mathlib.Core.Path.{_≡_, refl, sym, ap, ap₂, _∙_}
 use mathlib.Core.Bool.{Bool, true, false, false≢true}
 use mathlib.Core.List.{List, [], _∷_}
 use native.Mathlib.Omega.{arith}
 use lib.ListN.{length, length-replicate, getD}
-use borrow.Author.Tests.{ne-eqb}
 use Rattle.rules.specs.Tests.{if_then_else_}
 use Rattle.rules.specs.Answers.{given, refused, isGiven}
 use Rattle.rules.specs.DayFile.{judgeDay}
 use Rattle.rules.specs.Fields.{stops, IsAccepted}
 use Rattle.rules.specs.Planning.{searched}
 use Rattle.rules.specs.Planned.{fewNeighbours, longEnough, resultValues, plannedAnswer, planAnswer, planBuffer}
-use Rattle.day.proofs.Answered.{Judged, accepted, refusal, day-judged, given-accepted}
+use Rattle.day.proofs.Answered.{judged-accepted}
 use Rattle.day.proofs.Ranges.{accepted-ranges}
 use Rattle.trials.proofs.Promises.{promised}
-use Rattle.text.specs.Lines.{Within}
+use Rattle.text.specs.Lines.{answerText, Within}
+use Rattle.text.specs.Put.{Put}
+use Rattle.text.proofs.PutLaws.{put-same}
 use Rattle.plan_text.specs.Planned.{emptyPlan, printedAnswer, printedBuffer}
+use Rattle.plan_text.specs.Printed.{dayText}
 
 pub empty-length : length emptyPlan ≡ 1200
 unfolding emptyPlan
@@ -44,23 +46,27 @@ accepted-within day a =
     let fits = promised day (5 ∷ []) 6 a .fits in
     long-within (longEnough day 1200 1200) (resultValues day (searched day (5 ∷ []) 6)) (5 * stops day) (omega (arith, fits, accepted-ranges day a .stopsMost))
 
-judged-within : (day answer : List ℕ) → Judged answer → answer ≡ judgeDay day → Within (if isGiven answer then plannedAnswer day 5 6 1200 1200 else answer) 1200
-judged-within day answer (accepted n d) e = accepted-within day (given-accepted day e)
-judged-within day answer (refusal number place some) e =
-    let none : isGiven (refused number place) ≡ false = ne-eqb number 0 (λ z. omega (arith, some, z)) in
-    rw none (λ h. absurd (false≢true (sym none ∙ h)))
-
 pub planned-within : (day : List ℕ) → Within (printedAnswer day) 1200
 unfolding printedAnswer planAnswer
-planned-within day = judged-within day (judgeDay day) (day-judged day) refl
+planned-within day = go (isGiven (judgeDay day)) refl
+  where
+    go : (b : Bool) → isGiven (judgeDay day) ≡ b → Within (if b then plannedAnswer day 5 6 1200 1200 else judgeDay day) 1200
+    go true e = accepted-within day (judged-accepted day e)
+    go false e = λ h. absurd (false≢true (sym e ∙ h))
 
 -- a text of 16,384 bytes has room for the answer's line and for nine bytes for each word
-pub day-room : (day text plan first : List ℕ) {answer : List ℕ} → 16384 ≤ length text → answer ≡ printedAnswer day
-    → length plan ≡ length first → first ≡ emptyPlan → (88 + 9 * length plan ≤ length text) × Within answer (length plan)
-day-room day text plan first {answer} room e kept q = (omega (arith, room, size), λ h. omega (arith, size, few h))
-  where
-    size : length plan ≡ 1200
-    size = kept ∙ ap length q ∙ empty-length
+module _ (plan first : List ℕ) (kept : length plan ≡ length first) (q : first ≡ emptyPlan) where
+  size : length plan ≡ 1200
+  size = kept ∙ ap length q ∙ empty-length
 
-    few : Within answer 1200
-    few = rw e (planned-within day)
+  pub day-room : (text : List ℕ) → 16384 ≤ length text → 88 + 9 * length plan ≤ length text
+  day-room text room = omega (arith, room, size)
+
+  pub day-within : (day : List ℕ) {answer : List ℕ} → answer ≡ printedAnswer day → Within answer (length plan)
+  day-within day e = rw (e, size) (planned-within day)
+
+-- the text of a day
+pub day-put : (day : List ℕ) {answer plan p s : List ℕ} {n : ℕ} → answer ≡ printedAnswer day → plan ≡ printedBuffer day → Put (answerText answer plan) p 0 s n
+    → Put (dayText day) p 0 s n
+unfolding dayText
+day-put day e b put = put-same put (ap₂ answerText e b)

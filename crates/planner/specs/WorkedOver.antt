@@ -1,4 +1,4 @@
--- What working a plan over comes to. It serves the contracts of this crate's own functions. Assumes nothing.
+-- What working a plan over comes to, as the contracts of this crate say it. Assumes nothing.
 use Prim.Native.Nat.{ℕ}
 use mathlib.Core.Path.{_≡_}
 use mathlib.Core.List.{List, [], _∷_}
@@ -9,7 +9,7 @@ use Rattle.rules.specs.Planning.{searched}
 use Rattle.rules.specs.Built.{planned}
 use Rattle.rules.specs.Planned.{resultValues}
 
--- the answer and the buffer of a plan that was worked over. It serves the contracts of this crate's own functions.
+-- the answer and the buffer of a plan that was worked over
 pub record WorkedOver (day : List ℕ) (K budget : ℕ) (plan now answer : List ℕ) : Type 0 where
   pub values : answer ≡ given (resultValues day (searched day (K ∷ []) budget))
   pub buffer : now ≡ planned day (planWords (searched day (K ∷ []) budget .plan) (greedyLefts day)) plan

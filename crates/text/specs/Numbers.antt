@@ -1,21 +1,21 @@
 -- Numbers as text: decimal, and words of eight hexadecimal digits in upper case. Assumes nothing.
 use Prim.Native.Nat.{ℕ, zero, suc, _+_, _-_, _*_, _/_, _%_, _^_}
 use mathlib.Core.List.{List, [], _∷_, _++_}
-use lib.Dec.{eqb, ltb}
+use lib.Dec.{ltb}
 use Rattle.rules.specs.Tests.{if_then_else_}
 
 -- the digit of a number below 16: `0` to `9`, then `A` to `F`
 unfoldable pub digit : ℕ → ℕ
 digit d = if ltb d 10 then 48 + d else 55 + d
 
--- the digits of n, at most so many and none where n is 0, in front of those behind them
-unfoldable pub inFront : ℕ → ℕ → List ℕ → List ℕ
-inFront zero n behind = behind
-inFront (suc places) n behind = if eqb n 0 then behind else inFront places (n / 10) (digit (n % 10) ∷ behind)
+-- the decimal digits of n, at most so many: those of its tenth, and the last one behind them
+unfoldable pub decimalIn : ℕ → ℕ → List ℕ
+decimalIn zero n = []
+decimalIn (suc places) n = if ltb n 10 then digit n ∷ [] else decimalIn places (n / 10) ++ (digit (n % 10) ∷ [])
 
--- a number of 64 bits has at most twenty decimal digits, and at least one is written
+-- a number of 64 bits has at most twenty
 unfoldable pub decimal : ℕ → List ℕ
-decimal n = inFront 19 (n / 10) (digit (n % 10) ∷ [])
+decimal n = decimalIn 20 n
 
 -- the first so many of a word's eight hexadecimal digits
 unfoldable pub hexDigits : ℕ → ℕ → List ℕ

@@ -1,7 +1,7 @@
 // Numbers put into a text: decimal, and words of eight hexadecimal digits.
 ghost use mathlib.Core.Path.{_≡_};
 ghost use Prim.Native.Nat.{_+_, _*_, _<_, _≤_};
-ghost use lib.ListN.{length, drop};
+ghost use lib.ListN.{length};
 ghost use Rattle.text.specs.Lines.{number, wordLine, wordLines};
 ghost use Rattle.text.specs.Numbers.{decimal, hexadecimal, digit as Numbers·digit};
 ghost use Rattle.text.specs.Put.{Put};
@@ -18,34 +18,14 @@ fn digit(d: u8) -> u8
     55 + d
 }
 
-// The decimal digits of n, at the end of the lent places; where they begin.
-fn decimal_digits(n: u64, digits: &mut [u8]) -> usize
-    requires { ⌜ length (now digits) ≡ 20 ⌝ }
-    ensures digits { λ r. ⌜ drop r (now (digits .exit)) ≡ decimal n ⌝ }
-    ensures few { λ r. ⌜ r < 20 ⌝ }
-{
-    digits[19] = digit((n % 10) as u8);
-    let mut at: usize = 19;
-    let mut rest = n / 10;
-    while 0 < at {
-        if rest == 0 {
-            return at;
-        }
-        at -= 1;
-        digits[at] = digit((rest % 10) as u8);
-        rest /= 10;
-    }
-    at
-}
-
 fn put_decimal(text: &mut [u8], at: usize, n: u64) -> usize
     requires { ⌜ at + 20 ≤ length (now text) ⌝ }
     ensures text { λ r. ⌜ Put (decimal n) (now (text .entry)) at (now (text .exit)) r ⌝ }
     ensures room { λ r. ⌜ r ≤ at + 20 ⌝ }
 {
     let mut digits = [0u8; 20];
-    let first = decimal_digits(n, &mut digits);
-    put_bytes(text, at, &digits[first..])
+    let count = io::decimal(n, &mut digits);
+    put_bytes(text, at, &digits[..count])
 }
 
 // A number, and the mark behind it.

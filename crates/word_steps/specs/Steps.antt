@@ -1,5 +1,4 @@
--- What the check hands on from word to word. It serves the contracts of this crate's own functions; no definition of the check rests
--- on it. Assumes nothing.
+-- What the check hands on from word to word. It serves contracts; no definition of the check rests on it. Assumes nothing.
 use Prim.Native.Nat.{ℕ, _+_, _*_, _≤_}
 use mathlib.Core.Path.{_≡_}
 use mathlib.Core.Bool.{Bool, true, false, not}

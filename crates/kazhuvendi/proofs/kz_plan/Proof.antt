@@ -6,7 +6,9 @@ use Rattle.kazhuvendi.proofs.kz_plan.Statement.{statement}
 use Rattle.kazhuvendi.proofs.kz_plan.Tie as tie
 
 returns : tie.Need-returns
-returns c = (c .write-plan-answer .ensures ∙ ap inSix (c .before .before .before .before .before .before .plan .ensures .0), (c .before .before .before .before .before .before .plan .ensures .1 .0, c .before .before .before .before .before .before .plan .ensures .1 .1))
+returns c =
+    let planned = c .before .before .before .before .before .before .plan .ensures in
+    (c .write-plan-answer .ensures ∙ ap inSix (planned .0), planned .1)
 
 pub kz-plan-spec : {M : Type 1} → statement M
 kz-plan-spec =

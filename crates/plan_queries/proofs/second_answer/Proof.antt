@@ -5,39 +5,27 @@ use Rattle.plan_queries.proofs.PlanCalls.{rounds-same, rounds-differ, s
 use Rattle.plan_queries.proofs.second_answer.Statement.{statement}
 use Rattle.plan_queries.proofs.second_answer.Tie as tie
 
-check-requires : tie.Need-check-requires
-check-requires c κs = search needs
-
-enum-told : tie.Need-enum-told
-enum-told c = search needs
-
-are-same-requires : tie.Need-are-same-requires
-are-same-requires c κs = search needs
-
 returns : tie.Need-returns
-returns c = let told = c .before .before in (rounds-same _ _ _ (rw (told .enum-told .given .1) at (told .before .before .check .ensures)) (c .before .are-same .ensures) (c .if1 .taken), tt)
-
-enum-known-answer : tie.Need-enum-known-answer
-enum-known-answer c = search needs
+returns c = (search rounds-same, tt)
 
 add-t10 : tie.Need-add-t10
-add-t10 c = omega (arith, place-small _ _ (rw (c .before .answer .given .1) at (c .before .before .before .check .ensures)))
+add-t10 c = omega (arith, place-small _ _ (c .before .before .before .check .ensures) (c .before .answer .given .1))
 
 returns-2 : tie.Need-returns-2
-returns-2 c = let told = c .before .before in (rounds-differ _ _ _ (rw (told .enum-told .given .1) at (told .before .before .check .ensures)) (c .before .are-same .ensures) (c .if1 .left), tt)
+returns-2 c = (search rounds-differ, tt)
 
 returns-3 : tie.Need-returns-3
-returns-3 c = let refuses = rw (c .before .answer .given .1) at (c .before .before .before .check .ensures) in (second-refused _ _ _ refuses, plan-numbered _ _ refuses)
+returns-3 c = (search second-refused, search plan-numbered)
 
 pub second-answer-spec : {M : Type 1} → statement M
 second-answer-spec =
     tie.close
     (tie.spec
-    check-requires
-    enum-told
-    are-same-requires
+    (λ c κs. search needs)
+    (λ c. search needs)
+    (λ c κs. search needs)
     returns
-    enum-known-answer
+    (λ c. search needs)
     add-t10
     returns-2
     returns-3)

@@ -1,8 +1,7 @@
 -- `plan_queries::vehicle_words` meets its contract: the part lies within the plan.
-use Prim.Native.Nat.{_≤_, _+_, _-_}
+use Prim.Native.Nat.{_≤_, _+_}
 use borrow.Author.Needs.{needs}
-use lib.ListN.{length, take, drop}
-use mathlib.Core.Path.{_≡_, ap, _∙_}
+use lib.ListN.{length}
 use native.Mathlib.Omega.{arith}
 use Rattle.plan_queries.proofs.PlanCalls.{part-within, part-handed, part-empty}
 use Rattle.plan_queries.proofs.vehicle_words.Statement.{statement}
@@ -10,13 +9,7 @@ use Rattle.plan_queries.proofs.vehicle_words.Tie as tie
 
 -- the part lies within the plan
 inside : (c : tie.After-known-told) → c .before .answer .given .0 .0 + c .before .answer .given .0 .1 .0 ≤ length (c .before .before .before .before .before .before .args .plan .now)
-inside c = part-within _ _ _ (rw (c .before .answer .given .1) at (c .before .before .before .vehicle-place .ensures))
-
-vehicle-place-requires : tie.Need-vehicle-place-requires
-vehicle-place-requires c κs = search needs
-
-enum-known-answer : tie.Need-enum-known-answer
-enum-known-answer c = search needs
+inside c = search part-within
 
 add-end : tie.Need-add-end
 add-end c = let i = inside c in omega arith
@@ -24,47 +17,29 @@ add-end c = let i = inside c in omega arith
 mul-result : tie.Need-mul-result
 mul-result c = let i = inside c in search needs
 
-sub-result : tie.Need-sub-result
-sub-result c = search needs
-
-part-result-start : tie.Need-part-result-start
-part-result-start c = search needs
-
 part-result-end : tie.Need-part-result-end
 part-result-end c = inside c
 
-enum-told : tie.Need-enum-told
-enum-told c = search needs
-
-sub-result-2 : tie.Need-sub-result-2
-sub-result-2 c = search needs
-
-part-result-start-2 : tie.Need-part-result-start-2
-part-result-start-2 c = search needs
-
-part-result-end-2 : tie.Need-part-result-end-2
-part-result-end-2 c = search needs
-
 returns : tie.Need-returns
-returns c = let a = c .before .before .answer .given in let e : (a .0 .0 + a .0 .1 .0) - a .0 .0 ≡ a .0 .1 .0 = omega arith in ap (λ k. take k (drop (a .0 .0) (c .before .before .before .before .before .before .before .args .plan .now))) e ∙ part-handed _ _ _ (rw (a .1) at (c .before .before .before .before .vehicle-place .ensures))
+returns c = search part-handed
 
 returns-2 : tie.Need-returns-2
-returns-2 c = part-empty _ _ _ (rw (c .before .enum-told .given .1) at (c .before .before .before .vehicle-place .ensures))
+returns-2 c = search part-empty
 
 pub vehicle-words-spec : {M : Type 1} → statement M
 vehicle-words-spec =
     tie.close
     (tie.spec
-    vehicle-place-requires
-    enum-known-answer
+    (λ c κs. search needs)
+    (λ c. search needs)
     add-end
     mul-result
-    sub-result
-    part-result-start
+    (λ c. search needs)
+    (λ c. search needs)
     part-result-end
-    enum-told
-    sub-result-2
-    part-result-start-2
-    part-result-end-2
+    (λ c. search needs)
+    (λ c. search needs)
+    (λ c. search needs)
+    (λ c. search needs)
     returns
     returns-2)
