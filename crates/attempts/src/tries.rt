@@ -15,6 +15,9 @@ use day::fields::Layout;
 use rules::answers::Answer;
 use tracks::measure::measure;
 use tracks::span::span_of;
+use tracks::tables::BEFORE_WORDS;
+use tracks::tables::BEHIND_END;
+use tracks::tables::TRACKS_WORDS;
 use trial_list::listing::Trial;
 use walks::vehicle::Walked;
 
@@ -38,12 +41,12 @@ fn retry(
     let span = span_of(
         e,
         v + 1 == t.one,
-        &tracks[12010..12266],
+        &tracks[BEHIND_END..TRACKS_WORDS],
         from,
         &plan[from..to],
     );
-    let before = &tracks[0..7206];
-    let behind = &tracks[7206..12010];
+    let before = &tracks[0..BEFORE_WORDS];
+    let behind = &tracks[BEFORE_WORDS..BEHIND_END];
     measure(
         day,
         layout,

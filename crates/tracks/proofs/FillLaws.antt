@@ -13,6 +13,7 @@ use Rattle.rules.specs.Fields.{places}
 use Rattle.rules.specs.PlanWords.{backWord}
 use Rattle.rules.specs.Plan.{lunch, Round, taskWord, Known}
 use Rattle.tracks.specs.Behind.{homeward, taskFirst, onwardOf, rowAt, RowPut, SomeTask, PutsFirst, RoundTo, SomeRoundTo, FillsBehind}
+use Rattle.tracks.specs.Tables.{behindWords}
 use Rattle.tracks.specs.declared.behind.Onward.{Onward}
 use Rattle.tracks.proofs.OnwardLaws.{onward-bounds}
 
@@ -47,7 +48,7 @@ pub record Filled (day behind : List ℕ) (from at : ℕ) (o : Onward) (tasks : 
 pub record Filling (day plan : List ℕ) (from end : ℕ) (before behind : List ℕ) (at : ℕ) (o : Onward) : Type 0 where
   pub low : from ≤ at
   pub high : at ≤ end
-  pub size : length behind ≡ 4804
+  pub size : length behind ≡ behindWords
   pub each : (tasks : Round) (rest : List ℕ) → RoundTo day plan from end tasks rest → Filled day behind from at o tasks
   pub others : (q : ℕ) → (q < from) ⊎ (end < q) → rowAt behind q ≡ rowAt before q
 
@@ -93,7 +94,7 @@ module _ {day plan : List ℕ} {from end : ℕ} (some : SomeRoundTo day plan fro
   pub filling-inside : (from ≤ end) × (end < length plan)
   filling-inside = (omega (arith, some .roundTo .ends), round-inside (some .roundTo))
 
-  pub filling-start : {before behind : List ℕ} → length behind ≡ 4804 → RowPut before behind end homeward → Filling day plan from end behind behind end homeward
+  pub filling-start : {before behind : List ℕ} → length behind ≡ behindWords → RowPut before behind end homeward → Filling day plan from end behind behind end homeward
   filling-start {before} {behind} h p =
       record {
         low = filling-inside .0;

@@ -12,6 +12,7 @@ use Rattle.rules.specs.Tests.{if_then_else_}
 use Rattle.walks.specs.declared.cabs.Cab.{Cab}
 use Rattle.tracks.specs.Before.{cabAt, RowHolds, RowsKept}
 use Rattle.tracks.specs.Behind.{rowAt, RowPut}
+use Rattle.tracks.specs.Tables.{beforeWords}
 use Rattle.tracks.specs.declared.behind.Onward.{Onward}
 
 -- words are written at i + k and behind it
@@ -75,7 +76,7 @@ rows-same before after from h at l =
     rw (h (6 * at) (omega arith), h (6 * at + 1) (omega arith), h (6 * at + 2) (omega arith), h (6 * at + 3) (omega arith), h (6 * at + 4) (omega arith), h (6 * at + 5) (omega arith)) refl
 
 -- the row of a vehicle before a word: the mark alone of one that has failed, and five numbers more of one that goes on
-module _ (before : List ℕ) (at : ℕ) (c : Cab) {f : ℕ} (size : length before ≡ 7206) (l : at < 1201) (fIs : f ≡ (if c .stuck then 1 else 0)) where
+module _ (before : List ℕ) (at : ℕ) (c : Cab) {f : ℕ} (size : length before ≡ beforeWords) (l : at < 1201) (fIs : f ≡ (if c .stuck then 1 else 0)) where
   abbrev marked : List ℕ
   marked = set before (6 * at + 5) f
 

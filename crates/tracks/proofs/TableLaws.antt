@@ -15,7 +15,7 @@ use Rattle.trial_list.specs.Survey.{Laid}
 use Rattle.trial_list.proofs.LaidLaws.{behind, starts-rise, start-next, tasks-text, vehicle-in, vehicle-inside, words-are}
 use Rattle.tracks.specs.Before.{Walks, BeforeOf, FilledBefore}
 use Rattle.tracks.specs.Behind.{BehindOf, RoundTo, SomeRoundTo, FillsBehind}
-use Rattle.tracks.specs.Tables.{firstTask, beforeIn, behindIn, spotsIn, Trackable, SomeTrackable, TracksIn, SomeVehicle, TracksOne, TracksVehicle}
+use Rattle.tracks.specs.Tables.{beforeWords, behindWords, behindEnd, tracksWords, firstTask, beforeIn, behindIn, spotsIn, Trackable, SomeTrackable, TracksIn, SomeVehicle, TracksOne, TracksVehicle}
 use Rattle.tracks.proofs.PartLaws.{part-put, part-before, part-behind}
 
 -- the first task of vehicle v, counted from 0, stands behind its A word
@@ -73,66 +73,66 @@ module _ {day plan starts : List ℕ} {room : ℕ} {rounds : List Round} {lefts 
       }
 
 -- the tables of a buffer are as long as they have to be
-module _ (tracks : List ℕ) (size : length tracks ≡ 12266) where
+module _ (tracks : List ℕ) (size : length tracks ≡ tracksWords) where
   -- six words for each place of the plan
-  pub before-size : length (beforeIn tracks) ≡ 7206
-  before-size = mid-len 0 7206 tracks (omega (arith, size))
+  pub before-size : length (beforeIn tracks) ≡ beforeWords
+  before-size = mid-len 0 beforeWords tracks (omega (arith, size))
 
   -- four words for each place of the plan
-  pub behind-size : length (behindIn tracks) ≡ 4804
-  behind-size = mid-len 7206 12010 tracks (omega (arith, size))
+  pub behind-size : length (behindIn tracks) ≡ behindWords
+  behind-size = mid-len beforeWords behindEnd tracks (omega (arith, size))
 
   -- a word for each stop
   pub spots-size : length (spotsIn tracks) ≡ 256
-  spots-size = mid-len 12010 12266 tracks (omega (arith, size))
+  spots-size = mid-len behindEnd tracksWords tracks (omega (arith, size))
 
 -- the three tables of a buffer are lent, one after the other: the first one has come back
 abbrev pub firstBack : (tracks walks : List ℕ) → List ℕ
-firstBack tracks walks = putMid 0 (7206 - 0) tracks walks
+firstBack tracks walks = putMid 0 (beforeWords - 0) tracks walks
 
 -- then the second one
 abbrev pub secondBack : (tracks walks onwards : List ℕ) → List ℕ
-secondBack tracks walks onwards = putMid 7206 (12010 - 7206) (firstBack tracks walks) onwards
+secondBack tracks walks onwards = putMid beforeWords (behindEnd - beforeWords) (firstBack tracks walks) onwards
 
 -- then the third one
 abbrev pub allBack : (tracks walks onwards places : List ℕ) → List ℕ
-allBack tracks walks onwards places = putMid 12010 (12266 - 12010) (secondBack tracks walks onwards) places
+allBack tracks walks onwards places = putMid behindEnd (tracksWords - behindEnd) (secondBack tracks walks onwards) places
 
 -- each of them is as long as it was
-module _ (tracks walks : List ℕ) (size : length tracks ≡ 12266) (walksSize : length walks ≡ length (beforeIn tracks)) where
+module _ (tracks walks : List ℕ) (size : length tracks ≡ tracksWords) (walksSize : length walks ≡ length (beforeIn tracks)) where
   -- and so is the buffer, after the first one
-  pub first-size : length (firstBack tracks walks) ≡ 12266
-  first-size = same-len-mid 0 (7206 - 0) tracks walks walksSize ∙ size
+  pub first-size : length (firstBack tracks walks) ≡ tracksWords
+  first-size = same-len-mid 0 (beforeWords - 0) tracks walks walksSize ∙ size
 
   module _ (onwards : List ℕ) (restsSize : length onwards ≡ length (behindIn (firstBack tracks walks))) where
     -- after the second one
-    pub second-size : length (secondBack tracks walks onwards) ≡ 12266
-    second-size = same-len-mid 7206 (12010 - 7206) (firstBack tracks walks) onwards restsSize ∙ first-size
+    pub second-size : length (secondBack tracks walks onwards) ≡ tracksWords
+    second-size = same-len-mid beforeWords (behindEnd - beforeWords) (firstBack tracks walks) onwards restsSize ∙ first-size
 
     module _ (places : List ℕ) (placesSize : length places ≡ length (spotsIn (secondBack tracks walks onwards))) where
       -- and after the third one
-      pub all-size : length (allBack tracks walks onwards places) ≡ 12266
-      all-size = same-len-mid 12010 (12266 - 12010) (secondBack tracks walks onwards) places placesSize ∙ second-size
+      pub all-size : length (allBack tracks walks onwards places) ≡ tracksWords
+      all-size = same-len-mid behindEnd (tracksWords - behindEnd) (secondBack tracks walks onwards) places placesSize ∙ second-size
 
       -- the first table is the one that came back
       before-back : beforeIn (allBack tracks walks onwards places) ≡ walks
       before-back =
-          part-before 12010 12266 (secondBack tracks walks onwards) places placesSize (omega arith) (omega (arith, second-size)) 0 7206 (omega arith) (omega arith)
-          ∙ part-before 7206 12010 (firstBack tracks walks) onwards restsSize (omega arith) (omega (arith, first-size)) 0 7206 (omega arith) (omega arith)
-          ∙ part-put 0 7206 tracks walks walksSize (omega arith) (omega (arith, size))
+          part-before behindEnd tracksWords (secondBack tracks walks onwards) places placesSize (omega arith) (omega (arith, second-size)) 0 beforeWords (omega arith) (omega arith)
+          ∙ part-before beforeWords behindEnd (firstBack tracks walks) onwards restsSize (omega arith) (omega (arith, first-size)) 0 beforeWords (omega arith) (omega arith)
+          ∙ part-put 0 beforeWords tracks walks walksSize (omega arith) (omega (arith, size))
 
       -- so is the second one
       behind-back : behindIn (allBack tracks walks onwards places) ≡ onwards
       behind-back =
-          part-before 12010 12266 (secondBack tracks walks onwards) places placesSize (omega arith) (omega (arith, second-size)) 7206 12010 (omega arith) (omega arith)
-          ∙ part-put 7206 12010 (firstBack tracks walks) onwards restsSize (omega arith) (omega (arith, first-size))
+          part-before behindEnd tracksWords (secondBack tracks walks onwards) places placesSize (omega arith) (omega (arith, second-size)) beforeWords behindEnd (omega arith) (omega arith)
+          ∙ part-put beforeWords behindEnd (firstBack tracks walks) onwards restsSize (omega arith) (omega (arith, first-size))
 
       -- so the rows of a vehicle are filled in the buffer
       pub tracked-back : {day : List ℕ} {rounds : List Round} {v : ℕ} → TracksOne day rounds v (beforeIn tracks) walks (behindIn (firstBack tracks walks)) onwards
           → TracksOne day rounds v (beforeIn tracks) (beforeIn (allBack tracks walks onwards places)) (behindIn tracks) (behindIn (allBack tracks walks onwards places))
       tracked-back {day} {rounds} {v} o =
           let lent : behindIn (firstBack tracks walks) ≡ behindIn tracks =
-          part-behind 0 7206 tracks walks walksSize (omega arith) (omega (arith, size)) 7206 12010 (omega arith)
+          part-behind 0 beforeWords tracks walks walksSize (omega arith) (omega (arith, size)) beforeWords behindEnd (omega arith)
           in
           subst (λ (w : List ℕ). TracksOne day rounds v (beforeIn tracks) w (behindIn tracks) (behindIn (allBack tracks walks onwards places))) (sym before-back)
           (subst (λ (r : List ℕ). TracksOne day rounds v (beforeIn tracks) walks (behindIn tracks) r) (sym behind-back)
@@ -165,13 +165,13 @@ tracking-next day rounds v before walks behind onwards l t o = record { walked =
 -- so it is for whatever vehicles the plan has
 pub record Tracks (day plan starts : List ℕ) (room count v : ℕ) (tracks work : List ℕ) : Type 0 where
   pub counted : v ≤ count
-  pub size : length tracks ≡ 12266
+  pub size : length tracks ≡ tracksWords
   pub workSize : length work ≡ room
   pub each : (rounds : List Round) (lefts : List ℕ) → Trackable day plan starts room rounds lefts → count ≡ length rounds
       → Tracking day rounds v (beforeIn tracks) (behindIn tracks)
 
 -- before the first vehicle
-pub tracks-start : (day plan starts : List ℕ) (count : ℕ) (tracks work : List ℕ) → length tracks ≡ 12266 → Tracks day plan starts (length work) count 0 tracks work
+pub tracks-start : (day plan starts : List ℕ) (count : ℕ) (tracks work : List ℕ) → length tracks ≡ tracksWords → Tracks day plan starts (length work) count 0 tracks work
 tracks-start day plan starts count tracks work h =
     record {
       counted = omega arith;

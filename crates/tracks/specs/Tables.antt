@@ -13,29 +13,43 @@ use Rattle.tracks.specs.Behind.{BehindOf, rowAt}
 abbrev pub firstTask : List Round → ℕ → ℕ
 firstTask rounds v = length (roundsWords 0 (take v rounds)) + 1
 
+-- how long the tables are: six words, and four, for each place of a plan of at most 1200 words and the one behind it, and a word for each stop
+abbrev pub beforeWords : ℕ
+beforeWords = 7206
+
+abbrev pub behindWords : ℕ
+behindWords = 4804
+
+-- where the second table ends in the buffer that holds all three, and how long that is
+abbrev pub behindEnd : ℕ
+behindEnd = 12010
+
+abbrev pub tracksWords : ℕ
+tracksWords = 12266
+
 -- the tables of the present plan's vehicles; what `spots` says is tested where it is used
 pub record Tracked (day : List ℕ) (rounds : List Round) (before behind spots : List ℕ) : Type 0 where
   pub walked : (v : ℕ) → v < length rounds → BeforeOf day before (firstTask rounds v) (getD rounds v [])
   pub onward : (v : ℕ) → v < length rounds → BehindOf day behind (firstTask rounds v) (getD rounds v [])
-  pub beforeSize : length before ≡ 7206
-  pub behindSize : length behind ≡ 4804
+  pub beforeSize : length before ≡ beforeWords
+  pub behindSize : length behind ≡ behindWords
   pub spotsSize : length spots ≡ 256
 
 -- the three tables stand one behind the other in one buffer: the vehicles before their words
 abbrev pub beforeIn : List ℕ → List ℕ
-beforeIn tracks = take (7206 - 0) (drop 0 tracks)
+beforeIn tracks = take (beforeWords - 0) (drop 0 tracks)
 
 -- what is left of them behind their words
 abbrev pub behindIn : List ℕ → List ℕ
-behindIn tracks = take (12010 - 7206) (drop 7206 tracks)
+behindIn tracks = take (behindEnd - beforeWords) (drop beforeWords tracks)
 
 -- and the places of the stops
 abbrev pub spotsIn : List ℕ → List ℕ
-spotsIn tracks = take (12266 - 12010) (drop 12010 tracks)
+spotsIn tracks = take (tracksWords - behindEnd) (drop behindEnd tracks)
 
 -- the buffer holds the tables
 pub record TrackedIn (day : List ℕ) (rounds : List Round) (tracks : List ℕ) : Type 0 where
-  pub size : length tracks ≡ 12266
+  pub size : length tracks ≡ tracksWords
   pub tracked : Tracked day rounds (beforeIn tracks) (behindIn tracks) (spotsIn tracks)
 
 -- a vehicle has few stops, and there is room for its words

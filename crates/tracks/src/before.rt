@@ -6,6 +6,7 @@ ghost use lib.ListN.{length};
 ghost use Rattle.rules.specs.Tests.{if_then_else_};
 ghost use Rattle.rules.specs.Fields.{IsAccepted};
 ghost use Rattle.day.specs.Layout.{LayoutOf};
+ghost use Rattle.tracks.specs.Tables.{beforeWords};
 ghost use Rattle.tracks.specs.Before.{cabAt, RowHolds, RowsKept, SomeWalks, TaskAhead, WalksTask, FilledBefore};
 use crate::span::as_place;
 use day::fields::Layout;
@@ -25,7 +26,7 @@ fn flag(b: bool) -> u32
 
 // The row of a vehicle; of one that has failed nothing but that.
 fn put_cab(before: &mut [u32], at: usize, c: Cab)
-    requires { ⌜ (length (now before) ≡ 7206) × (at < 1201) × (c .stuck ≡ false → c .trip .place < 4294967296) ⌝ }
+    requires { ⌜ (length (now before) ≡ beforeWords) × (at < 1201) × (c .stuck ≡ false → c .trip .place < 4294967296) ⌝ }
     ensures holds { λ r. ⌜ RowHolds (now (before .exit)) at c ⌝ }
     ensures others { λ r. ⌜ RowsKept at (now (before .entry)) (now (before .exit)) ⌝ }
 {
@@ -44,7 +45,7 @@ fn put_cab(before: &mut [u32], at: usize, c: Cab)
 
 // The vehicle that a row holds; it has written its A word.
 pub fn cab_at(before: &[u32], at: usize) -> Cab
-    requires { ⌜ (length (now before) ≡ 7206) × (at < 1201) ⌝ }
+    requires { ⌜ (length (now before) ≡ beforeWords) × (at < 1201) ⌝ }
     ensures { λ r. ⌜ r ≡ cabAt (now (before .entry)) at ⌝ }
 {
     let row = 6 * at;
@@ -81,7 +82,7 @@ pub fn fill_before(
     before: &mut [u32],
     part: &mut [u32],
 )
-    requires { ⌜ LayoutOf (now day) layout × IsAccepted (now day) × SomeWalks (now day) (now words) (now part) × (length (now before) ≡ 7206) × (from + length (now words) < 1201) ⌝ }
+    requires { ⌜ LayoutOf (now day) layout × IsAccepted (now day) × SomeWalks (now day) (now words) (now part) × (length (now before) ≡ beforeWords) × (from + length (now words) < 1201) ⌝ }
     ensures { λ r. ⌜ FilledBefore (now (day .entry)) (now (words .entry)) from (now (before .entry)) (now (before .exit)) (now (part .entry)) (now (part .exit)) ⌝ }
 {
     part[0] = VEHICLE;

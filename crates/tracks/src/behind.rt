@@ -5,6 +5,7 @@ ghost use Prim.Native.Nat.{_+_, _-_, _*_, _<_, _≤_};
 ghost use lib.Dec.{leb};
 ghost use lib.ListN.{length};
 ghost use Rattle.day.specs.Layout.{LayoutOf};
+ghost use Rattle.tracks.specs.Tables.{behindWords};
 ghost use Rattle.tracks.specs.Behind.{distanceOnward, stopFirst, tipFirst, rowAt, RowPut, SomeTask, PutsFirst, SomeRoundTo, FillsBehind};
 use day::fields::Layout;
 use plan_words::REST;
@@ -141,7 +142,7 @@ pub fn fill_behind(
     end: usize,
     behind: &mut [u32],
 )
-    requires { ⌜ LayoutOf (now day) layout × (length (now plan) ≤ 1200) × SomeRoundTo (now day) (now plan) from end × (length (now behind) ≡ 4804) ⌝ }
+    requires { ⌜ LayoutOf (now day) layout × (length (now plan) ≤ 1200) × SomeRoundTo (now day) (now plan) from end × (length (now behind) ≡ behindWords) ⌝ }
     ensures { λ r. ⌜ FillsBehind (now (day .entry)) (now (plan .entry)) from end (now (behind .entry)) (now (behind .exit)) ⌝ }
 {
     let mut o = Onward {

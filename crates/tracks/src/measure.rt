@@ -9,6 +9,7 @@ ghost use Rattle.rules.specs.Edits.{changed};
 ghost use Rattle.day.specs.Layout.{LayoutOf};
 ghost use Rattle.walks.specs.Rewalks.{editOf, EditKnown, EditSmall, AgainAs};
 ghost use Rattle.tracks.specs.Behind.{distanceOnward};
+ghost use Rattle.tracks.specs.Tables.{beforeWords, behindWords};
 ghost use Rattle.tracks.specs.Measure.{isCut, SomeCuttable, CutsAll, Measurable, SomeMeasurable};
 use crate::before::cab_at;
 use crate::behind::Onward;
@@ -64,7 +65,7 @@ fn walk_span(
     first: Cab,
     part: &mut [u32],
 ) -> Walked
-    requires { ⌜ LayoutOf (now day) layout × IsAccepted (now day) × EditSmall e × EditKnown (now day) e × (length (now behind) ≡ 4804) × (from + length (now tasks) ≤ 1200) × SomeCuttable (now day) (editOf e) (now tasks) (now part) from (now behind) (span .first) (span .last) first ⌝ }
+    requires { ⌜ LayoutOf (now day) layout × IsAccepted (now day) × EditSmall e × EditKnown (now day) e × (length (now behind) ≡ behindWords) × (from + length (now tasks) ≤ 1200) × SomeCuttable (now day) (editOf e) (now tasks) (now part) from (now behind) (span .first) (span .last) first ⌝ }
     ensures { λ r. ⌜ CutsAll (now (day .entry)) (editOf e) (now (tasks .entry)) (now (part .entry)) from (now (behind .entry)) (span .first) (span .last) first r ⌝ }
 {
     let mut c = first;
@@ -98,7 +99,7 @@ pub fn measure(
     behind: &[u32],
     part: &mut [u32],
 ) -> Walked
-    requires { ⌜ LayoutOf (now day) layout × IsAccepted (now day) × EditSmall e × EditKnown (now day) e × (length (now before) ≡ 7206) × (length (now behind) ≡ 4804) × (from + length (now tasks) ≤ 1200) × SomeMeasurable (now day) (editOf e) (now tasks) (now part) from (now before) (now behind) (span .first) (span .last) ⌝ }
+    requires { ⌜ LayoutOf (now day) layout × IsAccepted (now day) × EditSmall e × EditKnown (now day) e × (length (now before) ≡ beforeWords) × (length (now behind) ≡ behindWords) × (from + length (now tasks) ≤ 1200) × SomeMeasurable (now day) (editOf e) (now tasks) (now part) from (now before) (now behind) (span .first) (span .last) ⌝ }
     ensures { λ r. ⌜ ((ts : Round) → Measurable (now (day .entry)) (editOf e) (now (tasks .entry)) (now (part .entry)) from (now (before .entry)) (now (behind .entry)) (span .first) (span .last) ts → AgainAs (now (day .entry)) (changed (editOf e) 0 ts) r) ⌝ }
 {
     let first = span.first;

@@ -4,10 +4,17 @@ ghost use Prim.Native.Nat.{_<_, _≤_};
 ghost use lib.ListN.{length};
 ghost use Rattle.rules.specs.Fields.{IsAccepted};
 ghost use Rattle.day.specs.Layout.{LayoutOf};
-ghost use Rattle.tracks.specs.Tables.{SomeTrackable, TracksIn, SomeVehicle, TracksVehicle};
+ghost use Rattle.tracks.specs.Tables.{tracksWords, SomeTrackable, TracksIn, SomeVehicle, TracksVehicle};
 use crate::before::fill_before;
 use crate::behind::fill_behind;
 use day::fields::Layout;
+
+// The tables stand one behind the other: six words, then four, for each of 1201 places of a plan, then a word for each stop.
+pub const BEFORE_WORDS: usize = 7206;
+
+pub const BEHIND_END: usize = 12010;
+
+pub const TRACKS_WORDS: usize = 12266;
 
 // The place of a word, where it is a stop's.
 fn put_spot(w: u32, at: usize, spots: &mut [u32])
@@ -40,7 +47,7 @@ fn track_vehicle(
     work: &mut [u32],
 )
     requires { ⌜ LayoutOf (now day) layout × IsAccepted (now day) × SomeVehicle (now day) (now plan) (now starts) (length (now work)) v ⌝ }
-    requires { ⌜ length (now tracks) ≡ 12266 ⌝ }
+    requires { ⌜ length (now tracks) ≡ tracksWords ⌝ }
     ensures { λ r. ⌜ TracksVehicle (now (day .entry)) (now (plan .entry)) (now (starts .entry)) (length (now (work .entry))) v (now (tracks .entry)) (now (tracks .exit)) ⌝ }
 {
     let from = starts[v] as usize + 1;
@@ -50,11 +57,18 @@ fn track_vehicle(
         layout,
         &plan[from..end],
         from,
-        &mut tracks[0..7206],
+        &mut tracks[0..BEFORE_WORDS],
         work,
     );
-    fill_behind(day, layout, plan, from, end, &mut tracks[7206..12010]);
-    fill_spots(plan, from, end, &mut tracks[12010..12266]);
+    fill_behind(
+        day,
+        layout,
+        plan,
+        from,
+        end,
+        &mut tracks[BEFORE_WORDS..BEHIND_END],
+    );
+    fill_spots(plan, from, end, &mut tracks[BEHIND_END..TRACKS_WORDS]);
 }
 
 // The tables of the plan, made anew. The working buffer is worked in.
@@ -68,7 +82,7 @@ pub fn track(
     work: &mut [u32],
 )
     requires { ⌜ LayoutOf (now day) layout × IsAccepted (now day) × SomeTrackable (now day) (now plan) (now starts) (length (now work)) count ⌝ }
-    requires { ⌜ length (now tracks) ≡ 12266 ⌝ }
+    requires { ⌜ length (now tracks) ≡ tracksWords ⌝ }
     ensures { λ r. ⌜ TracksIn (now (day .entry)) (now (plan .entry)) (now (starts .entry)) (length (now (work .entry))) count (now (tracks .exit)) ⌝ }
 {
     let mut v: usize = 0;

@@ -4,6 +4,7 @@ ghost use Prim.Native.Nat.{_≤_, _*_};
 ghost use lib.ListN.{length};
 ghost use Rattle.rules.specs.Fields.{IsAccepted};
 ghost use Rattle.day.specs.Layout.{LayoutOf};
+ghost use Rattle.tracks.specs.Tables.{tracksWords};
 ghost use Rattle.trials.specs.Searches.{SomeHeld, MakesTables};
 use day::fields::Layout;
 use tracks::tables::track;
@@ -27,7 +28,7 @@ pub fn make_tables(
     work: &mut [u32],
 ) -> usize
     requires { ⌜ LayoutOf (now day) layout × IsAccepted (now day) × SomeHeld (now day) (now plan) × (5 * layout .stops ≤ length (now work)) ⌝ }
-    requires { ⌜ (length (now starts) ≡ 256) × (length (now vehicles) ≡ 256) × (length (now driven) ≡ 256) × (length (now tracks) ≡ 12266) ⌝ }
+    requires { ⌜ (length (now starts) ≡ 256) × (length (now vehicles) ≡ 256) × (length (now driven) ≡ 256) × (length (now tracks) ≡ tracksWords) ⌝ }
     ensures { λ r. ⌜ MakesTables (now (day .entry)) (now (plan .entry)) (now (starts .exit)) (now (vehicles .exit)) (now (driven .exit)) (now (tracks .exit)) r ⌝ }
 {
     let count = survey(day, layout, plan, starts, vehicles, driven);

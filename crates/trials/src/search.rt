@@ -14,6 +14,7 @@ ghost use Rattle.walks.specs.Rewalks.{EditKnown, EditSmall};
 ghost use Rattle.trial_list.specs.Listing.{PlanTables, CursorFits, ListAnswer};
 ghost use Rattle.trial_list.specs.TrialRest.{listedTrial};
 ghost use Rattle.attempts.specs.Tries.{Made, SomeMade, TriedAs};
+ghost use Rattle.tracks.specs.Tables.{tracksWords};
 ghost use Rattle.trials.specs.Searches.{PlanAt, SomePlanAt, TakesOver, AfterTrial, NextTrial, BeginsAll, Searching, endedBy, goingOn};
 use crate::held::Held;
 use crate::held::make_tables;
@@ -58,7 +59,7 @@ fn take_over(
     tracks: &mut [u32],
 ) -> usize
     requires { ⌜ LayoutOf (now day) layout × IsAccepted (now day) × SomePlanAt (now day) (now work) words × (5 * layout .stops ≤ length (now plan)) × (5 * layout .stops ≤ length (now work)) ⌝ }
-    requires { ⌜ (length (now starts) ≡ 256) × (length (now vehicles) ≡ 256) × (length (now driven) ≡ 256) × (length (now tracks) ≡ 12266) ⌝ }
+    requires { ⌜ (length (now starts) ≡ 256) × (length (now vehicles) ≡ 256) × (length (now driven) ≡ 256) × (length (now tracks) ≡ tracksWords) ⌝ }
     ensures { λ r. ⌜ TakesOver (now (day .entry)) (now (work .entry)) words (now (plan .exit)) (now (starts .exit)) (now (vehicles .exit)) (now (driven .exit)) (now (tracks .exit)) r ⌝ }
 {
     copy_words(&work[0..words], plan);
@@ -298,7 +299,7 @@ fn begin(
     work: &mut [u32],
 ) -> Search
     requires { ⌜ LayoutOf (now day) layout × IsAccepted (now day) × PlanAt (now day) (now plan) (held .words) (greedyRounds (now day)) × (held .distance ≡ distanceOf (now day) (greedyRounds (now day))) × (5 * layout .stops ≤ length (now work)) ⌝ }
-    requires { ⌜ (length (now starts) ≡ 256) × (length (now vehicles) ≡ 256) × (length (now driven) ≡ 256) × (length (now tracks) ≡ 12266) ⌝ }
+    requires { ⌜ (length (now starts) ≡ 256) × (length (now vehicles) ≡ 256) × (length (now driven) ≡ 256) × (length (now tracks) ≡ tracksWords) ⌝ }
     ensures { λ r. ⌜ BeginsAll (now (day .entry)) (now (plan .entry)) (now (starts .exit)) (now (vehicles .exit)) (now (driven .exit)) (now (tracks .exit)) r ⌝ }
 {
     let words = held.words;
@@ -323,7 +324,7 @@ pub fn run_trials(
 ) -> Search
     requires { ⌜ LayoutOf (now day) layout × IsAccepted (now day) × (set .k ≤ 50) × TableOf (now day) (set .k) (now table) × (5 * layout .stops ≤ length (now work)) × (5 * layout .stops ≤ length (now plan)) ⌝ }
     requires { ⌜ PlanAt (now day) (now plan) (held .words) (greedyRounds (now day)) × (held .distance ≡ distanceOf (now day) (greedyRounds (now day))) ⌝ }
-    requires { ⌜ (length (now starts) ≡ 256) × (length (now vehicles) ≡ 256) × (length (now driven) ≡ 256) × (length (now tracks) ≡ 12266) ⌝ }
+    requires { ⌜ (length (now starts) ≡ 256) × (length (now vehicles) ≡ 256) × (length (now driven) ≡ 256) × (length (now tracks) ≡ tracksWords) ⌝ }
     ensures { λ r. ⌜ Searching (now (day .entry)) (set .k) (set .budget) (now (plan .exit)) (now (starts .exit)) (now (vehicles .exit)) (now (driven .exit)) (now (tracks .exit)) r × (r .ended ≡ true) ⌝ }
 {
     let mut s = begin(

@@ -11,12 +11,13 @@ use Rattle.laws.specs.Buffer.{Wrote}
 use Rattle.laws.proofs.Buffer.{wrote-none, wrote-put}
 use Rattle.walks.proofs.MidwayLaws.{stands-size}
 use Rattle.tracks.specs.Before.{RowsKept, Walks}
+use Rattle.tracks.specs.Tables.{beforeWords}
 use Rattle.tracks.proofs.BeforeLaws.{Filling, place-small, leaving-place, filling-start, filling-task, filling-stands, filling-step, filling-whole}
 use Rattle.tracks.proofs.before.fill_before.Statement.{statement}
 use Rattle.tracks.proofs.before.fill_before.Tie as tie
 
 abbrev Inv-loop : tie.InvT-loop
-Inv-loop day layout words from before₀ part₀ c₀ i₀ before part c i = (length before ≡ 7206) × RowsKept from before₀ before × ((p : List ℕ) (ts : Round) → Wrote (vehicleWord 0 ∷ []) p part₀ 1 → Walks day words p ts → Filling day before from p part ts i c)
+Inv-loop day layout words from before₀ part₀ c₀ i₀ before part c i = (length before ≡ beforeWords) × RowsKept from before₀ before × ((p : List ℕ) (ts : Round) → Wrote (vehicleWord 0 ∷ []) p part₀ 1 → Walks day words p ts → Filling day before from p part ts i c)
 
 abbrev μ-loop : tie.MeasureT-loop
 μ-loop day layout words from before₀ part₀ c₀ i₀ before part c i = length words - i
