@@ -12,9 +12,8 @@ use borrow.Author.Tests.{lt-ltb, le-ltb}
 use Rattle.rules.specs.Answers.{given, refused, isGiven}
 use Rattle.rules.specs.Lists.{total}
 use Rattle.rules.specs.Buffer.{over}
-use Rattle.rules.specs.DayFile.{wordsOf, judgeDay}
-use Rattle.rules.specs.Fields.{tips, stops, IsAccepted}
-use Rattle.rules.specs.Plan.{roundsWords, planWords}
+use Rattle.rules.specs.DayFile.{judgeDay}
+use Rattle.rules.specs.Fields.{stops, IsAccepted}
 use Rattle.rules.specs.Lawful.{distanceFrom, totals}
 use Rattle.rules.specs.Check.{checkWords, checkPlan}
 use Rattle.rules.specs.Build.{greedyRounds, greedyLefts, greedyPlan, routed}

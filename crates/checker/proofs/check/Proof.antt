@@ -8,12 +8,6 @@ use Rattle.checker.proofs.check.Tie as tie
 layout-of-requires : tie.Need-layout-of-requires
 layout-of-requires c κs = search accepted-long
 
-returns : tie.Need-returns
-returns c = search day-accepted
-
-returns-2 : tie.Need-returns-2
-returns-2 c = search day-refused
-
 pub check-spec : {M : Type 1} → statement M
 check-spec =
     tie.close
@@ -23,5 +17,5 @@ check-spec =
     layout-of-requires
     (λ c κs. search needs)
     (λ c. search needs)
-    returns
-    returns-2)
+    (λ c. search day-accepted)
+    (λ c. search day-refused))

@@ -26,9 +26,6 @@ same-length c =
     let at-loop = at-read-from .before .before .before in
     at-read-from .read-from .kept .1 .0 ∙ at-loop .loop .inv .1
 
-returns : tie.Need-returns Inv-loop μ-loop
-returns c = (omega arith, refl)
-
 same-length-2 : tie.Need-same-length-2 Inv-loop μ-loop
 same-length-2 c =
     let at-read-from = c .before .before .before .before .before in
@@ -70,7 +67,7 @@ read-all-spec =
     loop-holds
     read-from-requires
     same-length
-    returns
+    (λ c. (omega arith, refl))
     same-length-2
     returns-2
     (λ c. search needs)

@@ -4,11 +4,5 @@ use Rattle.day_faults.proofs.Parts.{fault-answers, none-answers}
 use Rattle.judge.proofs.judge_words.Statement.{statement}
 use Rattle.judge.proofs.judge_words.Tie as tie
 
-returns : tie.Need-returns
-returns c = search fault-answers
-
-returns-2 : tie.Need-returns-2
-returns-2 c = search none-answers
-
 pub judge-words-spec : {M : Type 1} → statement M
-judge-words-spec = tie.close (tie.spec (λ c κs. search needs) returns returns-2)
+judge-words-spec = tie.close (tie.spec (λ c κs. search needs) (λ c. search fault-answers) (λ c. search none-answers))

@@ -8,8 +8,5 @@ use Rattle.marks.proofs.lowest_bit.Tie as tie
 cast-result : tie.Need-cast-result
 cast-result c = omega (arith, trailing-le 64 (c .args .w))
 
-returns : tie.Need-returns
-returns c = search trailing-lowest
-
 pub lowest-bit-spec : {M : Type 1} → statement M
-lowest-bit-spec = tie.close (tie.spec cast-result returns)
+lowest-bit-spec = tie.close (tie.spec cast-result (λ c. search trailing-lowest))

@@ -4,13 +4,7 @@ use Rattle.plan_queries.proofs.PlanCalls.{first-lawful, first-refused, 
 use Rattle.plan_queries.proofs.same_rounds.Statement.{statement}
 use Rattle.plan_queries.proofs.same_rounds.Tie as tie
 
-returns : tie.Need-returns
-returns c = (search first-lawful, search needs)
-
-returns-2 : tie.Need-returns-2
-returns-2 c = (search first-refused, search plan-numbered)
-
 pub same-rounds-spec : {M : Type 1} → statement M
 same-rounds-spec =
     tie.close
-    (tie.spec (λ c κs. search needs) (λ c. search needs) (λ c κs. search needs) (λ c. search needs) returns returns-2)
+    (tie.spec (λ c κs. search needs) (λ c. search needs) (λ c κs. search needs) (λ c. search needs) (λ c. (search first-lawful, search needs)) (λ c. (search first-refused, search plan-numbered)))

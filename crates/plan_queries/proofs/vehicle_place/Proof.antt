@@ -4,13 +4,7 @@ use Rattle.plan_queries.proofs.PlanCalls.{place-asked, place-refused}
 use Rattle.plan_queries.proofs.vehicle_place.Statement.{statement}
 use Rattle.plan_queries.proofs.vehicle_place.Tie as tie
 
-returns : tie.Need-returns
-returns c = search place-asked
-
-returns-2 : tie.Need-returns-2
-returns-2 c = search place-refused
-
 pub vehicle-place-spec : {M : Type 1} → statement M
 vehicle-place-spec =
     tie.close
-    (tie.spec (λ c κs. search needs) (λ c. search needs) (λ c κs. search needs) (λ c. search needs) returns returns-2)
+    (tie.spec (λ c κs. search needs) (λ c. search needs) (λ c κs. search needs) (λ c. search needs) (λ c. search place-asked) (λ c. search place-refused))

@@ -20,12 +20,6 @@ mul-result c = let i = inside c in search needs
 part-result-end : tie.Need-part-result-end
 part-result-end c = inside c
 
-returns : tie.Need-returns
-returns c = search part-handed
-
-returns-2 : tie.Need-returns-2
-returns-2 c = search part-empty
-
 pub vehicle-words-spec : {M : Type 1} → statement M
 vehicle-words-spec =
     tie.close
@@ -41,5 +35,5 @@ vehicle-words-spec =
     (λ c. search needs)
     (λ c. search needs)
     (λ c. search needs)
-    returns
-    returns-2)
+    (λ c. search part-handed)
+    (λ c. search part-empty))

@@ -7,9 +7,6 @@ use Rattle.plan_text.proofs.put_day.Tie as tie
 put-answer-requires : tie.Need-put-answer-requires
 put-answer-requires c κs = (search day-room, search day-within)
 
-returns : tie.Need-returns
-returns c = search day-put
-
 pub put-day-spec : {M : Type 1} → statement M
 put-day-spec =
     tie.close
@@ -20,4 +17,4 @@ put-day-spec =
     (λ c. search needs)
     put-answer-requires
     (λ c. search needs)
-    returns)
+    (λ c. search day-put))

@@ -10,12 +10,6 @@ array-share-prefix-words c = search file-fits
 slice-aggregate-put-day : tie.Need-slice-aggregate-put-day
 slice-aggregate-put-day c = search file-counted
 
-returns : tie.Need-returns
-returns c = search file-put
-
-returns-2 : tie.Need-returns-2
-returns-2 c = search refusal-put
-
 pub put-file-spec : {M : Type 1} → statement M
 put-file-spec =
     tie.close
@@ -30,6 +24,6 @@ put-file-spec =
     (λ c. search needs)
     (λ c κs. search needs)
     (λ c. search needs)
-    returns
+    (λ c. search file-put)
     (λ c. search needs)
-    returns-2)
+    (λ c. search refusal-put))

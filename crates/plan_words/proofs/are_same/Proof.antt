@@ -3,11 +3,5 @@ use Rattle.plan_words.proofs.WordForms.{kinds-differ, kinds-agree}
 use Rattle.plan_words.proofs.are_same.Statement.{statement}
 use Rattle.plan_words.proofs.are_same.Tie as tie
 
-returns : tie.Need-returns
-returns c = search kinds-differ
-
-returns-2 : tie.Need-returns-2
-returns-2 c = search kinds-agree
-
 pub are-same-spec : {M : Type 1} → statement M
-are-same-spec = tie.close (tie.spec returns returns-2)
+are-same-spec = tie.close (tie.spec (λ c. search kinds-differ) (λ c. search kinds-agree))

@@ -11,12 +11,6 @@ layout-of-requires c κs = search accepted-long
 build-accepted-requires : tie.Need-build-accepted-requires
 build-accepted-requires c κs = (search needs, search is-accepted)
 
-returns : tie.Need-returns
-returns c = (search accepted-answer, search accepted-buffer)
-
-returns-2 : tie.Need-returns-2
-returns-2 c = (search refused-answer, search refused-buffer)
-
 pub build-spec : {M : Type 1} → statement M
 build-spec =
     tie.close
@@ -27,5 +21,5 @@ build-spec =
     build-accepted-requires
     (λ c. search needs)
     (λ c. search needs)
-    returns
-    returns-2)
+    (λ c. (search accepted-answer, search accepted-buffer))
+    (λ c. (search refused-answer, search refused-buffer)))

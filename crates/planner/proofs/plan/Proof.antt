@@ -12,12 +12,6 @@ layout-of-requires c κs = search accepted-long
 plan-accepted-requires : tie.Need-plan-accepted-requires
 plan-accepted-requires c κs = (search needs, search is-accepted)
 
-returns : tie.Need-returns
-returns c = (search accepted-plan-answer, (search accepted-plan-buffer, search accepted-plan-spare))
-
-returns-2 : tie.Need-returns-2
-returns-2 c = (search refused-plan-answer, (search refused-plan-buffer, λ _. refl))
-
 pub plan-spec : {M : Type 1} → statement M
 plan-spec =
     tie.close
@@ -29,5 +23,5 @@ plan-spec =
     (λ c. search needs)
     (λ c. search needs)
     (λ c. search needs)
-    returns
-    returns-2)
+    (λ c. (search accepted-plan-answer, (search accepted-plan-buffer, search accepted-plan-spare)))
+    (λ c. (search refused-plan-answer, (search refused-plan-buffer, λ _. refl))))

@@ -21,9 +21,6 @@ loop-holds c = (omega arith, wrote-none _)
 loop-again : tie.Need-loop-again Inv-loop μ-loop
 loop-again c = (omega (arith, c .before .loop-test .taken), copy-next _ _ _ (c .before .before .loop .inv .1) (c .before .loop-test .taken) (c .before .before .before .pre))
 
-returns : tie.Need-returns Inv-loop μ-loop
-returns c = search copy-end
-
 pub copy-words-spec : {M : Type 1} → statement M
 copy-words-spec =
     tie.close
@@ -39,4 +36,4 @@ copy-words-spec =
     (λ c. search needs)
     loop-again
     (λ c. search needs)
-    returns)
+    (λ c. search copy-end))

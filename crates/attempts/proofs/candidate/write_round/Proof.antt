@@ -10,9 +10,6 @@ walk-vehicle-requires c κs = search (needs, some-walkable)
 returns : tie.Need-returns
 returns c = λ tasks h. round-walked _ (c .before .before .before .before .before .if1 .taken) tasks (c .before .before .walk-vehicle .ensures tasks (round-walkable (c .before .before .before .before .before .if1 .taken) tasks h))
 
-returns-2 : tie.Need-returns-2
-returns-2 c = search round-copied
-
 pub write-round-spec : {M : Type 1} → statement M
 write-round-spec =
     tie.close
@@ -26,4 +23,4 @@ write-round-spec =
     returns
     (λ c κs. search needs)
     (λ c. search needs)
-    returns-2)
+    (λ c. search round-copied))

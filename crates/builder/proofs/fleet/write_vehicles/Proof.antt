@@ -54,9 +54,6 @@ loop-again c = search underway-next
 same-length : tie.Need-same-length Inv-loop μ-loop
 same-length c = c .before .loop .inv .text .text .size
 
-returns : tie.Need-returns Inv-loop μ-loop
-returns c = search underway-end
-
 pub write-vehicles-spec : {M : Type 1} → statement M
 write-vehicles-spec =
     tie.close
@@ -76,4 +73,4 @@ write-vehicles-spec =
     loop-less
     loop-again
     same-length
-    returns)
+    (λ c. search underway-end))

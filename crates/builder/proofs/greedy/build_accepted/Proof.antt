@@ -6,9 +6,6 @@ use native.Mathlib.Omega.{arith}
 use Rattle.builder.proofs.greedy.build_accepted.Statement.{statement}
 use Rattle.builder.proofs.greedy.build_accepted.Tie as tie
 
-returns : tie.Need-returns
-returns c = (search short-answer, search short-buffer)
-
 write-plan-requires : tie.Need-write-plan-requires
 write-plan-requires c κs =
     let p = c .before .before .before .before .before .pre in
@@ -17,18 +14,12 @@ write-plan-requires c κs =
 part-check-accepted-end : tie.Need-part-check-accepted-end
 part-check-accepted-end c = search plan-fits
 
-returns-2 : tie.Need-returns-2
-returns-2 c = (search long-answer, search long-buffer)
-
-returns-3 : tie.Need-returns-3
-returns-3 c = absurd (search not-refused)
-
 pub build-accepted-spec : {M : Type 1} → statement M
 build-accepted-spec =
     tie.close
     (tie.spec
     (λ c. search needs)
-    returns
+    (λ c. (search short-answer, search short-buffer))
     write-plan-requires
     (λ c. search needs)
     (λ c. search needs)
@@ -37,6 +28,6 @@ build-accepted-spec =
     (λ c. search needs)
     (λ c. search needs)
     (λ c. search needs)
-    returns-2
+    (λ c. (search long-answer, search long-buffer))
     (λ c. search needs)
-    returns-3)
+    (λ c. absurd (search not-refused)))

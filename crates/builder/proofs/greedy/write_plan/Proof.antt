@@ -4,9 +4,6 @@ use borrow.Author.Needs.{needs}
 use Rattle.builder.proofs.greedy.write_plan.Statement.{statement}
 use Rattle.builder.proofs.greedy.write_plan.Tie as tie
 
-returns : tie.Need-returns
-returns c = ((search plan-size, search lefts-are), search plan-filled)
-
 pub write-plan-spec : {M : Type 1} → statement M
 write-plan-spec =
     tie.close
@@ -18,4 +15,4 @@ write-plan-spec =
     (λ c κs. search needs)
     (λ c. search needs)
     (λ c. search needs)
-    returns)
+    (λ c. ((search plan-size, search lefts-are), search plan-filled)))

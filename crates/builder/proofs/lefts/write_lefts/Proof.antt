@@ -36,9 +36,6 @@ loop-again c = search turn-next
 same-length : tie.Need-same-length Inv-loop μ-loop
 same-length c = c .before .loop .inv .size
 
-returns : tie.Need-returns Inv-loop μ-loop
-returns c = (search turn-count, search turn-last)
-
 pub write-lefts-spec : {M : Type 1} → statement M
 write-lefts-spec =
     tie.close
@@ -56,4 +53,4 @@ write-lefts-spec =
     loop-less
     loop-again
     same-length
-    returns)
+    (λ c. (search turn-count, search turn-last)))

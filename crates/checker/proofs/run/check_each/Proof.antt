@@ -19,9 +19,6 @@ loop-holds c = (search needs, search reached-start)
 word-step-requires : tie.Need-word-step-requires Inv-loop μ-loop
 word-step-requires c κs = (search needs, search needs, search reached-small)
 
-returns : tie.Need-returns Inv-loop μ-loop
-returns c = search reached-fault
-
 array-write-met : tie.Need-array-write-met Inv-loop μ-loop
 array-write-met c = search stop-byte
 
@@ -30,9 +27,6 @@ loop-again c = (search needs, search reached-next)
 
 finish-requires : tie.Need-finish-requires Inv-loop μ-loop
 finish-requires c κs = search reached-tally
-
-returns-2 : tie.Need-returns-2 Inv-loop μ-loop
-returns-2 c = search reached-end
 
 pub check-each-spec : {M : Type 1} → statement M
 check-each-spec =
@@ -46,10 +40,10 @@ check-each-spec =
     (λ c. search needs)
     (λ c. search needs)
     word-step-requires
-    returns
+    (λ c. search reached-fault)
     array-write-met
     (λ c. search needs)
     (λ c. search needs)
     loop-again
     finish-requires
-    returns-2)
+    (λ c. search reached-end))

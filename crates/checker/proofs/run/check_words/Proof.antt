@@ -7,9 +7,6 @@ use Rattle.checker.proofs.run.check_words.Tie as tie
 finish-requires : tie.Need-finish-requires
 finish-requires c κs = told-small _ _ _ (c .before .all-parts .ensures) (c .if1 .taken)
 
-returns : tie.Need-returns
-returns c = search told-answer
-
 pub check-words-spec : {M : Type 1} → statement M
 check-words-spec =
     tie.close
@@ -17,6 +14,6 @@ check-words-spec =
     (λ c κs. search needs)
     (λ c κs. search needs)
     finish-requires
-    returns
+    (λ c. search told-answer)
     (λ c κs. search needs)
     (λ c. search needs))

@@ -4,8 +4,5 @@ use Rattle.day.proofs.Readers.{depot-read}
 use Rattle.day.proofs.fields.depot_window.Statement.{statement}
 use Rattle.day.proofs.fields.depot_window.Tie as tie
 
-returns : tie.Need-returns
-returns c = search depot-read
-
 pub depot-window-spec : {M : Type 1} → statement M
-depot-window-spec = tie.close (tie.spec (λ c κs. search needs) returns)
+depot-window-spec = tie.close (tie.spec (λ c κs. search needs) (λ c. search depot-read))

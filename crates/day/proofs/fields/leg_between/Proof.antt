@@ -24,8 +24,5 @@ mul-w-2 c = omega (arith, inside (c .before))
 shared-slice-read-w : tie.Need-shared-slice-read-w
 shared-slice-read-w c = omega (arith, inside (c .before .before))
 
-returns : tie.Need-returns
-returns c = search leg-read
-
 pub leg-between-spec : {M : Type 1} → statement M
-leg-between-spec = tie.close (tie.spec mul-w add-w add-w-2 mul-w-2 shared-slice-read-w returns)
+leg-between-spec = tie.close (tie.spec mul-w add-w add-w-2 mul-w-2 shared-slice-read-w (λ c. search leg-read))

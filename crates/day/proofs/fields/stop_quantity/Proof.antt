@@ -4,9 +4,6 @@ use Rattle.day.proofs.Readers.{stop-quantity-read}
 use Rattle.day.proofs.fields.stop_quantity.Statement.{statement}
 use Rattle.day.proofs.fields.stop_quantity.Tie as tie
 
-returns : tie.Need-returns
-returns c = search stop-quantity-read
-
 pub stop-quantity-spec : {M : Type 1} → statement M
 stop-quantity-spec =
     tie.close
@@ -16,4 +13,4 @@ stop-quantity-spec =
     (λ c. search needs)
     (λ c. search needs)
     (λ c κs. search needs)
-    returns)
+    (λ c. search stop-quantity-read))

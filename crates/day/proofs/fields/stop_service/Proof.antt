@@ -4,9 +4,6 @@ use Rattle.day.proofs.Readers.{stop-service-read}
 use Rattle.day.proofs.fields.stop_service.Statement.{statement}
 use Rattle.day.proofs.fields.stop_service.Tie as tie
 
-returns : tie.Need-returns
-returns c = search stop-service-read
-
 pub stop-service-spec : {M : Type 1} → statement M
 stop-service-spec =
     tie.close
@@ -16,4 +13,4 @@ stop-service-spec =
     (λ c. search needs)
     (λ c. search needs)
     (λ c κs. search needs)
-    returns)
+    (λ c. search stop-service-read))

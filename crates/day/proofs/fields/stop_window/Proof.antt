@@ -4,9 +4,6 @@ use Rattle.day.proofs.Readers.{stop-window-read}
 use Rattle.day.proofs.fields.stop_window.Statement.{statement}
 use Rattle.day.proofs.fields.stop_window.Tie as tie
 
-returns : tie.Need-returns
-returns c = search stop-window-read
-
 pub stop-window-spec : {M : Type 1} → statement M
 stop-window-spec =
     tie.close
@@ -16,4 +13,4 @@ stop-window-spec =
     (λ c. search needs)
     (λ c. search needs)
     (λ c κs. search needs)
-    returns)
+    (λ c. search stop-window-read))

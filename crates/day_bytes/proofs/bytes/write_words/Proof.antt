@@ -20,9 +20,6 @@ loop-holds c = (search needs, words-start _ _)
 loop-again : tie.Need-loop-again Inv-loop μ-loop
 loop-again c = (search needs, words-next _ _ _ _ (c .before .before .loop .inv .1) (c .word-from .ensures) (omega arith))
 
-returns : tie.Need-returns Inv-loop μ-loop
-returns c = search words-end
-
 pub write-words-spec : {M : Type 1} → statement M
 write-words-spec =
     tie.close
@@ -37,4 +34,4 @@ write-words-spec =
     (λ c. search needs)
     loop-again
     (λ c. search needs)
-    returns)
+    (λ c. search words-end))

@@ -16,14 +16,8 @@ abbrev μ-loop : tie.MeasureT-loop
 loop-holds : tie.Need-loop-holds Inv-loop μ-loop
 loop-holds c = (search needs, refl)
 
-returns : tie.Need-returns Inv-loop μ-loop
-returns c = search head-stops
-
 loop-again : tie.Need-loop-again Inv-loop μ-loop
 loop-again c = (search needs, search head-passes)
-
-returns-2 : tie.Need-returns-2 Inv-loop μ-loop
-returns-2 c = search head-end
 
 pub head-fault-spec : {M : Type 1} → statement M
 head-fault-spec =
@@ -35,9 +29,9 @@ head-fault-spec =
     (λ c. search needs)
     (λ c. search needs)
     (λ c κs. search needs)
-    returns
+    (λ c. search head-stops)
     (λ c. search needs)
     (λ c. search needs)
     loop-again
     (λ c κs. search needs)
-    returns-2)
+    (λ c. search head-end))

@@ -17,14 +17,8 @@ abbrev μ-loop : tie.MeasureT-loop
 loop-holds : tie.Need-loop-holds Inv-loop μ-loop
 loop-holds c = (search needs, search needs, refl)
 
-returns : tie.Need-returns Inv-loop μ-loop
-returns c = search part-stops
-
 loop-again : tie.Need-loop-again Inv-loop μ-loop
 loop-again c = (search needs, search needs, search part-passes)
-
-returns-2 : tie.Need-returns-2 Inv-loop μ-loop
-returns-2 c = search stops-end
 
 pub stops-fault-spec : {M : Type 1} → statement M
 stops-fault-spec =
@@ -36,10 +30,10 @@ stops-fault-spec =
     (λ c. search needs)
     loop-holds
     (λ c κs. search needs)
-    returns
+    (λ c. search part-stops)
     (λ c. search needs)
     (λ c. search needs)
     (λ c. search needs)
     loop-again
     (λ c κs. search needs)
-    returns-2)
+    (λ c. search stops-end))

@@ -4,12 +4,6 @@ use Rattle.day_faults.proofs.Parts.{tip-window-stops, tip-service-judge
 use Rattle.day_faults.proofs.faults.tip_fault.Statement.{statement}
 use Rattle.day_faults.proofs.faults.tip_fault.Tie as tie
 
-returns : tie.Need-returns
-returns c = search tip-window-stops
-
-returns-2 : tie.Need-returns-2
-returns-2 c = search tip-service-judged
-
 pub tip-fault-spec : {M : Type 1} → statement M
 tip-fault-spec =
     tie.close
@@ -17,10 +11,10 @@ tip-fault-spec =
     (λ c. search needs)
     (λ c. search needs)
     (λ c κs. search needs)
-    returns
+    (λ c. search tip-window-stops)
     (λ c. search needs)
     (λ c. search needs)
     (λ c. search needs)
     (λ c κs. search needs)
     (λ c. search needs)
-    returns-2)
+    (λ c. search tip-service-judged))

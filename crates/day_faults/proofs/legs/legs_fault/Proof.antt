@@ -22,16 +22,10 @@ loop-holds c = (search needs, search needs, search needs, refl)
 row-fault-requires : tie.Need-row-fault-requires Inv-loop μ-loop
 row-fault-requires c κs = search row-at
 
-returns : tie.Need-returns Inv-loop μ-loop
-returns c = search part-stops
-
 loop-again : tie.Need-loop-again Inv-loop μ-loop
 loop-again c =
     let l = c .before .before .before .before .loop in
     (search needs, search row-within, search row-next, part-passes _ _ _ _ _ _ _ (c .if1 .left) (c .before .before .row-fault .ensures) (l .inv .3))
-
-returns-2 : tie.Need-returns-2 Inv-loop μ-loop
-returns-2 c = search rows-end
 
 pub legs-fault-spec : {M : Type 1} → statement M
 legs-fault-spec =
@@ -48,10 +42,10 @@ legs-fault-spec =
     loop-holds
     (λ c. search needs)
     row-fault-requires
-    returns
+    (λ c. search part-stops)
     (λ c. search needs)
     (λ c. search needs)
     (λ c. search needs)
     loop-again
     (λ c κs. search needs)
-    returns-2)
+    (λ c. search rows-end))

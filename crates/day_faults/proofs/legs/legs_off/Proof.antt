@@ -19,9 +19,6 @@ loop-holds c = (search needs, search needs, search needs, λ z. range-start _ _)
 loop-again : tie.Need-loop-again Inv-loop μ-loop
 loop-again c = (search needs, search needs, search needs, λ z. search range-next)
 
-returns : tie.Need-returns Inv-loop μ-loop
-returns c = λ z. search range-end
-
 pub legs-off-spec : {M : Type 1} → statement M
 legs-off-spec =
     tie.close
@@ -36,4 +33,4 @@ legs-off-spec =
     (λ c. search needs)
     (λ c. search needs)
     loop-again
-    returns)
+    (λ c. λ z. search range-end))

@@ -4,9 +4,6 @@ use Rattle.day_faults.proofs.Rows.{glance-passes}
 use Rattle.day_faults.proofs.legs.row_fault.Statement.{statement}
 use Rattle.day_faults.proofs.legs.row_fault.Tie as tie
 
-returns : tie.Need-returns
-returns c = search glance-passes
-
 pub row-fault-spec : {M : Type 1} → statement M
 row-fault-spec =
     tie.close
@@ -14,6 +11,6 @@ row-fault-spec =
     (λ c. search needs)
     (λ c κs. search needs)
     (λ c κs. search needs)
-    returns
+    (λ c. search glance-passes)
     (λ c κs. search needs)
     (λ c. search needs))

@@ -16,14 +16,8 @@ abbrev μ-loop : tie.MeasureT-loop
 loop-holds : tie.Need-loop-holds Inv-loop μ-loop
 loop-holds c = (search needs, search needs, refl)
 
-returns : tie.Need-returns Inv-loop μ-loop
-returns c = search row-word-stops
-
 loop-again : tie.Need-loop-again Inv-loop μ-loop
 loop-again c = (search needs, search needs, search row-word-passes)
-
-returns-2 : tie.Need-returns-2 Inv-loop μ-loop
-returns-2 c = search row-end
 
 pub row-words-fault-spec : {M : Type 1} → statement M
 row-words-fault-spec =
@@ -36,9 +30,9 @@ row-words-fault-spec =
     (λ c. search needs)
     (λ c. search needs)
     (λ c κs. search needs)
-    returns
+    (λ c. search row-word-stops)
     (λ c. search needs)
     (λ c. search needs)
     loop-again
     (λ c κs. search needs)
-    returns-2)
+    (λ c. search row-end))

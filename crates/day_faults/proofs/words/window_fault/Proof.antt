@@ -4,17 +4,5 @@ use Rattle.day.proofs.WordFaults.{window-kind, window-backward, window-late, wi
 use Rattle.day_faults.proofs.words.window_fault.Statement.{statement}
 use Rattle.day_faults.proofs.words.window_fault.Tie as tie
 
-returns : tie.Need-returns
-returns c = search window-kind
-
-returns-2 : tie.Need-returns-2
-returns-2 c = search window-backward
-
-returns-3 : tie.Need-returns-3
-returns-3 c = search window-late
-
-returns-4 : tie.Need-returns-4
-returns-4 c = search window-right
-
 pub window-fault-spec : {M : Type 1} → statement M
-window-fault-spec = tie.close (tie.spec (λ c. search needs) returns returns-2 returns-3 returns-4)
+window-fault-spec = tie.close (tie.spec (λ c. search needs) (λ c. search window-kind) (λ c. search window-backward) (λ c. search window-late) (λ c. search window-right))

@@ -19,9 +19,6 @@ loop-holds c = (search needs, search keys-none)
 loop-again : tie.Need-loop-again Inv-loop μ-loop
 loop-again c = (search needs, keys-next _ _ _ _ _ (c .before .before .loop .inv .1) (omega (arith, c .before .before .before .before .before .pre .1, c .before .loop-test .taken)) (c .key-of .ensures))
 
-returns : tie.Need-returns Inv-loop μ-loop
-returns c = search keys-all
-
 pub fill-keys-spec : {M : Type 1} → statement M
 fill-keys-spec =
     tie.close
@@ -38,4 +35,4 @@ fill-keys-spec =
     (λ c. search needs)
     loop-again
     (λ c. search needs)
-    returns)
+    (λ c. search keys-all))

@@ -18,9 +18,6 @@ loop-holds c = (search needs, search rows-none)
 loop-again : tie.Need-loop-again Inv-loop μ-loop
 loop-again c = (search needs, rows-next _ _ _ _ _ (c .before .before .before .before .before .before .before .before .pre .2) (c .before .before .before .before .before .loop .inv .1) (c .before .before .fill-stop .ensures))
 
-returns : tie.Need-returns Inv-loop μ-loop
-returns c = search rows-all
-
 pub fill-table-spec : {M : Type 1} → statement M
 fill-table-spec =
     tie.close
@@ -34,4 +31,4 @@ fill-table-spec =
     (λ c. search needs)
     loop-again
     (λ c. search needs)
-    returns)
+    (λ c. search rows-all))

@@ -8,12 +8,6 @@ use Rattle.neighbours.proofs.table.key_of.Tie as tie
 returns : tie.Need-returns
 returns c = key-self _ _ _ (c .if1 .taken)
 
-returns-2 : tie.Need-returns-2
-returns-2 c = search key-early
-
-returns-3 : tie.Need-returns-3
-returns-3 c = search key-late
-
 cast-result : tie.Need-cast-result
 cast-result c =
     let p = c .before .before .before .before .before .before .before .before .before .before .before .before .before .before .before .before .before .pre in
@@ -47,10 +41,10 @@ key-of-spec =
     (λ c κs. search needs)
     (λ c. search needs)
     (λ c. search needs)
-    returns-2
+    (λ c. search key-early)
     (λ c. search needs)
     (λ c. search needs)
-    returns-3
+    (λ c. search key-late)
     (λ c. search needs)
     cast-result
     add-result

@@ -19,9 +19,6 @@ loop-holds c = (search needs, above-none _ _)
 loop-again : tie.Need-loop-again Inv-loop μ-loop
 loop-again c = (search needs, search above-next)
 
-returns : tie.Need-returns Inv-loop μ-loop
-returns c = search above-all
-
 pub next-key-spec : {M : Type 1} → statement M
 next-key-spec =
     tie.close
@@ -37,4 +34,4 @@ next-key-spec =
     (λ c. search needs)
     (λ c. search needs)
     loop-again
-    returns)
+    (λ c. search above-all))

@@ -14,9 +14,6 @@ abbrev μ-loop : tie.MeasureT-loop
 loop-holds : tie.Need-loop-holds Inv-loop μ-loop
 loop-holds c = search word-start
 
-returns : tie.Need-returns Inv-loop μ-loop
-returns c = (search needs, search word-over)
-
 lowest-bit-requires : tie.Need-lowest-bit-requires Inv-loop μ-loop
 lowest-bit-requires c κs = omega arith
 
@@ -32,9 +29,6 @@ loop-less c = omega (arith, c .before .before .before .before .from-candidate .e
 loop-again : tie.Need-loop-again Inv-loop μ-loop
 loop-again c = search word-next
 
-returns-2 : tie.Need-returns-2 Inv-loop μ-loop
-returns-2 c = (search needs, search word-end)
-
 pub best-in-word-spec : {M : Type 1} → statement M
 best-in-word-spec =
     tie.close
@@ -43,11 +37,11 @@ best-in-word-spec =
     μ-loop
     loop-holds
     (λ c κs. search needs)
-    returns
+    (λ c. (search needs, search word-over))
     lowest-bit-requires
     add-better-stop
     better-stop-requires
     (λ c κs. search needs)
     loop-less
     loop-again
-    returns-2)
+    (λ c. (search needs, search word-end)))

@@ -9,11 +9,5 @@ use Rattle.next_task.proofs.choice.better_stop.Tie as tie
 is-suited-requires : tie.Need-is-suited-requires
 is-suited-requires c κs = (search needs, (search needs, timely-soon _ _ _ _ refl (c .before .pre .1 .0 .inTime)))
 
-returns : tie.Need-returns
-returns c = (search taken-so-far, search is-suited)
-
-returns-2 : tie.Need-returns-2
-returns-2 c = (search needs, search not-suited)
-
 pub better-stop-spec : {M : Type 1} → statement M
-better-stop-spec = tie.close (tie.spec is-suited-requires (λ c κs. search needs) returns returns-2)
+better-stop-spec = tie.close (tie.spec is-suited-requires (λ c κs. search needs) (λ c. (search taken-so-far, search is-suited)) (λ c. (search needs, search not-suited)))

@@ -20,14 +20,8 @@ lowest-bit-requires c κs = omega arith
 add-is-candidate : tie.Need-add-is-candidate Inv-loop μ-loop
 add-is-candidate c = omega (arith, c .lowest-bit .ensures .within)
 
-returns : tie.Need-returns Inv-loop μ-loop
-returns c = search candidate-here
-
 loop-again : tie.Need-loop-again Inv-loop μ-loop
 loop-again c = search passed-next
-
-returns-2 : tie.Need-returns-2 Inv-loop μ-loop
-returns-2 c = search none-left
 
 pub from-candidate-spec : {M : Type 1} → statement M
 from-candidate-spec =
@@ -39,8 +33,8 @@ from-candidate-spec =
     lowest-bit-requires
     add-is-candidate
     (λ c κs. search needs)
-    returns
+    (λ c. search candidate-here)
     (λ c κs. search needs)
     (λ c. search needs)
     loop-again
-    returns-2)
+    (λ c. search none-left))

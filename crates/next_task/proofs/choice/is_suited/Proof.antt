@@ -7,9 +7,6 @@ use Rattle.next_task.proofs.choice.is_suited.Tie as tie
 is-way-home-requires : tie.Need-is-way-home-requires
 is-way-home-requires c κs = (search needs, search served-trip)
 
-returns : tie.Need-returns
-returns c = search fit-home
-
 pub is-suited-spec : {M : Type 1} → statement M
 is-suited-spec =
     tie.close
@@ -18,4 +15,4 @@ is-suited-spec =
     (λ c κs. search needs)
     (λ c. search needs)
     is-way-home-requires
-    returns)
+    (λ c. search fit-home))

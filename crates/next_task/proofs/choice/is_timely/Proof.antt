@@ -4,15 +4,6 @@ use Rattle.next_task.proofs.ChoiceLaws.{near-early, near-opened, before
 use Rattle.next_task.proofs.choice.is_timely.Statement.{statement}
 use Rattle.next_task.proofs.choice.is_timely.Tie as tie
 
-returns : tie.Need-returns
-returns c = search near-early
-
-returns-2 : tie.Need-returns-2
-returns-2 c = search near-opened
-
-returns-3 : tie.Need-returns-3
-returns-3 c = search before-opening
-
 pub is-timely-spec : {M : Type 1} → statement M
 is-timely-spec =
     tie.close
@@ -21,6 +12,6 @@ is-timely-spec =
     (λ c κs. search needs)
     (λ c κs. search needs)
     (λ c. search needs)
-    returns
-    returns-2
-    returns-3)
+    (λ c. search near-early)
+    (λ c. search near-opened)
+    (λ c. search before-opening))

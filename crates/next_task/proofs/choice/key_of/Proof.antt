@@ -4,13 +4,7 @@ use Rattle.next_task.proofs.ChoiceLaws.{near-key, open-key}
 use Rattle.next_task.proofs.choice.key_of.Statement.{statement}
 use Rattle.next_task.proofs.choice.key_of.Tie as tie
 
-returns : tie.Need-returns
-returns c = (search near-key, search needs)
-
-returns-2 : tie.Need-returns-2
-returns-2 c = (search open-key, search needs)
-
 pub key-of-spec : {M : Type 1} → statement M
 key-of-spec =
     tie.close
-    (tie.spec (λ c. search needs) (λ c κs. search needs) returns (λ c κs. search needs) returns-2)
+    (tie.spec (λ c. search needs) (λ c κs. search needs) (λ c. (search near-key, search needs)) (λ c κs. search needs) (λ c. (search open-key, search needs)))

@@ -4,13 +4,7 @@ use Rattle.next_task.proofs.TaskLaws.{no-tip, by-minutes}
 use Rattle.next_task.proofs.tasks.is_farther.Statement.{statement}
 use Rattle.next_task.proofs.tasks.is_farther.Tie as tie
 
-returns : tie.Need-returns
-returns c = search no-tip
-
-returns-2 : tie.Need-returns-2
-returns-2 c = search by-minutes
-
 pub is-farther-spec : {M : Type 1} → statement M
 is-farther-spec =
     tie.close
-    (tie.spec returns (λ c κs. search needs) (λ c. search needs) (λ c κs. search needs) returns-2)
+    (tie.spec (λ c. search no-tip) (λ c κs. search needs) (λ c. search needs) (λ c κs. search needs) (λ c. search by-minutes))

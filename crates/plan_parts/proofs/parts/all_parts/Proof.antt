@@ -17,9 +17,6 @@ abbrev μ-loop : tie.MeasureT-loop
 loop-holds : tie.Need-loop-holds Inv-loop μ-loop
 loop-holds c = (search needs, search reached-start)
 
-returns : tie.Need-returns Inv-loop μ-loop
-returns c = λ e. search none-told
-
 loop-less : tie.Need-loop-less Inv-loop μ-loop
 loop-less c = part-less _ _ _ _ _ (c .before .before .before .next-part .ensures) (c .before .if1 .left)
 
@@ -28,9 +25,6 @@ loop-again c = (
   part-most _ _ _ _ _ (c .before .before .before .next-part .ensures) (c .before .if1 .left),
   part-reached _ _ _ _ _ (c .before .before .before .next-part .ensures) (c .before .if1 .left),
 )
-
-returns-2 : tie.Need-returns-2 Inv-loop μ-loop
-returns-2 c = λ e. search told-end
 
 pub all-parts-spec : {M : Type 1} → statement M
 all-parts-spec =
@@ -43,7 +37,7 @@ all-parts-spec =
     loop-holds
     (λ c κs. search needs)
     (λ c κs. search needs)
-    returns
+    (λ c. λ e. search none-told)
     loop-less
     loop-again
-    returns-2)
+    (λ c. λ e. search told-end))

@@ -9,32 +9,17 @@ use Rattle.plan_parts.proofs.parts.next_part.Tie as tie
 vehicle-word-requires : tie.Need-vehicle-word-requires
 vehicle-word-requires c κs = (search needs, search part-small)
 
-returns : tie.Need-returns
-returns c = λ e. search no-part
-
 element-write-met : tie.Need-element-write-met
 element-write-met c = search (part-byte, vehicle-told)
 
 round-requires : tie.Need-round-requires
 round-requires c κs = (search needs, search needs, search needs, search needs, search (part-out, vehicle-told))
 
-returns-2 : tie.Need-returns-2
-returns-2 c = search part-behind
-
 left-word-requires : tie.Need-left-word-requires
 left-word-requires c κs = (search needs, search part-small)
 
-returns-3 : tie.Need-returns-3
-returns-3 c = λ e. search no-part
-
 element-write-met-2 : tie.Need-element-write-met-2
 element-write-met-2 c = search (part-byte, left-told)
-
-returns-4 : tie.Need-returns-4
-returns-4 c = λ e. record { more = omega arith; most = omega arith; reached = search (part-next, left-told) }
-
-returns-5 : tie.Need-returns-5
-returns-5 c = λ e. search no-part
 
 pub next-part-spec : {M : Type 1} → statement M
 next-part-spec =
@@ -46,17 +31,17 @@ next-part-spec =
     (λ c κs. search needs)
     vehicle-word-requires
     (λ c κs. search needs)
-    returns
+    (λ c. λ e. search no-part)
     element-write-met
     (λ c. search needs)
     round-requires
-    returns-2
+    (λ c. search part-behind)
     (λ c κs. search needs)
     left-word-requires
     (λ c κs. search needs)
-    returns-3
+    (λ c. λ e. search no-part)
     element-write-met-2
     (λ c. search needs)
-    returns-4
+    (λ c. λ e. record { more = omega arith; most = omega arith; reached = search (part-next, left-told) })
     (λ c κs. search needs)
-    returns-5)
+    (λ c. λ e. search no-part))

@@ -3,8 +3,5 @@ use borrow.Author.Needs.{needs}
 use Rattle.plan_parts.proofs.parts.out_with.Statement.{statement}
 use Rattle.plan_parts.proofs.parts.out_with.Tie as tie
 
-returns : tie.Need-returns
-returns c = cc
-
 pub out-with-spec : {M : Type 1} → statement M
-out-with-spec = tie.close (tie.spec (λ c. search needs) (λ c κs. search needs) (λ c κs. search needs) returns)
+out-with-spec = tie.close (tie.spec (λ c. search needs) (λ c κs. search needs) (λ c κs. search needs) (λ c. cc))

@@ -23,20 +23,11 @@ out-with-requires c κs = search out-few
 task-step-requires : tie.Need-task-step-requires Inv-loop μ-loop
 task-step-requires c κs = (search needs, search needs, search out-small)
 
-returns : tie.Need-returns Inv-loop μ-loop
-returns c = λ e. search no-part
-
 element-write-met : tie.Need-element-write-met Inv-loop μ-loop
 element-write-met c = search out-byte
 
-returns-2 : tie.Need-returns-2 Inv-loop μ-loop
-returns-2 c = λ e. record { more = omega arith; most = omega arith; reached = search out-next }
-
 loop-again : tie.Need-loop-again Inv-loop μ-loop
 loop-again c = (search needs, search needs, search out-again)
-
-returns-3 : tie.Need-returns-3 Inv-loop μ-loop
-returns-3 c = λ e. search no-part
 
 pub round-spec : {M : Type 1} → statement M
 round-spec =
@@ -53,10 +44,10 @@ round-spec =
     (λ c. search needs)
     task-step-requires
     (λ c κs. search needs)
-    returns
+    (λ c. λ e. search no-part)
     element-write-met
-    returns-2
+    (λ c. λ e. record { more = omega arith; most = omega arith; reached = search out-next })
     (λ c. search needs)
     loop-again
     (λ c κs. search needs)
-    returns-3)
+    (λ c. λ e. search no-part))

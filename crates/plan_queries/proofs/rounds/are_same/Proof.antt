@@ -15,17 +15,8 @@ abbrev μ-loop : tie.MeasureT-loop
 loop-holds : tie.Need-loop-holds Inv-loop μ-loop
 loop-holds c = (search needs, search needs, search alike-start)
 
-returns : tie.Need-returns Inv-loop μ-loop
-returns c = search second-shorter
-
-returns-2 : tie.Need-returns-2 Inv-loop μ-loop
-returns-2 c = search words-differ
-
 loop-again : tie.Need-loop-again Inv-loop μ-loop
 loop-again c = (search needs, search needs, search words-agree)
-
-returns-3 : tie.Need-returns-3 Inv-loop μ-loop
-returns-3 c = search first-ends
 
 pub are-same-spec : {M : Type 1} → statement M
 are-same-spec =
@@ -36,17 +27,17 @@ are-same-spec =
     (λ c κs. search needs)
     (λ c κs. search needs)
     loop-holds
-    returns
+    (λ c. search second-shorter)
     (λ c. search needs)
     (λ c. search needs)
     (λ c. search needs)
     (λ c. search needs)
     (λ c κs. search needs)
-    returns-2
+    (λ c. search words-differ)
     (λ c. search needs)
     (λ c κs. search needs)
     (λ c. search needs)
     (λ c κs. search needs)
     (λ c. search needs)
     loop-again
-    returns-3)
+    (λ c. search first-ends))

@@ -4,11 +4,5 @@ use Rattle.plan_queries.proofs.RoundsCompared.{stop-counts, vehicle-cou
 use Rattle.plan_queries.proofs.rounds.is_counted.Statement.{statement}
 use Rattle.plan_queries.proofs.rounds.is_counted.Tie as tie
 
-returns : tie.Need-returns
-returns c = search stop-counts
-
-returns-2 : tie.Need-returns-2
-returns-2 c = search vehicle-counts
-
 pub is-counted-spec : {M : Type 1} → statement M
-is-counted-spec = tie.close (tie.spec (λ c κs. search needs) returns (λ c κs. search needs) returns-2)
+is-counted-spec = tie.close (tie.spec (λ c κs. search needs) (λ c. search stop-counts) (λ c κs. search needs) (λ c. search vehicle-counts))

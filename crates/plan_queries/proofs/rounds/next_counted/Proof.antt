@@ -17,14 +17,8 @@ abbrev μ-loop : tie.MeasureT-loop
 loop-holds : tie.Need-loop-holds Inv-loop μ-loop
 loop-holds c = (search needs, search needs, refl)
 
-returns : tie.Need-returns Inv-loop μ-loop
-returns c = search next-here
-
 loop-again : tie.Need-loop-again Inv-loop μ-loop
 loop-again c = (search needs, search needs, search next-later)
-
-returns-2 : tie.Need-returns-2 Inv-loop μ-loop
-returns-2 c = search next-none
 
 pub next-counted-spec : {M : Type 1} → statement M
 next-counted-spec =
@@ -36,8 +30,8 @@ next-counted-spec =
     (λ c. search needs)
     (λ c. search needs)
     (λ c κs. search needs)
-    returns
+    (λ c. search next-here)
     (λ c. search needs)
     (λ c. search needs)
     loop-again
-    returns-2)
+    (λ c. search next-none))

@@ -4,12 +4,6 @@ use Rattle.plan_queries.proofs.VehicleParts.{other-word, vehicle-word}
 use Rattle.plan_queries.proofs.vehicles.is_vehicle.Statement.{statement}
 use Rattle.plan_queries.proofs.vehicles.is_vehicle.Tie as tie
 
-returns : tie.Need-returns
-returns c = search vehicle-word
-
-returns-2 : tie.Need-returns-2
-returns-2 c = search other-word
-
 pub is-vehicle-spec : {M : Type 1} → statement M
 is-vehicle-spec =
-    tie.close (tie.spec (λ c κs. search needs) (λ c κs. search needs) (λ c. search needs) returns returns-2)
+    tie.close (tie.spec (λ c κs. search needs) (λ c κs. search needs) (λ c. search needs) (λ c. search vehicle-word) (λ c. search other-word))

@@ -17,14 +17,8 @@ abbrev μ-loop : tie.MeasureT-loop
 loop-holds : tie.Need-loop-holds Inv-loop μ-loop
 loop-holds c = (search needs, search needs, part-start _ _)
 
-returns : tie.Need-returns Inv-loop μ-loop
-returns c = (search part-ends, search needs)
-
 loop-again : tie.Need-loop-again Inv-loop μ-loop
 loop-again c = (search needs, search needs, search part-goes-on)
-
-returns-2 : tie.Need-returns-2 Inv-loop μ-loop
-returns-2 c = (search part-cut, search needs)
 
 pub part-length-spec : {M : Type 1} → statement M
 part-length-spec =
@@ -38,9 +32,9 @@ part-length-spec =
     (λ c κs. search needs)
     (λ c. search needs)
     (λ c. search needs)
-    returns
+    (λ c. (search part-ends, search needs))
     (λ c. search needs)
     (λ c. search needs)
     loop-again
     (λ c. search needs)
-    returns-2)
+    (λ c. (search part-cut, search needs)))

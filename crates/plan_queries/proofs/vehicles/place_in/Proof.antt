@@ -17,14 +17,8 @@ abbrev μ-loop : tie.MeasureT-loop
 loop-holds : tie.Need-loop-holds Inv-loop μ-loop
 loop-holds c = (search needs, refl)
 
-returns : tie.Need-returns Inv-loop μ-loop
-returns c = search place-found
-
 loop-again : tie.Need-loop-again Inv-loop μ-loop
 loop-again c = (search needs, search place-goes-on)
-
-returns-2 : tie.Need-returns-2 Inv-loop μ-loop
-returns-2 c = search place-none
 
 pub place-in-spec : {M : Type 1} → statement M
 place-in-spec =
@@ -37,8 +31,8 @@ place-in-spec =
     (λ c. search needs)
     (λ c κs. search needs)
     (λ c κs. search needs)
-    returns
+    (λ c. search place-found)
     (λ c. search needs)
     (λ c. search needs)
     loop-again
-    returns-2)
+    (λ c. search place-none))

@@ -4,11 +4,5 @@ use borrow.Author.Needs.{needs}
 use Rattle.planner.proofs.accepted.are_long.Statement.{statement}
 use Rattle.planner.proofs.accepted.are_long.Tie as tie
 
-returns : tie.Need-returns
-returns c = search long-not
-
-returns-2 : tie.Need-returns-2
-returns-2 c = search long-by
-
 pub are-long-spec : {M : Type 1} → statement M
-are-long-spec = tie.close (tie.spec (λ c. search needs) returns returns-2)
+are-long-spec = tie.close (tie.spec (λ c. search needs) (λ c. search long-not) (λ c. search long-by))

@@ -12,15 +12,6 @@ are-long-requires c κs = (search needs, search few-stops)
 work-over-requires : tie.Need-work-over-requires
 work-over-requires c κs = (search needs, search needs, search few-is, search long-plan, search long-spare)
 
-returns : tie.Need-returns
-returns c = (search worked-answer, (search worked-buffer, search worked-spare))
-
-returns-2 : tie.Need-returns-2
-returns-2 c = (search short-answer, (search short-buffer, λ _. refl))
-
-returns-3 : tie.Need-returns-3
-returns-3 c = (search outside-answer, (search outside-buffer, λ _. refl))
-
 pub plan-accepted-spec : {M : Type 1} → statement M
 plan-accepted-spec =
     tie.close
@@ -30,7 +21,7 @@ plan-accepted-spec =
     work-over-requires
     (λ c. search needs)
     (λ c. search needs)
-    returns
+    (λ c. (search worked-answer, (search worked-buffer, search worked-spare)))
     (λ c. search needs)
-    returns-2
-    returns-3)
+    (λ c. (search short-answer, (search short-buffer, λ _. refl)))
+    (λ c. (search outside-answer, (search outside-buffer, λ _. refl))))

@@ -16,9 +16,6 @@ returns c =
     let greedy = built .build-accepted .ensures in
     worked-over _ _ (pre .0) (pre .3) (greedy .1) (greedy .0) (told .answer .given .1) (improved .improve .ensures) (search needs)
 
-returns-2 : tie.Need-returns-2
-returns-2 c = absurd (search not-refused)
-
 pub work-over-spec : {M : Type 1} → statement M
 work-over-spec =
     tie.close
@@ -35,4 +32,4 @@ work-over-spec =
     (λ c. search needs)
     returns
     (λ c. search needs)
-    returns-2)
+    (λ c. absurd (search not-refused)))

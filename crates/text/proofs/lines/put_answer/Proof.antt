@@ -10,12 +10,6 @@ slice-aggregate-put-words c = search words-are
 put-words-requires : tie.Need-put-words-requires
 put-words-requires c κs = search words-room
 
-returns : tie.Need-returns
-returns c = search plan-put
-
-returns-2 : tie.Need-returns-2
-returns-2 c = search refusal-put
-
 pub put-answer-spec : {M : Type 1} → statement M
 put-answer-spec =
     tie.close
@@ -27,6 +21,6 @@ put-answer-spec =
     (λ c. search needs)
     (λ c κs. search needs)
     (λ c. search needs)
-    returns
+    (λ c. search plan-put)
     (λ c. search needs)
-    returns-2)
+    (λ c. search refusal-put))

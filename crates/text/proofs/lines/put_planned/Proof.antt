@@ -4,9 +4,6 @@ use Rattle.text.proofs.LineLaws.{planned-put}
 use Rattle.text.proofs.lines.put_planned.Statement.{statement}
 use Rattle.text.proofs.lines.put_planned.Tie as tie
 
-returns : tie.Need-returns
-returns c = (search planned-put, search needs)
-
 pub put-planned-spec : {M : Type 1} → statement M
 put-planned-spec =
     tie.close
@@ -17,4 +14,4 @@ put-planned-spec =
     (λ c κs. search needs)
     (λ c κs. search needs)
     (λ c. search needs)
-    returns)
+    (λ c. (search planned-put, search needs)))

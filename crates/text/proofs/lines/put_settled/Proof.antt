@@ -4,12 +4,6 @@ use Rattle.text.proofs.LineLaws.{settled-put, unsettled-put}
 use Rattle.text.proofs.lines.put_settled.Statement.{statement}
 use Rattle.text.proofs.lines.put_settled.Tie as tie
 
-returns : tie.Need-returns
-returns c = (search settled-put, search needs)
-
-returns-2 : tie.Need-returns-2
-returns-2 c = (search unsettled-put, search needs)
-
 pub put-settled-spec : {M : Type 1} → statement M
 put-settled-spec =
     tie.close
@@ -17,8 +11,8 @@ put-settled-spec =
     (λ c. search needs)
     (λ c κs. search needs)
     (λ c. search needs)
-    returns
+    (λ c. (search settled-put, search needs))
     (λ c. search needs)
     (λ c κs. search needs)
     (λ c. search needs)
-    returns-2)
+    (λ c. (search unsettled-put, search needs)))

@@ -7,9 +7,6 @@ use Rattle.text.proofs.numbers.put_decimal.Tie as tie
 put-bytes-requires : tie.Need-put-bytes-requires
 put-bytes-requires c κs = search decimal-room
 
-returns : tie.Need-returns
-returns c = (search decimal-put, search decimal-next)
-
 pub put-decimal-spec : {M : Type 1} → statement M
 put-decimal-spec =
     tie.close
@@ -19,4 +16,4 @@ put-decimal-spec =
     (λ c. search needs)
     put-bytes-requires
     (λ c. search needs)
-    returns)
+    (λ c. (search decimal-put, search decimal-next)))

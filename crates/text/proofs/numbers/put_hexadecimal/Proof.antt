@@ -21,9 +21,6 @@ loop-holds c = (put-same (put-start _ _ (omega arith)) (hex-none _), search need
 loop-again : tie.Need-loop-again Inv-loop μ-loop
 loop-again c = (search hex-turn, search needs)
 
-returns : tie.Need-returns Inv-loop μ-loop
-returns c = search hex-all
-
 pub put-hexadecimal-spec : {M : Type 1} → statement M
 put-hexadecimal-spec =
     tie.close
@@ -44,4 +41,4 @@ put-hexadecimal-spec =
     loop-again
     (λ c. search needs)
     (λ c. search needs)
-    returns)
+    (λ c. search hex-all))

@@ -7,8 +7,5 @@ use Rattle.text.proofs.numbers.put_word.Tie as tie
 put-byte-requires : tie.Need-put-byte-requires
 put-byte-requires c κs = search line-room
 
-returns : tie.Need-returns
-returns c = search line-put
-
 pub put-word-spec : {M : Type 1} → statement M
-put-word-spec = tie.close (tie.spec (λ c κs. search needs) put-byte-requires (λ c. search needs) returns)
+put-word-spec = tie.close (tie.spec (λ c κs. search needs) put-byte-requires (λ c. search needs) (λ c. search line-put))

@@ -23,9 +23,6 @@ loop-holds c = (put-same (put-none _ _ (omega arith)) lines-none, search needs, 
 loop-again : tie.Need-loop-again Inv-loop μ-loop
 loop-again c = (search lines-turn, search needs, search line-next)
 
-returns : tie.Need-returns Inv-loop μ-loop
-returns c = search lines-all
-
 pub put-words-spec : {M : Type 1} → statement M
 put-words-spec =
     tie.close
@@ -40,4 +37,4 @@ put-words-spec =
     (λ c. search needs)
     loop-again
     (λ c. search needs)
-    returns)
+    (λ c. search lines-all))

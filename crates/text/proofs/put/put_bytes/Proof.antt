@@ -20,9 +20,6 @@ loop-holds c = (put-start _ _ (omega arith), search needs)
 loop-again : tie.Need-loop-again Inv-loop μ-loop
 loop-again c = (search bytes-turn, search needs)
 
-returns : tie.Need-returns Inv-loop μ-loop
-returns c = search bytes-all
-
 pub put-bytes-spec : {M : Type 1} → statement M
 put-bytes-spec =
     tie.close
@@ -38,4 +35,4 @@ put-bytes-spec =
     loop-again
     (λ c. search needs)
     (λ c. search needs)
-    returns)
+    (λ c. search bytes-all))

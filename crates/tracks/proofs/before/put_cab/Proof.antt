@@ -6,9 +6,6 @@ use borrow.Author.Needs.{needs}
 use Rattle.tracks.proofs.before.put_cab.Statement.{statement}
 use Rattle.tracks.proofs.before.put_cab.Tie as tie
 
-returns : tie.Need-returns
-returns c = search (failed-row, failed-others)
-
 slice-write-before-2 : tie.Need-slice-write-before-2
 slice-write-before-2 c = simp length-set (omega (arith, c .before .before .before .before .pre .0, c .before .before .before .before .pre .1))
 
@@ -27,9 +24,6 @@ slice-write-before-5 c = simp length-set (omega (arith, c .before .before .befor
 slice-write-before-6 : tie.Need-slice-write-before-6
 slice-write-before-6 c = simp length-set (omega (arith, c .before .before .before .before .before .before .pre .0, c .before .before .before .before .before .before .pre .1))
 
-returns-2 : tie.Need-returns-2
-returns-2 c = search (written-row, written-others)
-
 pub put-cab-spec : {M : Type 1} → statement M
 put-cab-spec =
     tie.close
@@ -40,7 +34,7 @@ put-cab-spec =
     (λ c. search needs)
     (λ c. search needs)
     (λ c. search needs)
-    returns
+    (λ c. search (failed-row, failed-others))
     (λ c. search needs)
     slice-write-before-2
     cast-before
@@ -58,4 +52,4 @@ put-cab-spec =
     (λ c. search needs)
     slice-write-before-6
     (λ c. search needs)
-    returns-2)
+    (λ c. search (written-row, written-others)))

@@ -34,9 +34,6 @@ put-row-requires-2 c κs = let p = c .before .before .before .before .before .be
 loop-again : tie.Need-loop-again Inv-loop μ-loop
 loop-again c = let p = c .before .before .before .before .before .before .before .before .before .before .before .before .before .before .before .pre in filling-next (p .2) (c .before .before .before .before .before .before .before .loop .inv) (c .before .before .before .before .before .before .before .loop .at - 1) _ (omega arith) (omega arith) (c .before .before .before .before .onward-before .ensures) (c .before .before .put-row2 .ensures) (c .before .before .put-row2 .kept .0)
 
-returns : tie.Need-returns Inv-loop μ-loop
-returns c = search filling-end
-
 pub fill-behind-spec : {M : Type 1} → statement M
 fill-behind-spec =
     tie.close
@@ -53,4 +50,4 @@ fill-behind-spec =
     (λ c. search needs)
     loop-again
     (λ c. search needs)
-    returns)
+    (λ c. search filling-end))

@@ -11,17 +11,8 @@ sub-stop-first c = stop-number _ _ (c .before .before .pre .1) (c .if1 .taken) .
 stop-first-requires : tie.Need-stop-first-requires
 stop-first-requires c κs = let p = c .before .before .pre in let n = stop-number _ _ (p .1) (c .if1 .taken) in (p .0, n .1, omega (arith, n .2, p .0 .stopsAre), p .2, p .3)
 
-returns : tie.Need-returns
-returns c = search puts-stop
-
 tip-first-requires : tie.Need-tip-first-requires
 tip-first-requires c κs = let p = c .before .before .before .pre in (p .0, omega (arith, tip-number _ _ (p .1) (c .before .if1 .left) (c .if2 .taken), p .0 .tipsAre), p .2, p .3)
-
-returns-2 : tie.Need-returns-2
-returns-2 c = search puts-tip
-
-returns-3 : tie.Need-returns-3
-returns-3 c = search puts-rest
 
 pub onward-before-spec : {M : Type 1} → statement M
 onward-before-spec =
@@ -30,8 +21,8 @@ onward-before-spec =
     sub-stop-first
     (λ c. search needs)
     stop-first-requires
-    returns
+    (λ c. search puts-stop)
     (λ c. search needs)
     tip-first-requires
-    returns-2
-    returns-3)
+    (λ c. search puts-tip)
+    (λ c. search puts-rest))

@@ -12,9 +12,6 @@ slice-write-behind-2 c = simp length-set (omega arith)
 slice-write-behind-3 : tie.Need-slice-write-behind-3
 slice-write-behind-3 c = simp length-set (omega arith)
 
-returns : tie.Need-returns
-returns c = search row-put
-
 pub put-row-spec : {M : Type 1} → statement M
 put-row-spec =
     tie.close
@@ -35,4 +32,4 @@ put-row-spec =
     (λ c. search needs)
     (λ c. search needs)
     (λ c. search needs)
-    returns)
+    (λ c. search row-put))

@@ -4,12 +4,6 @@ use borrow.Author.Needs.{needs}
 use Rattle.tracks.proofs.behind.stop_first.Statement.{statement}
 use Rattle.tracks.proofs.behind.stop_first.Tie as tie
 
-returns : tie.Need-returns
-returns c = search stop-fits
-
-returns-2 : tie.Need-returns-2
-returns-2 c = search stop-over
-
 pub stop-first-spec : {M : Type 1} → statement M
 stop-first-spec =
     tie.close
@@ -19,6 +13,6 @@ stop-first-spec =
     (λ c κs. search needs)
     (λ c κs. search needs)
     (λ c. search needs)
-    returns
+    (λ c. search stop-fits)
     (λ c. search needs)
-    returns-2)
+    (λ c. search stop-over))

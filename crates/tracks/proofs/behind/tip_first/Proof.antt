@@ -4,13 +4,7 @@ use borrow.Author.Needs.{needs}
 use Rattle.tracks.proofs.behind.tip_first.Statement.{statement}
 use Rattle.tracks.proofs.behind.tip_first.Tie as tie
 
-returns : tie.Need-returns
-returns c = search tip-empties
-
-returns-2 : tie.Need-returns-2
-returns-2 c = search tip-over
-
 pub tip-first-spec : {M : Type 1} → statement M
 tip-first-spec =
     tie.close
-    (tie.spec (λ c κs. search needs) (λ c κs. search needs) (λ c. search needs) returns (λ c. search needs) returns-2)
+    (tie.spec (λ c κs. search needs) (λ c κs. search needs) (λ c. search needs) (λ c. search tip-empties) (λ c. search needs) (λ c. search tip-over))

@@ -4,14 +4,5 @@ use borrow.Author.Needs.{needs}
 use Rattle.tracks.proofs.measure.is_cut.Statement.{statement}
 use Rattle.tracks.proofs.measure.is_cut.Tie as tie
 
-returns : tie.Need-returns
-returns c = search cut-early
-
-returns-2 : tie.Need-returns-2
-returns-2 c = search cut-waiting
-
-returns-3 : tie.Need-returns-3
-returns-3 c = search cut-fits
-
 pub is-cut-spec : {M : Type 1} → statement M
-is-cut-spec = tie.close (tie.spec returns returns-2 (λ c κs. search needs) returns-3)
+is-cut-spec = tie.close (tie.spec (λ c. search cut-early) (λ c. search cut-waiting) (λ c κs. search needs) (λ c. search cut-fits))

@@ -21,9 +21,6 @@ track-vehicle-requires c κs = search (needs, tracks-vehicle)
 loop-again : tie.Need-loop-again Inv-loop μ-loop
 loop-again c = search tracks-next
 
-returns : tie.Need-returns Inv-loop μ-loop
-returns c = search tracks-end
-
 pub track-spec : {M : Type 1} → statement M
 track-spec =
     tie.close
@@ -37,4 +34,4 @@ track-spec =
     loop-again
     (λ c. search needs)
     (λ c. search needs)
-    returns)
+    (λ c. search tracks-end))

@@ -6,17 +6,11 @@ use borrow.Author.Needs.{needs}
 use Rattle.trial_list.proofs.listing.tip_at.Statement.{statement}
 use Rattle.trial_list.proofs.listing.tip_at.Tie as tie
 
-returns : tie.Need-returns
-returns c = search vehicle-ends
-
 returns-2 : tie.Need-returns-2
 returns-2 c = idle-passes _ _ _ _ _ _ _ (c .before .before .before .before .before .before .before .number-at .ensures .0) (c .before .before .before .before .before .before .number-at2 .ensures .0) _ (c .before .before .before .before .if1 .left) (c .before .before .before .number-at3 .ensures .0) (λ a b. omega (arith, c .before .before .if2 .taken)) (c .no-tip2 .ensures .0, c .no-tip2 .ensures .1 ∙ c .before .next-task .ensures)
 
 returns-3 : tie.Need-returns-3
 returns-3 c = idle-passes _ _ _ _ _ _ _ (c .before .before .before .before .before .before .before .before .number-at .ensures .0) (c .before .before .before .before .before .before .before .number-at2 .ensures .0) _ (c .before .before .before .before .before .if1 .left) (c .before .before .before .before .number-at3 .ensures .0) (λ a b. omega (arith, c .before .before .if3 .taken)) (c .no-tip3 .ensures .0, c .no-tip3 .ensures .1 ∙ c .before .next-task2 .ensures)
-
-returns-4 : tie.Need-returns-4
-returns-4 c = search tip-steps
 
 pub tip-at-spec : {M : Type 1} → statement M
 tip-at-spec =
@@ -30,7 +24,7 @@ tip-at-spec =
     (λ c. search needs)
     (λ c. search needs)
     (λ c κs. search needs)
-    returns
+    (λ c. search vehicle-ends)
     (λ c κs. search needs)
     (λ c. search needs)
     (λ c κs. search needs)
@@ -43,4 +37,4 @@ tip-at-spec =
     (λ c. search needs)
     (λ c. search needs)
     (λ c κs. search needs)
-    returns-4)
+    (λ c. search tip-steps))

@@ -5,12 +5,6 @@ use borrow.Author.Needs.{needs}
 use Rattle.trial_list.proofs.listing.tip_trial.Statement.{statement}
 use Rattle.trial_list.proofs.listing.tip_trial.Tie as tie
 
-returns : tie.Need-returns
-returns c = search tells-removal
-
-returns-2 : tie.Need-returns-2
-returns-2 c = search tells-other
-
 returns-3 : tie.Need-returns-3
 returns-3 c = tells-none _ _ _ _ _ (c .before .before .before .before .if1 .left) (c .before .before .before .other-tip .ensures) (c .before .before .if2 .left) (c .no-tip .ensures .0, c .no-tip .ensures .1 ∙ c .before .next-task .ensures)
 
@@ -20,12 +14,12 @@ tip-trial-spec =
     (tie.spec
     (λ c. search needs)
     (λ c κs. search needs)
-    returns
+    (λ c. search tells-removal)
     (λ c κs. search needs)
     (λ c. search needs)
     (λ c. search needs)
     (λ c κs. search needs)
-    returns-2
+    (λ c. search tells-other)
     (λ c κs. search needs)
     (λ c κs. search needs)
     returns-3)

@@ -14,9 +14,6 @@ abbrev μ-loop : tie.MeasureT-loop
 loop-again : tie.Need-loop-again Inv-loop μ-loop
 loop-again c = (search needs, search cleared-next)
 
-returns : tie.Need-returns Inv-loop μ-loop
-returns c = search cleared-all
-
 pub clear-spec : {M : Type 1} → statement M
 clear-spec =
     tie.close
@@ -29,4 +26,4 @@ clear-spec =
     (λ c. search needs)
     loop-again
     (λ c. search needs)
-    returns)
+    (λ c. search cleared-all))

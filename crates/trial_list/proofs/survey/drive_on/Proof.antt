@@ -4,9 +4,6 @@ use Rattle.trial_list.proofs.RideLaws.{place-rests, distance-rests, rid
 use Rattle.trial_list.proofs.survey.drive_on.Statement.{statement}
 use Rattle.trial_list.proofs.survey.drive_on.Tie as tie
 
-returns : tie.Need-returns
-returns c = (search place-rests, search distance-rests)
-
 leg-between-requires : tie.Need-leg-between-requires
 leg-between-requires c κs = search (needs, ride-inside)
 
@@ -17,4 +14,4 @@ returns-2 c =
 
 pub drive-on-spec : {M : Type 1} → statement M
 drive-on-spec =
-    tie.close (tie.spec returns (λ c κs. search needs) leg-between-requires (λ c. search needs) returns-2)
+    tie.close (tie.spec (λ c. (search place-rests, search distance-rests)) (λ c κs. search needs) leg-between-requires (λ c. search needs) returns-2)

@@ -11,15 +11,6 @@ slice-read-if2 c = let p = c .before .before .pre in omega (arith, p .0, p .2 (c
 slice-write-vehicles : tie.Need-slice-write-vehicles
 slice-write-vehicles c = let p = c .before .before .before .pre in omega (arith, p .0, p .2 (c .before .before .if1 .taken))
 
-returns : tie.Need-returns
-returns c = search vehicles-first
-
-returns-2 : tie.Need-returns-2
-returns-2 c = search vehicles-later
-
-returns-3 : tie.Need-returns-3
-returns-3 c = search vehicles-other
-
 pub mark-stop-spec : {M : Type 1} → statement M
 mark-stop-spec =
     tie.close
@@ -29,6 +20,6 @@ mark-stop-spec =
     slice-read-if2
     slice-write-vehicles
     (λ c. search needs)
-    returns
-    returns-2
-    returns-3)
+    (λ c. search vehicles-first)
+    (λ c. search vehicles-later)
+    (λ c. search vehicles-other))

@@ -32,9 +32,6 @@ drive-on-requires c κs =
 loop-again : tie.Need-loop-again Inv-loop μ-loop
 loop-again c = search rides-next
 
-returns : tie.Need-returns Inv-loop μ-loop
-returns c = search rides-end
-
 pub survey-vehicle-spec : {M : Type 1} → statement M
 survey-vehicle-spec =
     tie.close
@@ -55,4 +52,4 @@ survey-vehicle-spec =
     (λ c. search needs)
     (λ c. search needs)
     (λ c. search needs)
-    returns)
+    (λ c. search rides-end))

@@ -13,9 +13,6 @@ fill-table-requires c κs = let p = c .before .before .before .before .pre in (p
 run-trials-requires : tie.Need-run-trials-requires
 run-trials-requires c κs = let p = c .before .before .before .before .before .before .before .before .before .before .before .before .before .pre in ((p .0, p .1, p .2, c .before .before .before .before .before .before .before .before .fill-table .ensures, p .4, omega (arith, p .3)), ((p .5, p .6), (refl, refl, refl, refl)))
 
-returns : tie.Need-returns
-returns c = search improved
-
 pub improve-spec : {M : Type 1} → statement M
 improve-spec =
     tie.close
@@ -31,4 +28,4 @@ improve-spec =
     (λ c κs. search needs)
     (λ c. search needs)
     (λ c. search needs)
-    returns)
+    (λ c. search improved))

@@ -40,9 +40,6 @@ same-length-5 c = c .before .before .loop .inv .0 .held .surveyed .distancesSize
 same-length-6 : tie.Need-same-length-6 Inv-loop μ-loop
 same-length-6 c = c .before .before .loop .inv .0 .held .tracked .size ∙ sym (c .before .before .before .before .before .before .before .before .before .before .before .before .before .before .before .before .before .before .before .before .before .before .before .before .before .before .before .before .pre .1 .1 .3)
 
-returns : tie.Need-returns Inv-loop μ-loop
-returns c = search is-off
-
 pub run-trials-spec : {M : Type 1} → statement M
 run-trials-spec =
     tie.close
@@ -61,4 +58,4 @@ run-trials-spec =
     same-length-4
     same-length-5
     same-length-6
-    returns)
+    (λ c. search is-off))

@@ -4,8 +4,5 @@ use Rattle.trips.proofs.Driving.{late-start}
 use Rattle.trips.proofs.trip.is_late.Statement.{statement}
 use Rattle.trips.proofs.trip.is_late.Tie as tie
 
-returns : tie.Need-returns
-returns c = search late-start
-
 pub is-late-spec : {M : Type 1} → statement M
-is-late-spec = tie.close (tie.spec (λ c κs. search needs) (λ c. search needs) (λ c κs. search needs) returns)
+is-late-spec = tie.close (tie.spec (λ c κs. search needs) (λ c. search needs) (λ c κs. search needs) (λ c. search late-start))

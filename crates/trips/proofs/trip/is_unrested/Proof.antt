@@ -4,8 +4,5 @@ use Rattle.trips.proofs.Driving.{unrested-late}
 use Rattle.trips.proofs.trip.is_unrested.Statement.{statement}
 use Rattle.trips.proofs.trip.is_unrested.Tie as tie
 
-returns-2 : tie.Need-returns-2
-returns-2 c = search unrested-late
-
 pub is-unrested-spec : {M : Type 1} → statement M
-is-unrested-spec = tie.close (tie.spec (λ c. search needs) (λ c κs. search needs) returns-2)
+is-unrested-spec = tie.close (tie.spec (λ c. search needs) (λ c κs. search needs) (λ c. search unrested-late))

@@ -4,8 +4,5 @@ use Rattle.trips.proofs.Driving.{leaves}
 use Rattle.trips.proofs.trip.leave.Statement.{statement}
 use Rattle.trips.proofs.trip.leave.Tie as tie
 
-returns : tie.Need-returns
-returns c = search leaves
-
 pub leave-spec : {M : Type 1} → statement M
-leave-spec = tie.close (tie.spec (λ c κs. search needs) returns)
+leave-spec = tie.close (tie.spec (λ c κs. search needs) (λ c. search leaves))

@@ -7,12 +7,6 @@ use Rattle.trips.proofs.trip.rest.Tie as tie
 returns : tie.Need-returns
 returns c = search rest-again
 
-returns-2 : tie.Need-returns-2
-returns-2 c = search rest-late
-
-returns-3 : tie.Need-returns-3
-returns-3 c = search rest-kept
-
 pub rest-spec : {M : Type 1} → statement M
 rest-spec =
     tie.close
@@ -22,7 +16,7 @@ rest-spec =
     (λ c κs. search needs)
     (λ c κs. search needs)
     (λ c κs. search needs)
-    returns-2
+    (λ c. search rest-late)
     (λ c κs. search needs)
     (λ c. search needs)
-    returns-3)
+    (λ c. search rest-kept))

@@ -4,12 +4,6 @@ use Rattle.trips.proofs.Driving.{visit-late, visit-kept}
 use Rattle.trips.proofs.trip.visit.Statement.{statement}
 use Rattle.trips.proofs.trip.visit.Tie as tie
 
-returns : tie.Need-returns
-returns c = search visit-late
-
-returns-2 : tie.Need-returns-2
-returns-2 c = search visit-kept
-
 pub visit-spec : {M : Type 1} → statement M
 visit-spec =
-    tie.close (tie.spec (λ c κs. search needs) (λ c κs. search needs) returns (λ c κs. search needs) returns-2)
+    tie.close (tie.spec (λ c κs. search needs) (λ c κs. search needs) (λ c. search visit-late) (λ c κs. search needs) (λ c. search visit-kept))

@@ -4,9 +4,6 @@ use borrow.Author.Needs.{needs}
 use Rattle.vehicle_writer.proofs.state.serve_stop.Statement.{statement}
 use Rattle.vehicle_writer.proofs.state.serve_stop.Tie as tie
 
-returns : tie.Need-returns
-returns c = search serve-made
-
 pub serve-stop-spec : {M : Type 1} → statement M
 serve-stop-spec =
     tie.close
@@ -15,4 +12,4 @@ serve-stop-spec =
     (λ c κs. search needs)
     (λ c κs. search needs)
     (λ c κs. search needs)
-    returns)
+    (λ c. search serve-made))

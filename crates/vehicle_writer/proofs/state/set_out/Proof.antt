@@ -8,13 +8,10 @@ use Rattle.vehicle_writer.proofs.state.set_out.Tie as tie
 make-ready-requires : tie.Need-make-ready-requires
 make-ready-requires c κs = search fresh-small
 
-returns : tie.Need-returns
-returns c = search fresh-ready
-
 pub set-out-spec : {M : Type 1} → statement M
 set-out-spec =
     tie.close
     (tie.spec
     (λ c κs. search needs)
     make-ready-requires
-    returns)
+    (λ c. search fresh-ready))

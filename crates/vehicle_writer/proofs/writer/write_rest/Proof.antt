@@ -4,12 +4,6 @@ use borrow.Author.Needs.{needs}
 use Rattle.vehicle_writer.proofs.writer.write_rest.Statement.{statement}
 use Rattle.vehicle_writer.proofs.writer.write_rest.Tie as tie
 
-returns : tie.Need-returns
-returns c = search rest-put
-
-returns-2 : tie.Need-returns-2
-returns-2 c = search rest-none
-
 pub write-rest-spec : {M : Type 1} → statement M
 write-rest-spec =
     tie.close
@@ -19,5 +13,5 @@ write-rest-spec =
     (λ c. search needs)
     (λ c. search needs)
     (λ c. search needs)
-    returns
-    returns-2)
+    (λ c. search rest-put)
+    (λ c. search rest-none))

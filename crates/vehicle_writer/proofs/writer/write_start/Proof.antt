@@ -8,9 +8,6 @@ use Rattle.vehicle_writer.proofs.writer.write_start.Tie as tie
 same-length : tie.Need-same-length
 same-length c = search rest-size
 
-returns : tie.Need-returns
-returns c = search start-said
-
 pub write-start-spec : {M : Type 1} → statement M
 write-start-spec =
     tie.close
@@ -20,4 +17,4 @@ write-start-spec =
     (λ c κs. search needs)
     (λ c κs. search needs)
     same-length
-    returns)
+    (λ c. search start-said))

@@ -28,9 +28,6 @@ make-ready-requires c κs = search ahead-small
 same-length : tie.Need-same-length
 same-length c = search rest-size
 
-returns : tie.Need-returns
-returns c = (search rest-more, search ahead-on)
-
 pub write-task-spec : {M : Type 1} → statement M
 write-task-spec =
     tie.close
@@ -43,4 +40,4 @@ write-task-spec =
     write-rest-requires
     make-ready-requires
     same-length
-    returns)
+    (λ c. (search rest-more, search ahead-on)))

@@ -37,9 +37,6 @@ add-t14 c = omega (arith, still-few (c .before .before .before .before .before .
 same-length : tie.Need-same-length Inv-loop μ-loop
 same-length c = search still-size
 
-returns : tie.Need-returns Inv-loop μ-loop
-returns c = search still-end
-
 pub write-tasks-spec : {M : Type 1} → statement M
 write-tasks-spec =
     tie.close
@@ -55,4 +52,4 @@ write-tasks-spec =
     slice-write-part
     add-t14
     same-length
-    returns)
+    (λ c. search still-end))

@@ -10,12 +10,6 @@ write-start-requires c κs = search (needs, out-room)
 write-tasks-requires : tie.Need-write-tasks-requires
 write-tasks-requires c κs = search out-under-way
 
-returns : tie.Need-returns
-returns c = search out-written
-
-returns-2 : tie.Need-returns-2
-returns-2 c = search out-idle
-
 pub write-vehicle-spec : {M : Type 1} → statement M
 write-vehicle-spec =
     tie.close
@@ -25,5 +19,5 @@ write-vehicle-spec =
     write-start-requires
     write-tasks-requires
     (λ c. search needs)
-    returns
-    returns-2)
+    (λ c. search out-written)
+    (λ c. search out-idle))

@@ -4,9 +4,6 @@ use borrow.Author.Needs.{needs}
 use Rattle.walks.proofs.cabs.empty_cab.Statement.{statement}
 use Rattle.walks.proofs.cabs.empty_cab.Tie as tie
 
-returns : tie.Need-returns
-returns c = search empty-drives
-
 pub empty-cab-spec : {M : Type 1} → statement M
 empty-cab-spec =
     tie.close
@@ -20,4 +17,4 @@ empty-cab-spec =
     (λ c κs. search needs)
     (λ c. search needs)
     (λ c. search needs)
-    returns)
+    (λ c. search empty-drives))

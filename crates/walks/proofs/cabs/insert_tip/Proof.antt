@@ -4,22 +4,16 @@ use borrow.Author.Needs.{needs}
 use Rattle.walks.proofs.cabs.insert_tip.Statement.{statement}
 use Rattle.walks.proofs.cabs.insert_tip.Tie as tie
 
-returns : tie.Need-returns
-returns c = search insert-fails
-
 rest-cab-requires : tie.Need-rest-cab-requires
 rest-cab-requires c κs = search (needs, some-emptied (c .before .before .before .before .before .before .before .before .before .before .pre .2) _ (c .before .before .before .empty-cab .ensures))
-
-returns-2 : tie.Need-returns-2
-returns-2 c = search insert-drives
 
 pub insert-tip-spec : {M : Type 1} → statement M
 insert-tip-spec =
     tie.close
     (tie.spec
     (λ c κs. search needs)
-    returns
+    (λ c. search insert-fails)
     (λ c κs. search needs)
     rest-cab-requires
     (λ c. search needs)
-    returns-2)
+    (λ c. search insert-drives))

@@ -4,12 +4,6 @@ use borrow.Author.Needs.{needs}
 use Rattle.walks.proofs.cabs.rest_cab.Statement.{statement}
 use Rattle.walks.proofs.cabs.rest_cab.Tie as tie
 
-returns : tie.Need-returns
-returns c = search rest-drives
-
-returns-2 : tie.Need-returns-2
-returns-2 c = search keep-drives
-
 pub rest-cab-spec : {M : Type 1} → statement M
 rest-cab-spec =
     tie.close
@@ -20,5 +14,5 @@ rest-cab-spec =
     (λ c κs. search needs)
     (λ c. search needs)
     (λ c. search needs)
-    returns
-    returns-2)
+    (λ c. search rest-drives)
+    (λ c. search keep-drives))

@@ -4,9 +4,6 @@ use borrow.Author.Needs.{needs}
 use Rattle.walks.proofs.cabs.serve_cab.Statement.{statement}
 use Rattle.walks.proofs.cabs.serve_cab.Tie as tie
 
-returns : tie.Need-returns
-returns c = search serve-drives
-
 pub serve-cab-spec : {M : Type 1} → statement M
 serve-cab-spec =
     tie.close
@@ -20,4 +17,4 @@ serve-cab-spec =
     (λ c. search needs)
     (λ c. search needs)
     (λ c. search needs)
-    returns)
+    (λ c. search serve-drives))

@@ -7,17 +7,8 @@ use Rattle.walks.proofs.cabs.walk_stop.Tie as tie
 insert-tip-requires : tie.Need-insert-tip-requires
 insert-tip-requires c κs = search (needs, some-fewer, full-load)
 
-returns : tie.Need-returns
-returns c = search full-fails
-
 serve-cab-requires : tie.Need-serve-cab-requires
 serve-cab-requires c κs = search (needs, some-served)
-
-returns-2 : tie.Need-returns-2
-returns-2 c = search full-serves
-
-returns-3 : tie.Need-returns-3
-returns-3 c = search light-serves
 
 pub walk-stop-spec : {M : Type 1} → statement M
 walk-stop-spec =
@@ -27,10 +18,10 @@ walk-stop-spec =
     (λ c κs. search needs)
     insert-tip-requires
     (λ c. search needs)
-    returns
+    (λ c. search full-fails)
     serve-cab-requires
     (λ c. search needs)
-    returns-2
+    (λ c. search full-serves)
     (λ c κs. search needs)
     (λ c. search needs)
-    returns-3)
+    (λ c. search light-serves))

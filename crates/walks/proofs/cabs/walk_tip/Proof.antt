@@ -4,11 +4,5 @@ use borrow.Author.Needs.{needs}
 use Rattle.walks.proofs.cabs.walk_tip.Statement.{statement}
 use Rattle.walks.proofs.cabs.walk_tip.Tie as tie
 
-returns : tie.Need-returns
-returns c = search tip-dropped
-
-returns-2 : tie.Need-returns-2
-returns-2 c = search tip-driven
-
 pub walk-tip-spec : {M : Type 1} → statement M
-walk-tip-spec = tie.close (tie.spec returns (λ c κs. search needs) (λ c. search needs) returns-2)
+walk-tip-spec = tie.close (tie.spec (λ c. search tip-dropped) (λ c κs. search needs) (λ c. search needs) (λ c. search tip-driven))

@@ -6,9 +6,6 @@ use borrow.Author.Needs.{needs}
 use Rattle.walks.proofs.edits.change_word.Statement.{statement}
 use Rattle.walks.proofs.edits.change_word.Tie as tie
 
-returns : tie.Need-returns
-returns c = search rest-off
-
 add-i : tie.Need-add-i
 add-i c = let w = rw (c .before .e .given .1) at (c .before .before .before .before .pre) in omega (arith, w .0)
 
@@ -49,7 +46,7 @@ pub change-word-spec : {M : Type 1} → statement M
 change-word-spec =
     tie.close
     (tie.spec
-    returns
+    (λ c. search rest-off)
     (λ c. search needs)
     add-i
     add-j

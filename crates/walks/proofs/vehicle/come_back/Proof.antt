@@ -6,14 +6,8 @@ use borrow.Author.Needs.{needs}
 use Rattle.walks.proofs.vehicle.come_back.Statement.{statement}
 use Rattle.walks.proofs.vehicle.come_back.Tie as tie
 
-returns : tie.Need-returns
-returns c = search back-failed
-
 walk-home-requires : tie.Need-walk-home-requires
 walk-home-requires c κs = search (needs, done-standing)
-
-returns-2 : tie.Need-returns-2
-returns-2 c = search back-fails
 
 leg-between-requires : tie.Need-leg-between-requires
 leg-between-requires c κs = let t = some-served _ (done-standing (c .before .before .before .before .before .before .before .before .before .pre .2) (c .before .before .before .before .before .before .if1 .left)) (c .before .before .before .before .walk-home .ensures) (c .before .if2 .left) .trip in (c .before .before .before .before .before .before .before .before .before .pre .0, omega (arith, t .place, c .before .before .before .before .before .before .before .before .before .pre .0 .placesAre), omega (arith, c .before .before .before .before .before .before .before .before .before .pre .0 .placesAre))
@@ -24,21 +18,18 @@ add-t11 c = omega (arith, some-served _ (done-standing (c .before .before .befor
 add-t12 : tie.Need-add-t12
 add-t12 c = let t = some-served _ (done-standing (c .before .before .before .before .before .before .before .before .before .before .before .before .before .pre .2) (c .before .before .before .before .before .before .before .before .before .before .if1 .left)) (c .before .before .before .before .before .before .before .before .walk-home .ensures) (c .before .before .before .before .before .if2 .left) .trip in omega (arith, t .distance, c .before .before .before .leg-between .ensures .spans)
 
-returns-3 : tie.Need-returns-3
-returns-3 c = search back-comes
-
 pub come-back-spec : {M : Type 1} → statement M
 come-back-spec =
     tie.close
     (tie.spec
     (λ c κs. search needs)
-    returns
+    (λ c. search back-failed)
     walk-home-requires
     (λ c κs. search needs)
     (λ c. search needs)
-    returns-2
+    (λ c. search back-fails)
     leg-between-requires
     add-t11
     add-t12
     (λ c. search needs)
-    returns-3)
+    (λ c. search back-comes))

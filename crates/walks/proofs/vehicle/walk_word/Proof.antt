@@ -7,12 +7,6 @@ use borrow.Author.Needs.{needs}
 use Rattle.walks.proofs.vehicle.walk_word.Statement.{statement}
 use Rattle.walks.proofs.vehicle.walk_word.Tie as tie
 
-returns : tie.Need-returns
-returns c = search word-none
-
-returns-2 : tie.Need-returns-2
-returns-2 c = search word-failed
-
 rest-cab-requires : tie.Need-rest-cab-requires
 rest-cab-requires c κs = (c .before .before .before .before .before .pre .0, c .before .before .before .before .before .pre .1, some-fewer (word-standing (c .before .before .before .before .before .pre .2) (c .before .if2 .left)))
 
@@ -22,28 +16,22 @@ sub-walk-stop c = means-stop (c .before .before .before .before .before .before 
 walk-stop-requires : tie.Need-walk-stop-requires
 walk-stop-requires c κs = let t = means-stop (c .before .before .before .before .before .before .before .before .before .before .pre .2 .means) (c .before .before .before .before .before .before .before .if1 .left) (c .before .if3 .taken) in (c .before .before .before .before .before .before .before .before .before .before .pre .0, c .before .before .before .before .before .before .before .before .before .before .pre .1, some-rested (stop-standing t (word-standing (c .before .before .before .before .before .before .before .before .before .before .pre .2) (c .before .before .before .before .before .before .if2 .left))) (c .before .before .before .before .rest-cab .ensures), t .first, omega (arith, t .within, c .before .before .before .before .before .before .before .before .before .before .pre .0 .stopsAre))
 
-returns-3 : tie.Need-returns-3
-returns-3 c = search word-stop
-
 walk-tip-requires : tie.Need-walk-tip-requires
 walk-tip-requires c κs = let t = means-tip (c .before .before .before .before .before .before .before .before .before .before .pre .2 .means) (c .before .before .before .before .before .before .before .if1 .left) (c .before .if3 .left) in (c .before .before .before .before .before .before .before .before .before .before .pre .0, c .before .before .before .before .before .before .before .before .before .before .pre .1, some-rested (some-fewer (word-standing (c .before .before .before .before .before .before .before .before .before .before .pre .2) (c .before .before .before .before .before .before .if2 .left))) (c .before .before .before .before .rest-cab .ensures), t .first, omega (arith, t .within, c .before .before .before .before .before .before .before .before .before .before .pre .0 .tipsAre))
-
-returns-4 : tie.Need-returns-4
-returns-4 c = search word-tip
 
 pub walk-word-spec : {M : Type 1} → statement M
 walk-word-spec =
     tie.close
     (tie.spec
-    returns
-    returns-2
+    (λ c. search word-none)
+    (λ c. search word-failed)
     rest-cab-requires
     sub-walk-stop
     (λ c. search needs)
     walk-stop-requires
     (λ c. search needs)
-    returns-3
+    (λ c. search word-stop)
     (λ c. search needs)
     walk-tip-requires
     (λ c. search needs)
-    returns-4)
+    (λ c. search word-tip))

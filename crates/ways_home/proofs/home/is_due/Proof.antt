@@ -4,14 +4,5 @@ use Rattle.ways_home.proofs.HomeLaws.{due-done, due-early, due-by}
 use Rattle.ways_home.proofs.home.is_due.Statement.{statement}
 use Rattle.ways_home.proofs.home.is_due.Tie as tie
 
-returns : tie.Need-returns
-returns c = search due-done
-
-returns-2 : tie.Need-returns-2
-returns-2 c = search due-early
-
-returns-3 : tie.Need-returns-3
-returns-3 c = search due-by
-
 pub is-due-spec : {M : Type 1} → statement M
-is-due-spec = tie.close (tie.spec returns (λ c κs. search needs) returns-2 returns-3)
+is-due-spec = tie.close (tie.spec (λ c. search due-done) (λ c κs. search needs) (λ c. search due-early) (λ c. search due-by))

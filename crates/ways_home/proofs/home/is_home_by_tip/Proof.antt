@@ -5,9 +5,6 @@ use Rattle.ways_home.proofs.HomeLaws.{tip-none, tip-home, visit-minute,
 use Rattle.ways_home.proofs.home.is_home_by_tip.Statement.{statement}
 use Rattle.ways_home.proofs.home.is_home_by_tip.Tie as tie
 
-returns : tie.Need-returns
-returns c = search tip-none
-
 rest-if-due-requires : tie.Need-rest-if-due-requires
 rest-if-due-requires c κs = (search needs, omega (arith, visit-minute _ _ _ _ _ (c .before .before .before .before .before .pre .1) (c .visit .ensures)))
 
@@ -16,17 +13,14 @@ is-home-direct-requires c κs =
     let pre = c .before .before .before .before .before .before .pre in
     tip-trip _ _ _ _ _ _ _ (pre .0) (pre .1) (pre .2) (c .before .visit .ensures) (c .rest-if-due .ensures)
 
-returns-2 : tie.Need-returns-2
-returns-2 c = search tip-home
-
 pub is-home-by-tip-spec : {M : Type 1} → statement M
 is-home-by-tip-spec =
     tie.close
     (tie.spec
-    returns
+    (λ c. search tip-none)
     (λ c κs. search needs)
     (λ c κs. search needs)
     (λ c κs. search needs)
     rest-if-due-requires
     is-home-direct-requires
-    returns-2)
+    (λ c. search tip-home))

@@ -4,15 +4,6 @@ use Rattle.ways_home.proofs.HomeLaws.{home-late, home-rested, home-lunc
 use Rattle.ways_home.proofs.home.is_home_direct.Statement.{statement}
 use Rattle.ways_home.proofs.home.is_home_direct.Tie as tie
 
-returns : tie.Need-returns
-returns c = search home-late
-
-returns-2 : tie.Need-returns-2
-returns-2 c = search home-rested
-
-returns-3 : tie.Need-returns-3
-returns-3 c = search home-lunch
-
 pub is-home-direct-spec : {M : Type 1} → statement M
 is-home-direct-spec =
     tie.close
@@ -20,7 +11,7 @@ is-home-direct-spec =
     (λ c κs. search needs)
     (λ c. search needs)
     (λ c κs. search needs)
-    returns
-    returns-2
+    (λ c. search home-late)
+    (λ c. search home-rested)
     (λ c κs. search needs)
-    returns-3)
+    (λ c. search home-lunch))

@@ -11,17 +11,11 @@ is-home-direct-requires c κs =
     let s = rest-small _ _ _ _ t (c .before .rest-if-due .ensures) in
     (search needs, omega (arith, s .place, t .place), omega (arith, s .minute, t .minute))
 
-returns : tie.Need-returns
-returns c = search empty-home
-
 nearest-tip-requires : tie.Need-nearest-tip-requires
 nearest-tip-requires c κs = let s = rest-small _ _ _ _ (c .before .before .before .pre .1) (c .before .rest-if-due .ensures) in (search needs, omega (arith, s .place), omega (arith, s .minute))
 
 is-home-by-tip-requires : tie.Need-is-home-by-tip-requires
 is-home-by-tip-requires c κs = (search needs, rest-small _ _ _ _ (c .before .before .before .before .pre .1) (c .before .before .rest-if-due .ensures), search needs)
-
-returns-2 : tie.Need-returns-2
-returns-2 c = search loaded-home
 
 pub is-way-home-spec : {M : Type 1} → statement M
 is-way-home-spec =
@@ -29,7 +23,7 @@ is-way-home-spec =
     (tie.spec
     (λ c κs. search needs)
     is-home-direct-requires
-    returns
+    (λ c. search empty-home)
     nearest-tip-requires
     is-home-by-tip-requires
-    returns-2)
+    (λ c. search loaded-home))

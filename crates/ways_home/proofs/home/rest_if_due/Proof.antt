@@ -4,12 +4,6 @@ use Rattle.ways_home.proofs.HomeLaws.{rest-taken, rest-not}
 use Rattle.ways_home.proofs.home.rest_if_due.Statement.{statement}
 use Rattle.ways_home.proofs.home.rest_if_due.Tie as tie
 
-returns : tie.Need-returns
-returns c = search rest-taken
-
-returns-2 : tie.Need-returns-2
-returns-2 c = search rest-not
-
 pub rest-if-due-spec : {M : Type 1} → statement M
 rest-if-due-spec =
-    tie.close (tie.spec (λ c κs. search needs) (λ c κs. search needs) (λ c. search needs) returns returns-2)
+    tie.close (tie.spec (λ c κs. search needs) (λ c κs. search needs) (λ c. search needs) (λ c. search rest-taken) (λ c. search rest-not))

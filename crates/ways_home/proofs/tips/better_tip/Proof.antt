@@ -5,15 +5,6 @@ use Rattle.ways_home.proofs.TipLaws.{tip-farther, tip-shut, tip-nearer}
 use Rattle.ways_home.proofs.tips.better_tip.Statement.{statement}
 use Rattle.ways_home.proofs.tips.better_tip.Tie as tie
 
-returns : tie.Need-returns
-returns c = (search needs, search tip-farther)
-
-returns-2 : tie.Need-returns-2
-returns-2 c = (search taken-so-far, search tip-nearer)
-
-returns-3 : tie.Need-returns-3
-returns-3 c = (search needs, search tip-shut)
-
 pub better-tip-spec : {M : Type 1} → statement M
 better-tip-spec =
-    tie.close (tie.spec (λ c κs. search needs) returns (λ c κs. search needs) returns-2 returns-3)
+    tie.close (tie.spec (λ c κs. search needs) (λ c. (search needs, search tip-farther)) (λ c κs. search needs) (λ c. (search taken-so-far, search tip-nearer)) (λ c. (search needs, search tip-shut)))

@@ -4,11 +4,5 @@ use Rattle.ways_home.proofs.TipLaws.{not-open-yet, open-till}
 use Rattle.ways_home.proofs.tips.is_open.Statement.{statement}
 use Rattle.ways_home.proofs.tips.is_open.Tie as tie
 
-returns : tie.Need-returns
-returns c = search not-open-yet
-
-returns-2 : tie.Need-returns-2
-returns-2 c = search open-till
-
 pub is-open-spec : {M : Type 1} → statement M
-is-open-spec = tie.close (tie.spec (λ c κs. search needs) (λ c. search needs) returns returns-2)
+is-open-spec = tie.close (tie.spec (λ c κs. search needs) (λ c. search needs) (λ c. search not-open-yet) (λ c. search open-till))

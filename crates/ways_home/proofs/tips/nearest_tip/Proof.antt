@@ -26,9 +26,6 @@ loop-holds c = (search needs, none-so-far _ _, tips-none _ _ _)
 loop-again : tie.Need-loop-again Inv-loop μ-loop
 loop-again c = (search needs, search needs, tips-next _ _ _ _ _ (c .before .before .loop .inv .2) (c .better-tip .ensures .1))
 
-returns : tie.Need-returns Inv-loop μ-loop
-returns c = (search tips-all, search needs)
-
 pub nearest-tip-spec : {M : Type 1} → statement M
 nearest-tip-spec =
     tie.close
@@ -41,4 +38,4 @@ nearest-tip-spec =
     (λ c. search needs)
     (λ c. search needs)
     loop-again
-    returns)
+    (λ c. (search tips-all, search needs)))

@@ -4,12 +4,6 @@ use Rattle.word_steps.proofs.Stepping.{stop-over, stop-served}
 use Rattle.word_steps.proofs.steps.serve.Statement.{statement}
 use Rattle.word_steps.proofs.steps.serve.Tie as tie
 
-returns : tie.Need-returns
-returns c = search stop-over
-
-returns-2 : tie.Need-returns-2
-returns-2 c = search stop-served
-
 pub serve-spec : {M : Type 1} → statement M
 serve-spec =
     tie.close
@@ -18,7 +12,7 @@ serve-spec =
     (λ c κs. search needs)
     (λ c κs. search needs)
     (λ c κs. search needs)
-    returns
+    (λ c. search stop-over)
     (λ c κs. search needs)
     (λ c κs. search needs)
-    returns-2)
+    (λ c. search stop-served))

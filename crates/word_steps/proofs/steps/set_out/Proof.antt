@@ -4,8 +4,5 @@ use Rattle.word_steps.proofs.Stepping.{vehicle-leaves}
 use Rattle.word_steps.proofs.steps.set_out.Statement.{statement}
 use Rattle.word_steps.proofs.steps.set_out.Tie as tie
 
-returns : tie.Need-returns
-returns c = search vehicle-leaves
-
 pub set-out-spec : {M : Type 1} → statement M
-set-out-spec = tie.close (tie.spec (λ c κs. search needs) (λ c κs. search needs) (λ c κs. search needs) returns)
+set-out-spec = tie.close (tie.spec (λ c κs. search needs) (λ c κs. search needs) (λ c κs. search needs) (λ c. search vehicle-leaves))

@@ -4,8 +4,5 @@ use Rattle.word_steps.proofs.Stepping.{rest-taken}
 use Rattle.word_steps.proofs.steps.take_rest.Statement.{statement}
 use Rattle.word_steps.proofs.steps.take_rest.Tie as tie
 
-returns : tie.Need-returns
-returns c = search rest-taken
-
 pub take-rest-spec : {M : Type 1} → statement M
-take-rest-spec = tie.close (tie.spec (λ c κs. search needs) (λ c κs. search needs) (λ c κs. search needs) returns)
+take-rest-spec = tie.close (tie.spec (λ c κs. search needs) (λ c κs. search needs) (λ c κs. search needs) (λ c. search rest-taken))

@@ -5,9 +5,6 @@ use Rattle.word_steps.specs.Steps.{isMetIn}
 use Rattle.word_steps.proofs.words.back_word.Statement.{statement}
 use Rattle.word_steps.proofs.words.back_word.Tie as tie
 
-returns : tie.Need-returns
-returns c = search (misformed, back-formed)
-
 come-back-requires : tie.Need-come-back-requires
 come-back-requires c κs = (search needs, search needs, search is-inside)
 
@@ -17,4 +14,4 @@ returns-2 c = search (goes-on, back-formed)
 
 pub back-word-spec : {M : Type 1} → statement M
 back-word-spec =
-    tie.close (tie.spec (λ c κs. search needs) (λ c κs. search needs) returns come-back-requires returns-2)
+    tie.close (tie.spec (λ c κs. search needs) (λ c κs. search needs) (λ c. search (misformed, back-formed)) come-back-requires returns-2)

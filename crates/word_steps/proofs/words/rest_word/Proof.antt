@@ -5,12 +5,9 @@ use Rattle.word_steps.specs.Steps.{isMetIn}
 use Rattle.word_steps.proofs.words.rest_word.Statement.{statement}
 use Rattle.word_steps.proofs.words.rest_word.Tie as tie
 
-returns : tie.Need-returns
-returns c = search (misformed, rest-formed)
-
 returns-2 : tie.Need-returns-2
 unfolding isMetIn
 returns-2 c = search (goes-on, rest-formed)
 
 pub rest-word-spec : {M : Type 1} → statement M
-rest-word-spec = tie.close (tie.spec (λ c κs. search needs) returns (λ c κs. search needs) returns-2)
+rest-word-spec = tie.close (tie.spec (λ c κs. search needs) (λ c. search (misformed, rest-formed)) (λ c κs. search needs) returns-2)

@@ -4,20 +4,11 @@ use Rattle.word_steps.proofs.Forming.{stop-formed, stop-below, known-so
 use Rattle.word_steps.proofs.words.stop_word.Statement.{statement}
 use Rattle.word_steps.proofs.words.stop_word.Tie as tie
 
-returns : tie.Need-returns
-returns c = search (misformed, stop-formed)
-
 element-copy-out-if2 : tie.Need-element-copy-out-if2
 element-copy-out-if2 c = search stop-below
 
-returns-2 : tie.Need-returns-2
-returns-2 c = search (met-again, stop-formed, stop-met)
-
 serve-requires : tie.Need-serve-requires
 serve-requires c κs = (search needs, search needs, search needs, search known-some, search known-most)
-
-returns-3 : tie.Need-returns-3
-returns-3 c = search (goes-on, stop-formed, stop-unmet)
 
 pub stop-word-spec : {M : Type 1} → statement M
 stop-word-spec =
@@ -26,9 +17,9 @@ stop-word-spec =
     (λ c κs. search needs)
     (λ c κs. search needs)
     (λ c κs. search needs)
-    returns
+    (λ c. search (misformed, stop-formed))
     element-copy-out-if2
     (λ c κs. search needs)
-    returns-2
+    (λ c. search (met-again, stop-formed, stop-met))
     serve-requires
-    returns-3)
+    (λ c. search (goes-on, stop-formed, stop-unmet)))

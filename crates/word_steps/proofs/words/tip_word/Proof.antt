@@ -5,9 +5,6 @@ use Rattle.word_steps.specs.Steps.{isMetIn}
 use Rattle.word_steps.proofs.words.tip_word.Statement.{statement}
 use Rattle.word_steps.proofs.words.tip_word.Tie as tie
 
-returns : tie.Need-returns
-returns c = search (misformed, tip-formed)
-
 empty-out-requires : tie.Need-empty-out-requires
 empty-out-requires c κs = (search needs, search needs, search known-some, search known-most)
 
@@ -22,6 +19,6 @@ tip-word-spec =
     (λ c κs. search needs)
     (λ c κs. search needs)
     (λ c κs. search needs)
-    returns
+    (λ c. search (misformed, tip-formed))
     empty-out-requires
     returns-2)

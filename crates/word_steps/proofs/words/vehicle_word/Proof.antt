@@ -5,9 +5,6 @@ use Rattle.word_steps.specs.Steps.{isMetIn}
 use Rattle.word_steps.proofs.words.vehicle_word.Statement.{statement}
 use Rattle.word_steps.proofs.words.vehicle_word.Tie as tie
 
-returns : tie.Need-returns
-returns c = search (misformed, vehicle-formed)
-
 returns-2 : tie.Need-returns-2
 unfolding isMetIn
 returns-2 c = search (goes-on, vehicle-formed)
@@ -20,6 +17,6 @@ vehicle-word-spec =
     (λ c. search needs)
     (λ c κs. search needs)
     (λ c κs. search needs)
-    returns
+    (λ c. search (misformed, vehicle-formed))
     (λ c κs. search needs)
     returns-2)
