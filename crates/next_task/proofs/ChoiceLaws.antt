@@ -2,7 +2,7 @@
 -- Assumes nothing.
 use Prim.Native.Nat.{ℕ, _+_, _-_, _^_, _≤_, _<_}
 use mathlib.Core.Path.{_≡_, refl, sym, ap, _∙_}
-use mathlib.Core.Bool.{Bool, true, false, not, _&&_, true≢false, and-false, and-true, and-assoc}
+use mathlib.Core.Bool.{Bool, true, false, not, _&&_, and-false, and-true, and-assoc}
 use mathlib.Core.List.{List}
 use native.Mathlib.Decide.{decLt}
 use native.Mathlib.Omega.{arith}
@@ -37,15 +37,6 @@ use Rattle.next_task.specs.Wanted.{wanted, timely, keyOf, candidate, Can
 -- one stop more fits, by what it comes to
 pub not-over : (day : List ℕ) (c more : Cargo) (kg : ℕ) {over : Bool} → more ≡ loaded c kg → over ≡ overLimits day more → not over ≡ not (overLimits day (loaded c kg))
 not-over day c more kg e h = rw (h, e)
-
--- the test says that it fits
-pub fitting : (day : List ℕ) (c : Cargo) (k : ℕ) {q : ℕ} {b : Bool} → q ≡ quantity day (stopPlace day k) → b ≡ not (overLimits day (loaded c q)) → b ≡ true
-    → overLimits day (taking day c k) ≡ false
-fitting day c k eq eb z = go (overLimits day (taking day c k)) (sym z ∙ eb ∙ ap (λ (x : ℕ). not (overLimits day (loaded c x))) eq)
-  where
-    go : (x : Bool) → true ≡ not x → x ≡ false
-    go true e = absurd (true≢false e)
-    go false e = refl
 
 -- a stop that fits suits where there is a way home
 module _ (day : List ℕ) (t : Trip) (c : Cargo) (k : ℕ) where
