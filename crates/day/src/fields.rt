@@ -102,39 +102,39 @@ pub fn rest_minutes(day: &[u32], layout: Layout) -> u32
     number_at(day, 6)
 }
 
-pub fn tip_window(day: &[u32], layout: Layout, k: usize) -> Window
-    requires { ⌜ LayoutOf (now day) layout × (0 < k) × (k ≤ layout .tips) ⌝ }
-    ensures { λ r. ⌜ WindowOf (now (day .entry)) k r ⌝ }
+pub fn tip_window(day: &[u32], layout: Layout, tip: usize) -> Window
+    requires { ⌜ LayoutOf (now day) layout × (0 < tip) × (tip ≤ layout .tips) ⌝ }
+    ensures { λ r. ⌜ WindowOf (now (day .entry)) tip r ⌝ }
 {
-    window_at(day, 5 + 2 * k)
+    window_at(day, 5 + 2 * tip)
 }
 
-pub fn tip_service(day: &[u32], layout: Layout, k: usize) -> u32
-    requires { ⌜ LayoutOf (now day) layout × (0 < k) × (k ≤ layout .tips) ⌝ }
-    ensures { λ r. ⌜ r ≡ service (now (day .entry)) k ⌝ }
+pub fn tip_service(day: &[u32], layout: Layout, tip: usize) -> u32
+    requires { ⌜ LayoutOf (now day) layout × (0 < tip) × (tip ≤ layout .tips) ⌝ }
+    ensures { λ r. ⌜ r ≡ service (now (day .entry)) tip ⌝ }
 {
-    number_at(day, 6 + 2 * k)
+    number_at(day, 6 + 2 * tip)
 }
 
-pub fn stop_window(day: &[u32], layout: Layout, k: usize) -> Window
-    requires { ⌜ LayoutOf (now day) layout × (0 < k) × (k ≤ layout .stops) ⌝ }
-    ensures { λ r. ⌜ WindowOf (now (day .entry)) (stopPlace (now (day .entry)) k) r ⌝ }
+pub fn stop_window(day: &[u32], layout: Layout, stop: usize) -> Window
+    requires { ⌜ LayoutOf (now day) layout × (0 < stop) × (stop ≤ layout .stops) ⌝ }
+    ensures { λ r. ⌜ WindowOf (now (day .entry)) (stopPlace (now (day .entry)) stop) r ⌝ }
 {
-    window_at(day, 4 + 2 * layout.tips + 3 * k)
+    window_at(day, 4 + 2 * layout.tips + 3 * stop)
 }
 
-pub fn stop_service(day: &[u32], layout: Layout, k: usize) -> u32
-    requires { ⌜ LayoutOf (now day) layout × (0 < k) × (k ≤ layout .stops) ⌝ }
-    ensures { λ r. ⌜ r ≡ service (now (day .entry)) (stopPlace (now (day .entry)) k) ⌝ }
+pub fn stop_service(day: &[u32], layout: Layout, stop: usize) -> u32
+    requires { ⌜ LayoutOf (now day) layout × (0 < stop) × (stop ≤ layout .stops) ⌝ }
+    ensures { λ r. ⌜ r ≡ service (now (day .entry)) (stopPlace (now (day .entry)) stop) ⌝ }
 {
-    number_at(day, 5 + 2 * layout.tips + 3 * k)
+    number_at(day, 5 + 2 * layout.tips + 3 * stop)
 }
 
-pub fn stop_quantity(day: &[u32], layout: Layout, k: usize) -> u32
-    requires { ⌜ LayoutOf (now day) layout × (0 < k) × (k ≤ layout .stops) ⌝ }
-    ensures { λ r. ⌜ r ≡ quantity (now (day .entry)) (stopPlace (now (day .entry)) k) ⌝ }
+pub fn stop_quantity(day: &[u32], layout: Layout, stop: usize) -> u32
+    requires { ⌜ LayoutOf (now day) layout × (0 < stop) × (stop ≤ layout .stops) ⌝ }
+    ensures { λ r. ⌜ r ≡ quantity (now (day .entry)) (stopPlace (now (day .entry)) stop) ⌝ }
 {
-    number_at(day, 6 + 2 * layout.tips + 3 * k)
+    number_at(day, 6 + 2 * layout.tips + 3 * stop)
 }
 
 // The leg from place p to place q.

@@ -33,24 +33,24 @@ fn fits(day: &[u32], layout: Layout, cargo: Cargo, kg: u32) -> bool
     !is_over(day, limits_of(day, layout), load_on(cargo, kg))
 }
 
-// Whether stop k, which fits, leaves a way home, where its service starts by its closing.
-fn is_suited(day: &[u32], layout: Layout, trip: Trip, cargo: Cargo, k: usize) -> bool
-    requires { ⌜ LayoutOf (now day) layout × SmallTrip (now day) 2147483648 trip × CargoWithin cargo × (0 < k) × (k ≤ layout .stops) ⌝ }
-    requires { ⌜ (overLimits (now day) (taking (now day) cargo k) ≡ false) × (arrival (now day) trip (stopPlace (now day) k) < 4096) ⌝ }
-    ensures { λ r. ⌜ r ≡ suits (now (day .entry)) trip cargo k ⌝ }
+// Whether a stop, which fits, leaves a way home, where its service starts by its closing.
+fn is_suited(day: &[u32], layout: Layout, trip: Trip, cargo: Cargo, stop: usize) -> bool
+    requires { ⌜ LayoutOf (now day) layout × SmallTrip (now day) 2147483648 trip × CargoWithin cargo × (0 < stop) × (stop ≤ layout .stops) ⌝ }
+    requires { ⌜ (overLimits (now day) (taking (now day) cargo stop) ≡ false) × (arrival (now day) trip (stopPlace (now day) stop) < 4096) ⌝ }
+    ensures { λ r. ⌜ r ≡ suits (now (day .entry)) trip cargo stop ⌝ }
 {
-    let kg = day::fields::stop_quantity(day, layout, k);
-    let served = visit_stop(day, layout, trip, k);
+    let kg = day::fields::stop_quantity(day, layout, stop);
+    let served = visit_stop(day, layout, trip, stop);
     is_way_home(day, layout, served, cargo.load + kg)
 }
 
-// Whether stop k is reached within its window, where near ones are wanted, and else before it opens.
-fn is_timely(day: &[u32], layout: Layout, trip: Trip, near: bool, k: usize) -> bool
-    requires { ⌜ LayoutOf (now day) layout × SmallTrip (now day) 2147483648 trip × (0 < k) × (k ≤ layout .stops) ⌝ }
-    ensures { λ r. ⌜ r ≡ timely near (now (day .entry)) trip k ⌝ }
+// Whether a stop is reached within its window, where near ones are wanted, and else before it opens.
+fn is_timely(day: &[u32], layout: Layout, trip: Trip, near: bool, stop: usize) -> bool
+    requires { ⌜ LayoutOf (now day) layout × SmallTrip (now day) 2147483648 trip × (0 < stop) × (stop ≤ layout .stops) ⌝ }
+    ensures { λ r. ⌜ r ≡ timely near (now (day .entry)) trip stop ⌝ }
 {
-    let leg = day::fields::leg_between(day, layout, trip.place, layout.tips + k);
-    let hours = day::fields::stop_window(day, layout, k);
+    let leg = day::fields::leg_between(day, layout, trip.place, layout.tips + stop);
+    let hours = day::fields::stop_window(day, layout, stop);
     let minute = trip.minute + leg.minutes;
     if near {
         if minute < hours.opening {
@@ -61,18 +61,18 @@ fn is_timely(day: &[u32], layout: Layout, trip: Trip, near: bool, k: usize) -> b
     minute < hours.opening
 }
 
-// What stops are compared by: the minutes to stop k, where near ones are wanted, and else its opening.
-fn key_of(day: &[u32], layout: Layout, trip: Trip, near: bool, k: usize) -> u32
-    requires { ⌜ LayoutOf (now day) layout × SmallTrip (now day) 2147483648 trip × (0 < k) × (k ≤ layout .stops) ⌝ }
-    ensures { λ r. ⌜ (r ≡ keyOf near (now (day .entry)) trip k) × (r < keysEnd) ⌝ }
+// What stops are compared by: the minutes to a stop, where near ones are wanted, and else its opening.
+fn key_of(day: &[u32], layout: Layout, trip: Trip, near: bool, stop: usize) -> u32
+    requires { ⌜ LayoutOf (now day) layout × SmallTrip (now day) 2147483648 trip × (0 < stop) × (stop ≤ layout .stops) ⌝ }
+    ensures { λ r. ⌜ (r ≡ keyOf near (now (day .entry)) trip stop) × (r < keysEnd) ⌝ }
 {
     if near {
-        return day::fields::leg_between(day, layout, trip.place, layout.tips + k).minutes;
+        return day::fields::leg_between(day, layout, trip.place, layout.tips + stop).minutes;
     }
-    day::fields::stop_window(day, layout, k).opening
+    day::fields::stop_window(day, layout, stop).opening
 }
 
-// Whether stop k is worth asking for a way home: it is a stop, its key is less than `most`, it fits, and it is reached at the right time.
+// Whether a stop is worth asking for a way home: it is a stop, its key is less than `most`, it fits, and it is reached at the right time.
 fn is_candidate(
     day: &[u32],
     layout: Layout,
@@ -80,23 +80,23 @@ fn is_candidate(
     cargo: Cargo,
     near: bool,
     most: u32,
-    k: usize,
+    stop: usize,
 ) -> bool
     requires { ⌜ LayoutOf (now day) layout × SmallTrip (now day) 2147483648 trip × CargoWithin cargo ⌝ }
-    ensures { λ r. ⌜ r ≡ candidate near (now (day .entry)) trip cargo (layout .stops) most k ⌝ }
+    ensures { λ r. ⌜ r ≡ candidate near (now (day .entry)) trip cargo (layout .stops) most stop ⌝ }
 {
-    if k == 0 {
+    if stop == 0 {
         return false;
     }
-    if layout.stops < k {
+    if layout.stops < stop {
         return false;
     }
-    if most <= key_of(day, layout, trip, near, k) {
+    if most <= key_of(day, layout, trip, near, stop) {
         return false;
     }
-    let kg = day::fields::stop_quantity(day, layout, k);
+    let kg = day::fields::stop_quantity(day, layout, stop);
     if fits(day, layout, cargo, kg) {
-        return is_timely(day, layout, trip, near, k);
+        return is_timely(day, layout, trip, near, stop);
     }
     false
 }
@@ -127,24 +127,24 @@ fn from_candidate(
     rest
 }
 
-// Candidate k in place of the best so far, where it leaves a way home. Both are made field by field: copied as a block it is slower.
+// A candidate in place of the best so far, where it leaves a way home. Both are made field by field: copied as a block it is slower.
 fn better_stop(
     day: &[u32],
     layout: Layout,
     trip: Trip,
     cargo: Cargo,
     near: bool,
-    k: usize,
+    stop: usize,
     best: Best,
 ) -> Best
     requires { ⌜ LayoutOf (now day) layout × SmallTrip (now day) 2147483648 trip × CargoWithin cargo ⌝ }
-    requires { ⌜ Candidate near (now day) trip cargo (layout .stops) (best .key) k × BestBy (keyOf near (now day) trip) (layout .stops) best ⌝ }
-    ensures { λ r. ⌜ BestBy (keyOf near (now (day .entry)) trip) (layout .stops) r × (r .number ≡ betterStop near (now (day .entry)) trip cargo (layout .stops) k (best .number)) ⌝ }
+    requires { ⌜ Candidate near (now day) trip cargo (layout .stops) (best .key) stop × BestBy (keyOf near (now day) trip) (layout .stops) best ⌝ }
+    ensures { λ r. ⌜ BestBy (keyOf near (now (day .entry)) trip) (layout .stops) r × (r .number ≡ betterStop near (now (day .entry)) trip cargo (layout .stops) stop (best .number)) ⌝ }
 {
-    if is_suited(day, layout, trip, cargo, k) {
+    if is_suited(day, layout, trip, cargo, stop) {
         return Best {
-            number: k,
-            key: key_of(day, layout, trip, near, k),
+            number: stop,
+            key: key_of(day, layout, trip, near, stop),
         };
     }
     Best {

@@ -40,32 +40,32 @@ fn is_near_capacity(day: &[u32], layout: Layout, cargo: Cargo) -> bool
     4 * day::fields::stop_limit(day, layout) < 5 * cargo.visits
 }
 
-// Whether stop k is farther than a tip; 0 is no tip.
-fn is_farther(day: &[u32], layout: Layout, trip: Trip, k: usize, tip: usize) -> bool
-    requires { ⌜ LayoutOf (now day) layout × SmallTrip (now day) 2147483648 trip × (k ≤ layout .stops) × (tip ≤ layout .tips) ⌝ }
-    ensures { λ r. ⌜ r ≡ farther (now (day .entry)) trip k tip ⌝ }
+// Whether a stop is farther than a tip; 0 is no tip.
+fn is_farther(day: &[u32], layout: Layout, trip: Trip, stop: usize, tip: usize) -> bool
+    requires { ⌜ LayoutOf (now day) layout × SmallTrip (now day) 2147483648 trip × (stop ≤ layout .stops) × (tip ≤ layout .tips) ⌝ }
+    ensures { λ r. ⌜ r ≡ farther (now (day .entry)) trip stop tip ⌝ }
 {
     if tip == 0 {
         return false;
     }
     let to_tip = day::fields::leg_between(day, layout, trip.place, tip);
-    let to_stop = day::fields::leg_between(day, layout, trip.place, layout.tips + k);
+    let to_stop = day::fields::leg_between(day, layout, trip.place, layout.tips + stop);
     to_tip.minutes < to_stop.minutes
 }
 
 // The choice, or none where it is dropped.
-fn chosen_stop(day: &[u32], layout: Layout, trip: Trip, cargo: Cargo, k: usize) -> usize
-    requires { ⌜ LayoutOf (now day) layout × SmallTrip (now day) 2147483648 trip × CargoWithin cargo × (k ≤ layout .stops) ⌝ }
-    ensures { λ r. ⌜ (r ≡ chosenStop (now (day .entry)) trip cargo k) × (r ≤ layout .stops) ⌝ }
+fn chosen_stop(day: &[u32], layout: Layout, trip: Trip, cargo: Cargo, stop: usize) -> usize
+    requires { ⌜ LayoutOf (now day) layout × SmallTrip (now day) 2147483648 trip × CargoWithin cargo × (stop ≤ layout .stops) ⌝ }
+    ensures { λ r. ⌜ (r ≡ chosenStop (now (day .entry)) trip cargo stop) × (r ≤ layout .stops) ⌝ }
 {
     if is_near_capacity(day, layout, cargo) {
         let tip = nearest_tip(day, layout, trip.place, trip.minute);
-        if is_farther(day, layout, trip, k, tip) {
+        if is_farther(day, layout, trip, stop, tip) {
             return 0;
         }
-        return k;
+        return stop;
     }
-    k
+    stop
 }
 
 // Step 5, without a load.

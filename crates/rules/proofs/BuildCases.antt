@@ -10,9 +10,14 @@ use Rattle.rules.specs.Build.{resting, serving, emptying, nextTask, driv
 use Rattle.rules.proofs.DayM.{dayM}
 use Rattle.rules.proofs.CheckCases.{computed}
 
+-- all that a choice computes by
+unfoldable chosen : Unit {0}
+unfolding wins better least suits takeable waitable nearestStop earliestStop nearCapacity farther chosenStop due restIfDue homeDirect homeByTip homeLoaded wayHome openTip nearestTip
+chosen = tt
+
 -- all that the build computes by
 unfoldable pub built : Unit {0}
-unfolding computed wins better least taskWord roundWords roundsWords planWords resting serving emptying nextTask drive oneVehicle fleet routed remaining greedyPlan couldTakeFirst suits takeable waitable nearestStop earliestStop nearCapacity farther chosenStop due restIfDue homeDirect homeByTip homeLoaded wayHome openTip nearestTip
+unfolding computed chosen taskWord roundWords roundsWords planWords resting serving emptying nextTask drive oneVehicle fleet routed remaining greedyPlan couldTakeFirst
 built = tt
 
 greedy-a : greedyPlan (dayM 100 30 60 60 50) ≡ 0xA0000001 ∷ 0xB0000001 ∷ 0xC0000001 ∷ 0xD0000000 ∷ 0xB0000002 ∷ 0xC0000001 ∷ 0xE0000000 ∷ []

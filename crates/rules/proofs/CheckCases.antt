@@ -12,9 +12,14 @@ use Rattle.rules.specs.Trip.{visitFault, restFault, backFault}
 use Rattle.rules.specs.Check.{within, wellFormed, metAgain, metAfter, tallyAfter, faultAt, finished, checkFrom, checkWords, checkPlan}
 use Rattle.rules.proofs.DayM.{legsM, dayM}
 
+-- all that the judge computes by
+unfoldable judged : Unit {0}
+unfolding mem unmet headForm tipForm stopForm legForm formAt kindRight valueRight faultOf judgeFrom judgeSized judgeDay windowIndex legsM dayM
+judged = tt
+
 -- all that the check computes by
 unfoldable pub computed : Unit {0}
-unfolding mem unmet headForm tipForm stopForm legForm formAt kindRight valueRight faultOf judgeFrom judgeSized judgeDay windowIndex overLimits cargoFault cargoAfter within wellFormed metAgain metAfter tallyAfter faultAt finished checkFrom checkWords checkPlan legsM dayM wordOf visitFault restFault backFault
+unfolding judged overLimits cargoFault cargoAfter within wellFormed metAgain metAfter tallyAfter faultAt finished checkFrom checkWords checkPlan wordOf visitFault restFault backFault
 computed = tt
 
 -- the plan A1 B1 C1 E F2

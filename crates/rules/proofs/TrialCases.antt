@@ -11,7 +11,17 @@ use Rattle.rules.specs.Search.{run, improve, lists}
 use Rattle.rules.specs.Planning.{searched}
 use Rattle.rules.proofs.BuildCases.{built}
 
+-- all that a trial list computes by
+unfoldable listed : Unit {0}
+unfolding compatible neighbourKey behind nextNeighbour neighboursAfter neighbours each rising vehicleFrom pairTrials stopTrials otherTip taskTrials roundTrials tipTrials trialList
+listed = tt
+
+-- all that a walk computes by
+unfoldable walked : Unit {0}
+unfolding changeStop changeTip change changed touches inserting emptiedFirst exceeds servingThen walkTask walkNext walkOn walkHome doneBy walkedAgain
+walked = tt
+
 -- all that planning with trials computes by
 unfoldable pub tried : Unit {0}
-unfolding built stopsOn total distanceFrom retried joined triedFrom distanceOf isLawful keptIf attempt searched changeStop changeTip change changed touches compatible neighbourKey behind nextNeighbour neighboursAfter neighbours run improve lists each rising vehicleFrom pairTrials stopTrials otherTip taskTrials roundTrials tipTrials trialList inserting emptiedFirst exceeds servingThen walkTask walkNext walkOn walkHome doneBy walkedAgain
+unfolding built listed walked stopsOn total distanceFrom retried joined triedFrom distanceOf isLawful keptIf attempt searched run improve lists
 tried = tt

@@ -1,5 +1,5 @@
--- What is promised of planning with trials: demand 3 as named facts, of the definition `searched` and of the words of its plan. Assumes
--- nothing.
+-- What is promised of planning with trials: demand 3 as named facts, of the definition `searched`, of the words of its plan, and of the
+-- call's answer and buffer. Assumes nothing.
 use Prim.Native.Nat.{ℕ, _+_, _*_, _≤_, _<_}
 use mathlib.Core.Path.{_≡_}
 use mathlib.Core.Bool.{true, false}

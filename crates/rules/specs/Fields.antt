@@ -1,5 +1,5 @@
 -- What a day says, under the names of document 01, "Day file". Each is defined on every list of words, 0 past its end, and the bit
--- fields bound each value whatever the day; on an accepted day it is what the file says. Assumes nothing.
+-- fields bound each value whatever the day; on an accepted day, which is said at the end, it is what the file says. Assumes nothing.
 use Prim.Native.Nat.{ℕ, _+_, _-_, _*_}
 use mathlib.Core.Path.{_≡_}
 use mathlib.Core.List.{List, [], _∷_}

@@ -1,4 +1,4 @@
--- What a test decides. Definitions of every crate are chains of such decisions, in the order in which the code tests.
+-- What a test decides. A definition is a chain of such decisions, in the order of the paper's list.
 -- Assumes nothing.
 use Prim.Native.Nat.{ℕ}
 use mathlib.Core.Bool.{Bool, true, false, not}

@@ -64,17 +64,17 @@ pub fn one_served(y: Tally) -> Tally
     }
 }
 
-// Stop k is left out.
-pub fn one_left(y: Tally, k: u32) -> Tally
+// A stop is left out.
+pub fn one_left(y: Tally, stop: u32) -> Tally
     requires { ⌜ TallyWithin 4096 y ⌝ }
-    ensures { λ r. ⌜ r ≡ oneLeft y k ⌝ }
+    ensures { λ r. ⌜ r ≡ oneLeft y stop ⌝ }
 {
     Tally {
         inside: y.inside,
         vehicles: y.vehicles,
         served: y.served,
         left: y.left + 1,
-        last: k,
+        last: stop,
         distance: y.distance,
     }
 }

@@ -124,24 +124,24 @@ fn visit(
     }
 }
 
-// To stop k.
-pub fn visit_stop(day: &[u32], layout: day::fields::Layout, t: Trip, k: usize) -> Driven
-    requires { ⌜ LayoutOf (now day) layout × TripWithin (now day) 4096 t × (0 < k) × (k ≤ layout .stops) ⌝ }
-    ensures { λ r. ⌜ DrivenTo (visitFault (now (day .entry)) t (stopPlace (now (day .entry)) k)) (visited (now (day .entry)) t (stopPlace (now (day .entry)) k)) r ⌝ }
+// To a stop.
+pub fn visit_stop(day: &[u32], layout: day::fields::Layout, t: Trip, stop: usize) -> Driven
+    requires { ⌜ LayoutOf (now day) layout × TripWithin (now day) 4096 t × (0 < stop) × (stop ≤ layout .stops) ⌝ }
+    ensures { λ r. ⌜ DrivenTo (visitFault (now (day .entry)) t (stopPlace (now (day .entry)) stop)) (visited (now (day .entry)) t (stopPlace (now (day .entry)) stop)) r ⌝ }
 {
-    let hours = day::fields::stop_window(day, layout, k);
-    let minutes = day::fields::stop_service(day, layout, k);
-    visit(day, layout, t, layout.tips + k, hours, minutes)
+    let hours = day::fields::stop_window(day, layout, stop);
+    let minutes = day::fields::stop_service(day, layout, stop);
+    visit(day, layout, t, layout.tips + stop, hours, minutes)
 }
 
-// To tip k.
-pub fn visit_tip(day: &[u32], layout: day::fields::Layout, t: Trip, k: usize) -> Driven
-    requires { ⌜ LayoutOf (now day) layout × TripWithin (now day) 4096 t × (0 < k) × (k ≤ layout .tips) ⌝ }
-    ensures { λ r. ⌜ DrivenTo (visitFault (now (day .entry)) t k) (visited (now (day .entry)) t k) r ⌝ }
+// To a tip.
+pub fn visit_tip(day: &[u32], layout: day::fields::Layout, t: Trip, tip: usize) -> Driven
+    requires { ⌜ LayoutOf (now day) layout × TripWithin (now day) 4096 t × (0 < tip) × (tip ≤ layout .tips) ⌝ }
+    ensures { λ r. ⌜ DrivenTo (visitFault (now (day .entry)) t tip) (visited (now (day .entry)) t tip) r ⌝ }
 {
-    let hours = day::fields::tip_window(day, layout, k);
-    let minutes = day::fields::tip_service(day, layout, k);
-    visit(day, layout, t, k, hours, minutes)
+    let hours = day::fields::tip_window(day, layout, tip);
+    let minutes = day::fields::tip_service(day, layout, tip);
+    visit(day, layout, t, tip, hours, minutes)
 }
 
 // A rest where the vehicle is; a second one, or one that begins too late, is 12.

@@ -57,14 +57,14 @@ pub fn visit(
     visited_trip(day, layout, t, place, hours, minutes)
 }
 
-// After the service of stop k.
-pub fn visit_stop(day: &[u32], layout: Layout, t: Trip, k: usize) -> Trip
-    requires { ⌜ LayoutOf (now day) layout × SmallTrip (now day) 4294901760 t × (0 < k) × (k ≤ layout .stops) ⌝ }
-    ensures { λ r. ⌜ r ≡ visited (now (day .entry)) t (stopPlace (now (day .entry)) k) ⌝ }
+// After the service of a stop.
+pub fn visit_stop(day: &[u32], layout: Layout, t: Trip, stop: usize) -> Trip
+    requires { ⌜ LayoutOf (now day) layout × SmallTrip (now day) 4294901760 t × (0 < stop) × (stop ≤ layout .stops) ⌝ }
+    ensures { λ r. ⌜ r ≡ visited (now (day .entry)) t (stopPlace (now (day .entry)) stop) ⌝ }
 {
-    let hours = day::fields::stop_window(day, layout, k);
-    let minutes = day::fields::stop_service(day, layout, k);
-    visit(day, layout, t, layout.tips + k, hours, minutes)
+    let hours = day::fields::stop_window(day, layout, stop);
+    let minutes = day::fields::stop_service(day, layout, stop);
+    visit(day, layout, t, layout.tips + stop, hours, minutes)
 }
 
 // Whether the depot is reached in time, and in time for lunch.

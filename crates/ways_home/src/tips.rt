@@ -10,12 +10,12 @@ use crate::best::Best;
 use crate::best::NO_KEY;
 use day::fields::Layout;
 
-// Whether tip k, so many minutes away, is open on arrival.
-fn is_open(day: &[u32], layout: Layout, place: usize, minute: u32, k: usize, away: u32) -> bool
-    requires { ⌜ LayoutOf (now day) layout × (minute < 268435456) × (0 < k) × (k ≤ layout .tips) × (away ≡ legMinutes (now day) place k) ⌝ }
-    ensures { λ r. ⌜ r ≡ openTip (now (day .entry)) place minute k ⌝ }
+// Whether a tip, so many minutes away, is open on arrival.
+fn is_open(day: &[u32], layout: Layout, place: usize, minute: u32, tip: usize, away: u32) -> bool
+    requires { ⌜ LayoutOf (now day) layout × (minute < 268435456) × (0 < tip) × (tip ≤ layout .tips) × (away ≡ legMinutes (now day) place tip) ⌝ }
+    ensures { λ r. ⌜ r ≡ openTip (now (day .entry)) place minute tip ⌝ }
 {
-    let window = day::fields::tip_window(day, layout, k);
+    let window = day::fields::tip_window(day, layout, tip);
     let arrival = minute + away;
     if arrival < window.opening {
         return false;
@@ -23,13 +23,20 @@ fn is_open(day: &[u32], layout: Layout, place: usize, minute: u32, k: usize, awa
     arrival <= window.closing
 }
 
-// Tip k in place of the best so far, where it is nearer and open on arrival. Both are made field by field: copied as a block it is slower.
-fn better_tip(day: &[u32], layout: Layout, place: usize, minute: u32, k: usize, best: Best) -> Best
-    requires { ⌜ LayoutOf (now day) layout × (place < layout .places) × (minute < 268435456) × (0 < k) × (k ≤ layout .tips) × BestBy (legMinutes (now day) place) (layout .tips) best ⌝ }
+// A tip in place of the best so far, where it is nearer and open on arrival. Both are made field by field: copied as a block it is slower.
+fn better_tip(
+    day: &[u32],
+    layout: Layout,
+    place: usize,
+    minute: u32,
+    tip: usize,
+    best: Best,
+) -> Best
+    requires { ⌜ LayoutOf (now day) layout × (place < layout .places) × (minute < 268435456) × (0 < tip) × (tip ≤ layout .tips) × BestBy (legMinutes (now day) place) (layout .tips) best ⌝ }
     ensures carried { λ r. ⌜ BestBy (legMinutes (now (day .entry)) place) (layout .tips) r ⌝ }
-    ensures choice { λ r. ⌜ r .number ≡ better (openTip (now (day .entry)) place minute) (legMinutes (now (day .entry)) place) k (best .number) ⌝ }
+    ensures choice { λ r. ⌜ r .number ≡ better (openTip (now (day .entry)) place minute) (legMinutes (now (day .entry)) place) tip (best .number) ⌝ }
 {
-    let leg = day::fields::leg_between(day, layout, place, k);
+    let leg = day::fields::leg_between(day, layout, place, tip);
     let away = leg.minutes;
     if best.key <= away {
         return Best {
@@ -37,9 +44,9 @@ fn better_tip(day: &[u32], layout: Layout, place: usize, minute: u32, k: usize, 
             key: best.key,
         };
     }
-    if is_open(day, layout, place, minute, k, away) {
+    if is_open(day, layout, place, minute, tip, away) {
         return Best {
-            number: k,
+            number: tip,
             key: away,
         };
     }

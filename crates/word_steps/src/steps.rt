@@ -59,30 +59,36 @@ pub fn at_fault(number: u32) -> Step
 }
 
 // B, a stop is served.
-pub fn serve(day: &[u32], layout: day::fields::Layout, limits: Limits, s: State, k: usize) -> Step
-    requires { ⌜ LayoutOf (now day) layout × LimitsOf (now day) limits × Within (now day) 4096 s × (0 < k) × (k ≤ layout .stops) ⌝ }
-    ensures { λ r. ⌜ StepOf (formedFault (now (day .entry)) s (stop k)) (now (day .entry)) s (stop k) r ⌝ }
+pub fn serve(
+    day: &[u32],
+    layout: day::fields::Layout,
+    limits: Limits,
+    s: State,
+    number: usize,
+) -> Step
+    requires { ⌜ LayoutOf (now day) layout × LimitsOf (now day) limits × Within (now day) 4096 s × (0 < number) × (number ≤ layout .stops) ⌝ }
+    ensures { λ r. ⌜ StepOf (formedFault (now (day .entry)) s (stop number)) (now (day .entry)) s (stop number) r ⌝ }
 {
-    let cargo = load_on(s.cargo, day::fields::stop_quantity(day, layout, k));
+    let cargo = load_on(s.cargo, day::fields::stop_quantity(day, layout, number));
     if is_over(day, limits, cargo) {
         return at_fault(9);
     }
-    let drive = visit_stop(day, layout, s.trip, k);
+    let drive = visit_stop(day, layout, s.trip, number);
     let tally = one_served(s.tally);
     let trip = drive.trip;
     Step {
         fault: drive.fault,
-        stop: k,
+        stop: number,
         state: State { tally, cargo, trip },
     }
 }
 
 // C, the load is tipped.
-pub fn empty_out(day: &[u32], layout: day::fields::Layout, s: State, k: usize) -> Step
-    requires { ⌜ LayoutOf (now day) layout × Within (now day) 4096 s × (0 < k) × (k ≤ layout .tips) ⌝ }
-    ensures { λ r. ⌜ StepOf (formedFault (now (day .entry)) s (tip k)) (now (day .entry)) s (tip k) r ⌝ }
+pub fn empty_out(day: &[u32], layout: day::fields::Layout, s: State, number: usize) -> Step
+    requires { ⌜ LayoutOf (now day) layout × Within (now day) 4096 s × (0 < number) × (number ≤ layout .tips) ⌝ }
+    ensures { λ r. ⌜ StepOf (formedFault (now (day .entry)) s (tip number)) (now (day .entry)) s (tip number) r ⌝ }
 {
-    let drive = visit_tip(day, layout, s.trip, k);
+    let drive = visit_tip(day, layout, s.trip, number);
     let tally = same_tally(s.tally);
     let cargo = tip_out(s.cargo);
     let trip = drive.trip;
@@ -132,9 +138,9 @@ pub fn come_back(day: &[u32], layout: day::fields::Layout, s: State) -> Step
 }
 
 // A, a vehicle leaves.
-pub fn set_out(day: &[u32], layout: day::fields::Layout, s: State, k: u32) -> Step
+pub fn set_out(day: &[u32], layout: day::fields::Layout, s: State, number: u32) -> Step
     requires { ⌜ LayoutOf (now day) layout × Within (now day) 4096 s ⌝ }
-    ensures { λ r. ⌜ StepOf (formedFault (now (day .entry)) s (vehicle k)) (now (day .entry)) s (vehicle k) r ⌝ }
+    ensures { λ r. ⌜ StepOf (formedFault (now (day .entry)) s (vehicle number)) (now (day .entry)) s (vehicle number) r ⌝ }
 {
     Step {
         fault: 0,
@@ -148,15 +154,15 @@ pub fn set_out(day: &[u32], layout: day::fields::Layout, s: State, k: u32) -> St
 }
 
 // F, a stop is left out.
-pub fn leave_out(day: &[u32], s: State, k: u32) -> Step
+pub fn leave_out(day: &[u32], s: State, number: u32) -> Step
     requires { ⌜ Within (now day) 4096 s ⌝ }
-    ensures { λ r. ⌜ StepOf (formedFault (now (day .entry)) s (left k)) (now (day .entry)) s (left k) r ⌝ }
+    ensures { λ r. ⌜ StepOf (formedFault (now (day .entry)) s (left number)) (now (day .entry)) s (left number) r ⌝ }
 {
     Step {
         fault: 0,
-        stop: k as usize,
+        stop: number as usize,
         state: State {
-            tally: one_left(s.tally, k),
+            tally: one_left(s.tally, number),
             cargo: same_cargo(s.cargo),
             trip: same_trip(s.trip),
         },

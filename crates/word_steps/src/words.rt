@@ -39,28 +39,34 @@ fn stop_word(
     limits: Limits,
     s: State,
     met: &[u8; 256],
-    k: usize,
+    number: usize,
 ) -> Step
     requires { ⌜ LayoutOf (now day) layout × LimitsOf (now day) limits × Within (now day) 4096 s ⌝ }
-    ensures { λ r. ⌜ StepOf (faultBy (now (day .entry)) (now (met .entry)) s (stop k)) (now (day .entry)) s (stop k) r ⌝ }
+    ensures { λ r. ⌜ StepOf (faultBy (now (day .entry)) (now (met .entry)) s (stop number)) (now (day .entry)) s (stop number) r ⌝ }
 {
-    if !both(s.tally.inside, is_within(layout.stops, k)) {
+    if !both(s.tally.inside, is_within(layout.stops, number)) {
         return at_fault(7);
     }
-    if met[k] != 0 {
+    if met[number] != 0 {
         return at_fault(8);
     }
-    serve(day, layout, limits, s, k)
+    serve(day, layout, limits, s, number)
 }
 
-fn tip_word(day: &[u32], layout: day::fields::Layout, s: State, met: &[u8; 256], k: usize) -> Step
+fn tip_word(
+    day: &[u32],
+    layout: day::fields::Layout,
+    s: State,
+    met: &[u8; 256],
+    number: usize,
+) -> Step
     requires { ⌜ LayoutOf (now day) layout × Within (now day) 4096 s ⌝ }
-    ensures { λ r. ⌜ StepOf (faultBy (now (day .entry)) (now (met .entry)) s (tip k)) (now (day .entry)) s (tip k) r ⌝ }
+    ensures { λ r. ⌜ StepOf (faultBy (now (day .entry)) (now (met .entry)) s (tip number)) (now (day .entry)) s (tip number) r ⌝ }
 {
-    if !both(s.tally.inside, is_within(layout.tips, k)) {
+    if !both(s.tally.inside, is_within(layout.tips, number)) {
         return at_fault(7);
     }
-    empty_out(day, layout, s, k)
+    empty_out(day, layout, s, number)
 }
 
 fn rest_word(day: &[u32], layout: day::fields::Layout, s: State, met: &[u8; 256]) -> Step
@@ -88,16 +94,16 @@ pub fn vehicle_word(
     layout: day::fields::Layout,
     s: State,
     met: &[u8; 256],
-    k: u32,
+    number: u32,
 ) -> Step
     requires { ⌜ LayoutOf (now day) layout × Within (now day) 4096 s ⌝ }
-    ensures { λ r. ⌜ StepOf (faultBy (now (day .entry)) (now (met .entry)) s (vehicle k)) (now (day .entry)) s (vehicle k) r ⌝ }
+    ensures { λ r. ⌜ StepOf (faultBy (now (day .entry)) (now (met .entry)) s (vehicle number)) (now (day .entry)) s (vehicle number) r ⌝ }
 {
     let y = s.tally;
-    if !both(both(!y.inside, y.last == 0), k == y.vehicles + 1) {
+    if !both(both(!y.inside, y.last == 0), number == y.vehicles + 1) {
         return at_fault(7);
     }
-    set_out(day, layout, s, k)
+    set_out(day, layout, s, number)
 }
 
 pub fn left_word(
@@ -105,20 +111,23 @@ pub fn left_word(
     layout: day::fields::Layout,
     s: State,
     met: &[u8; 256],
-    k: u32,
+    number: u32,
 ) -> Step
     requires { ⌜ LayoutOf (now day) layout × Within (now day) 4096 s ⌝ }
-    ensures { λ r. ⌜ StepOf (faultBy (now (day .entry)) (now (met .entry)) s (left k)) (now (day .entry)) s (left k) r ⌝ }
+    ensures { λ r. ⌜ StepOf (faultBy (now (day .entry)) (now (met .entry)) s (left number)) (now (day .entry)) s (left number) r ⌝ }
 {
     let y = s.tally;
-    let at = k as usize;
-    if !both(both(!y.inside, is_within(layout.stops, at)), y.last < k) {
+    let at = number as usize;
+    if !both(
+        both(!y.inside, is_within(layout.stops, at)),
+        y.last < number,
+    ) {
         return at_fault(7);
     }
     if met[at] != 0 {
         return at_fault(8);
     }
-    leave_out(day, s, k)
+    leave_out(day, s, number)
 }
 
 // The step of a word, the frequent kinds first.
