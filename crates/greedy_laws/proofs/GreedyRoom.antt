@@ -18,7 +18,7 @@ use Rattle.rules.specs.Lawful.{restsIn}
 use Rattle.rules.specs.Cargo.{cargoAfter}
 use Rattle.rules.specs.Home.{due}
 use Rattle.rules.specs.Build.{Truck, fresh, doing, oneVehicle, greedyRounds, greedyLefts, greedyPlan, resting}
-pub use Rattle.plan_laws.proofs.Theorems.{round-length}
+use Rattle.plan_laws.proofs.Theorems.{round-length}
 use Rattle.day.specs.Layout.{LayoutOf}
 use Rattle.day.specs.declared.fields.Layout.{Layout}
 use Rattle.greedy_laws.specs.Reached.{Reached}

@@ -4,20 +4,14 @@ use mathlib.Core.Bool.{Bool, not, _&&_}
 use mathlib.Core.List.{List}
 use Rattle.rules.specs.Lists.{mem}
 use Rattle.rules.specs.Fields.{places}
-use Rattle.rules.specs.declared.walk.Cargo.{Cargo}
 use Rattle.rules.specs.declared.walk.Trip.{Trip}
 use Rattle.laws.specs.Marks.{upTo}
-use Rattle.trips.specs.Trips.{CargoWithin}
 
 -- a trip is at a place of the day, at a small minute, and its distance is below a number
 pub record SmallTrip (day : List ℕ) (most : ℕ) (t : Trip) : Type 0 where
   pub place : t .place < places day
   pub minute : t .minute < 268435456
   pub distance : t .distance < most
-
--- what a vehicle carries is small: `CargoWithin` by the name that vehicle_writer has for it
-abbrev pub SmallCargo : Cargo → Type 0
-SmallCargo = CargoWithin
 
 -- the stops 1..n that are still to be routed
 unfoldable pub unrouted : ℕ → List ℕ → ℕ → Bool

@@ -5,7 +5,6 @@ use mathlib.Core.List.{List}
 use mathlib.Core.Option.{Option, none, some}
 use lib.Dec.{ltb}
 use Rattle.rules.specs.Tests.{if_then_else_}
-use Rattle.rules.specs.PlanWords.{stopWord, tipWord, backWord}
 use Rattle.rules.specs.Plan.{Task, serve, empty}
 use Rattle.rules.specs.Tips.{nearestTip}
 use Rattle.rules.specs.Choice.{chosenStop}
@@ -43,12 +42,6 @@ abbrev pub NextWithin : Layout → Next → Type 0
 NextWithin layout (Nexts.Stop k) = (0 < k) × (k ≤ layout .stops)
 NextWithin layout (Nexts.Tip x) = (0 < x) × (x ≤ layout .tips)
 NextWithin layout Nexts.Home = Unit {0}
-
--- the word of the task; E where there is none
-abbrev pub nextWord : Next → ℕ
-nextWord (Nexts.Stop k) = stopWord k
-nextWord (Nexts.Tip x) = tipWord x
-nextWord Nexts.Home = backWord
 
 -- there is a task
 abbrev pub isTask : Next → Bool

@@ -35,7 +35,8 @@ use Rattle.plan_words.proofs.WordForms.{rest-form}
 use Rattle.day.specs.Layout.{LayoutOf}
 use Rattle.day.specs.declared.fields.Layout.{Layout}
 use Rattle.greedy_laws.specs.Reached.{goesOn}
-use Rattle.greedy_laws.specs.States.{SmallTrip, SmallCargo, unrouted}
+use Rattle.trips.specs.Trips.{CargoWithin}
+use Rattle.greedy_laws.specs.States.{SmallTrip, unrouted}
 use Rattle.greedy_laws.specs.Rooms.{Paid, Room}
 use Rattle.greedy_laws.proofs.Driving.{resting-due, resting-not}
 use Rattle.greedy_laws.proofs.GreedyRoom.{tasks-counted, rested-paid, rested-room, reached-room}
@@ -80,7 +81,7 @@ truck-small {day} {before} v l t c q r w =
     record {
       layoutIs = l;
       trip = subst (SmallTrip day 2147483648) (sym t) (record { place = q .place; minute = q .minute; distance = far });
-      cargo = subst SmallCargo (sym c) (q .cargo);
+      cargo = subst CargoWithin (sym c) (q .cargo);
     }
 
 -- room for a task and a rest behind it: a stop is still to be routed, or a stop pays for the tip

@@ -10,7 +10,8 @@ use Rattle.rules.specs.Trip.{leaving, visited}
 use Rattle.laws.specs.Marks.{Unmarked}
 use Rattle.day.specs.Layout.{LayoutOf}
 use Rattle.day.specs.declared.fields.Layout.{Layout}
-use Rattle.greedy_laws.specs.States.{SmallTrip, SmallCargo}
+use Rattle.trips.specs.Trips.{CargoWithin}
+use Rattle.greedy_laws.specs.States.{SmallTrip}
 use Rattle.ways_home.proofs.HomeLaws.{rest-small}
 use Rattle.vehicle_writer.specs.Done.{SmallState, Served, Rested}
 use Rattle.vehicle_writer.specs.declared.state.State.{State}
@@ -22,7 +23,7 @@ fresh-small {day} s l t c =
     record {
       layoutIs = l;
       trip = subst (SmallTrip day 2147483648) (sym t) (record { place = omega arith; minute = omega arith; distance = omega arith });
-      cargo = subst SmallCargo (sym c) (record { load = omega arith; kg = omega arith; visits = omega arith });
+      cargo = subst CargoWithin (sym c) (record { load = omega arith; kg = omega arith; visits = omega arith });
     }
 
 -- and a rest keeps them small
@@ -30,8 +31,8 @@ module _ {day : List ℕ} {layout : Layout} {s : State} (small : SmallState day 
   pub rested-trip : SmallTrip day 2147483648 (r .trip)
   rested-trip = rest-small day 2147483648 (s .trip) (r .trip) (small .trip) (rested .trip)
 
-  pub rested-cargo : SmallCargo (r .cargo)
-  rested-cargo = subst SmallCargo (sym (rested .cargo)) (small .cargo)
+  pub rested-cargo : CargoWithin (r .cargo)
+  rested-cargo = subst CargoWithin (sym (rested .cargo)) (small .cargo)
 
 -- a stop is served
 pub serve-made : (day : List ℕ) (s r : State) (k : ℕ) {kg : ℕ} → kg ≡ quantity day (stopPlace day k) → r .trip ≡ visited day (s .trip) (stopPlace day k)

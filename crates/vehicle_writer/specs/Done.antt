@@ -13,7 +13,8 @@ use Rattle.rules.specs.Choice.{taking}
 use Rattle.laws.specs.Marks.{marked, Unmarked}
 use Rattle.day.specs.Layout.{LayoutOf}
 use Rattle.day.specs.declared.fields.Layout.{Layout}
-use Rattle.greedy_laws.specs.States.{SmallTrip, SmallCargo}
+use Rattle.trips.specs.Trips.{CargoWithin}
+use Rattle.greedy_laws.specs.States.{SmallTrip}
 use Rattle.next_task.specs.NextBy.{nextOf, nextBy, NextWithin}
 use Rattle.next_task.specs.declared.tasks.Next.{Next}
 use Rattle.next_task.specs.declared.tasks.Next.the-variants as Nexts
@@ -24,7 +25,7 @@ use Rattle.vehicle_writer.specs.declared.state.Ready.{Ready}
 pub record SmallState (day : List ℕ) (layout : Layout) (s : State) : Type 0 where
   pub layoutIs : LayoutOf day layout
   pub trip : SmallTrip day 2147483648 (s .trip)
-  pub cargo : SmallCargo (s .cargo)
+  pub cargo : CargoWithin (s .cargo)
 
 -- a stop to be served is still marked
 abbrev pub Doable : List ℕ → Next → Type 0
