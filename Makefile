@@ -31,10 +31,10 @@ PLACE := $(DESTDIR)$(PREFIX)
 
 lib: $(LIBRARY)
 
-# What the library stands on is proved two crates at a time; rt staticlib alone would take one after the other.
+# What the library stands on is proved several crates at a time; rt staticlib alone would take one after the other.
 $(LIBRARY): $(PROVED)
-	@echo "Proving the library: about 4 minutes on two cores, and only once."
-	rt check $(BELOW)
+	@echo "The library is proved first and then built: about 4 minutes on two cores, and only once."
+	RT_JOBS=$${RT_JOBS:-3} rt check $(BELOW)
 	rt staticlib kazhuvendi
 
 test:
