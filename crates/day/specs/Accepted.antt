@@ -4,7 +4,8 @@ use mathlib.Core.Path.{_≡_}
 use mathlib.Core.List.{List}
 use lib.ListN.{length}
 use Rattle.rules.specs.DayFile.{wordsOf}
-use Rattle.rules.specs.Fields.{tips, stops, places, stopPlace, loadLimit, dayLimit, stopLimit, opening, closing, restOpening, restClosing, restMinutes, service, quantity, legIndex, legMinutes, legDistance}
+use Rattle.rules.specs.Fields.{tips, stops, places, stopPlace, loadLimit, dayLimit, stopLimit, opening, closing}
+use Rattle.rules.specs.Fields.{restOpening, restClosing, restMinutes, service, quantity, legIndex, legMinutes, legDistance}
 
 -- every range, and every index below the length
 pub record Accepted (day : List ℕ) : Type 0 where
