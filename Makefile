@@ -34,7 +34,7 @@ lib: $(LIBRARY)
 # What the library stands on is proved several crates at a time; rt staticlib alone would take one after the other.
 $(LIBRARY): $(PROVED)
 	@echo "The library is proved first and then built: about 4 minutes on two cores, and only once."
-	RT_JOBS=$${RT_JOBS:-3} rt check $(BELOW)
+	RT_JOBS=$${RT_JOBS:-4} rt check $(BELOW)
 	rt staticlib kazhuvendi
 
 test:

@@ -20,8 +20,7 @@ use Rattle.rules.specs.declared.walk.Cargo.{Cargo}
 use Rattle.rules.specs.declared.walk.Trip.{Trip}
 use Rattle.laws.proofs.Tests.{both-true}
 use Rattle.plan_laws.proofs.Theorems.{not-over}
-use Rattle.trips.specs.Trips.{CargoWithin}
-use Rattle.greedy_laws.specs.States.{SmallTrip}
+use Rattle.trips.specs.Trips.{CargoWithin, SmallTrip}
 use Rattle.greedy_laws.specs.Reached.{Reached}
 use Rattle.greedy_laws.proofs.Driving.{reached-keeps, resting-keeps}
 use Rattle.greedy_laws.proofs.NextTasks.{IsNext, takes, empties, waits}

@@ -28,7 +28,7 @@ use Rattle.day.specs.Layout.{LayoutOf, WindowOf, LegOf}
 use Rattle.day.specs.declared.fields.Layout.{Layout}
 use Rattle.day.specs.declared.fields.Leg.{Leg}
 use Rattle.day.specs.declared.fields.Window.{Window}
-use Rattle.greedy_laws.specs.States.{SmallTrip}
+use Rattle.trips.specs.Trips.{SmallTrip}
 use Rattle.ways_home.specs.Bests.{keysEnd, BestBy}
 use Rattle.ways_home.specs.declared.best.Best.{Best}
 use Rattle.ways_home.proofs.BestLaws.{less-key}

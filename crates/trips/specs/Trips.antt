@@ -28,6 +28,12 @@ pub record TripWithin (day : List ℕ) (i : ℕ) (t : Trip) : Type 0 where
   pub minute : t .minute < 268435456
   pub distance : t .distance ≤ 65535 * i
 
+-- a trip is at a place of the day, at a small minute, and its distance is below a number
+pub record SmallTrip (day : List ℕ) (most : ℕ) (t : Trip) : Type 0 where
+  pub place : t .place < places day
+  pub minute : t .minute < 268435456
+  pub distance : t .distance < most
+
 -- the counts after so many words
 pub record TallyWithin (i : ℕ) (y : Tally) : Type 0 where
   pub vehicles : y .vehicles ≤ i

@@ -35,8 +35,8 @@ use Rattle.plan_words.proofs.WordForms.{rest-form}
 use Rattle.day.specs.Layout.{LayoutOf}
 use Rattle.day.specs.declared.fields.Layout.{Layout}
 use Rattle.greedy_laws.specs.Reached.{goesOn}
-use Rattle.trips.specs.Trips.{CargoWithin}
-use Rattle.greedy_laws.specs.States.{SmallTrip, unrouted}
+use Rattle.trips.specs.Trips.{CargoWithin, SmallTrip}
+use Rattle.greedy_laws.specs.States.{unrouted}
 use Rattle.greedy_laws.specs.Rooms.{Paid, Room}
 use Rattle.greedy_laws.proofs.Driving.{resting-due, resting-not}
 use Rattle.greedy_laws.proofs.GreedyRoom.{tasks-counted, rested-paid, rested-room, reached-room}

@@ -10,8 +10,7 @@ use Rattle.rules.specs.Trip.{leaving, visited}
 use Rattle.laws.specs.Marks.{Unmarked}
 use Rattle.day.specs.Layout.{LayoutOf}
 use Rattle.day.specs.declared.fields.Layout.{Layout}
-use Rattle.trips.specs.Trips.{CargoWithin}
-use Rattle.greedy_laws.specs.States.{SmallTrip}
+use Rattle.trips.specs.Trips.{CargoWithin, SmallTrip}
 use Rattle.ways_home.proofs.HomeLaws.{rest-small}
 use Rattle.vehicle_writer.specs.Done.{SmallState, Served, Rested}
 use Rattle.vehicle_writer.specs.declared.state.State.{State}

@@ -13,8 +13,7 @@ use Rattle.rules.specs.Choice.{taking}
 use Rattle.laws.specs.Marks.{marked, Unmarked}
 use Rattle.day.specs.Layout.{LayoutOf}
 use Rattle.day.specs.declared.fields.Layout.{Layout}
-use Rattle.trips.specs.Trips.{CargoWithin}
-use Rattle.greedy_laws.specs.States.{SmallTrip}
+use Rattle.trips.specs.Trips.{CargoWithin, SmallTrip}
 use Rattle.next_task.specs.NextBy.{nextOf, nextBy, NextWithin}
 use Rattle.next_task.specs.declared.tasks.Next.{Next}
 use Rattle.next_task.specs.declared.tasks.Next.the-variants as Nexts

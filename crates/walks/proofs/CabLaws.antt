@@ -21,8 +21,8 @@ use Rattle.laws.proofs.Buffer.{wrote-put, wrote-same}
 use Rattle.day.specs.Layout.{LayoutOf}
 use Rattle.day.specs.declared.fields.Layout.{Layout}
 use Rattle.day.proofs.Ranges.{accepted-ranges}
+use Rattle.trips.specs.Trips.{SmallTrip}
 use Rattle.greedy_laws.specs.Rooms.{Paid}
-use Rattle.greedy_laws.specs.States.{SmallTrip}
 use Rattle.laws.proofs.Decided.{bit-most}
 use Rattle.greedy_laws.proofs.GreedyRoom.{paid-rest, paid-serve, paid-empty, tasks-counted}
 use Rattle.greedy_laws.proofs.VehicleStops.{stops-append, visits-task}

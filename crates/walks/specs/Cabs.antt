@@ -11,8 +11,8 @@ use Rattle.rules.specs.PlanWords.{vehicleWord}
 use Rattle.rules.specs.Plan.{Round, taskWord, stopsOn}
 use Rattle.rules.specs.Build.{Truck}
 use Rattle.laws.specs.Buffer.{Wrote}
+use Rattle.trips.specs.Trips.{SmallTrip}
 use Rattle.greedy_laws.specs.Rooms.{Paid}
-use Rattle.greedy_laws.specs.States.{SmallTrip}
 use Rattle.walks.specs.declared.cabs.Cab.{Cab}
 
 -- the numbers of a vehicle are small, by the tasks that it has done, and its stops are counted

@@ -18,7 +18,7 @@ use Rattle.day.specs.Layout.{LayoutOf, WindowOf, LegOf}
 use Rattle.day.specs.declared.fields.Layout.{Layout}
 use Rattle.day.specs.declared.fields.Leg.{Leg}
 use Rattle.day.specs.declared.fields.Window.{Window}
-use Rattle.greedy_laws.specs.States.{SmallTrip}
+use Rattle.trips.specs.Trips.{SmallTrip}
 
 -- whether a rest is due: done already, too early, and else by R2
 module _ (day : List ℕ) (t : Trip) where

@@ -5,7 +5,7 @@ ghost use Rattle.rules.specs.Fields.{stopPlace, service};
 ghost use Rattle.rules.specs.Trip.{visited};
 ghost use Rattle.rules.specs.Home.{due, restIfDue, homeDirect, homeByTip, wayHome};
 ghost use Rattle.day.specs.Layout.{LayoutOf, WindowOf};
-ghost use Rattle.greedy_laws.specs.States.{SmallTrip};
+ghost use Rattle.trips.specs.Trips.{SmallTrip};
 use day::fields::Layout;
 use day::fields::Window;
 use rules::walk::Trip;
