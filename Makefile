@@ -33,7 +33,7 @@ lib: $(LIBRARY)
 
 # What the library stands on is proved several crates at a time; rt staticlib alone would take one after the other.
 $(LIBRARY): $(PROVED)
-	@echo "The library is proved first and then built: about 4 minutes on two cores, and only once."
+	@echo "The library is proved first and then built: about 5 minutes on two cores, and only once."
 	RT_JOBS=$${RT_JOBS:-4} rt check $(BELOW)
 	rt staticlib kazhuvendi
 
