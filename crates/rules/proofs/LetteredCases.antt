@@ -1,9 +1,13 @@
 -- The lettered cases of document 01, gathered into one theorem, by computation. Assumes nothing.
 use Prim.Native.Nat.{ℕ}
 use mathlib.Core.Path.{_≡_, refl}
+use mathlib.Core.Bool.{false}
 use mathlib.Core.List.{List, [], _∷_}
 use Rattle.rules.specs.Answers.{given, refused}
-use Rattle.rules.specs.Plan.{planWords}
+use Rattle.rules.specs.Fields.{opening}
+use Rattle.rules.specs.Plan.{serve, empty, planWords}
+use Rattle.rules.specs.Calls.{starts}
+use Rattle.rules.specs.EarliestMinutes.{calls, earliestMinutes}
 use Rattle.rules.specs.Check.{checkPlan}
 use Rattle.rules.specs.Build.{greedyLefts}
 use Rattle.rules.specs.Planning.{searched}
@@ -21,7 +25,7 @@ dayJ =
 
 -- the words of the plan with K 5
 unfoldable pub words : List ℕ → ℕ → List ℕ
-words day budget = planWords (searched day (5 ∷ []) budget .plan) (greedyLefts day)
+words day budget = planWords (searched day 5 budget .plan) (greedyLefts day)
 
 -- the answer with K 5, in buffers of ten words
 unfoldable pub answer : List ℕ → ℕ → List ℕ
@@ -41,31 +45,39 @@ abbrev pub twoRounds : List ℕ
 twoRounds =
     0xA0000001 ∷ 0xB0000001 ∷ 0xC0000001 ∷ 0xD0000000 ∷ 0xE0000000 ∷ 0xA0000002 ∷ 0xB0000002 ∷ 0xC0000001 ∷ 0xD0000000 ∷ 0xE0000000 ∷ []
 
+-- one vehicle with the second stop, the first left out
+abbrev pub secondAlone : List ℕ
+secondAlone = 0xA0000001 ∷ 0xB0000002 ∷ 0xC0000001 ∷ 0xD0000000 ∷ 0xE0000000 ∷ 0xF0000001 ∷ []
+
+-- the minutes of the vehicle A1 B1 C1 E, the last that of its return
+abbrev pub minutesH : List ℕ → List ℕ
+minutesH day = earliestMinutes day 0 (opening day 0) false (serve 1 ∷ empty 1 ∷ [])
+
 -- "(a) K 5, budget 6" to "(j) n = 0, budget 0: no words, settled"
 pub record Lettered : Type 0 where
   pub a : (answer (dayM 100 30 60 60 50) 6 ≡ given (35 ∷ 6 ∷ 1 ∷ 0 ∷ 7 ∷ [])) × (words (dayM 100 30 60 60 50) 6 ≡ oneRound)
   pub b : (answer (dayM 100 30 60 60 50) 5 ≡ given (35 ∷ 5 ∷ 0 ∷ 0 ∷ 7 ∷ [])) × (words (dayM 100 30 60 60 50) 5 ≡ oneRound)
   pub c : (answer (dayM 100 30 60 60 49) 6 ≡ given (42 ∷ 4 ∷ 1 ∷ 0 ∷ 10 ∷ [])) × (words (dayM 100 30 60 60 49) 6 ≡ twoRounds)
   pub d : (answer (dayM 100 30 60 100 50) 6 ≡ given (35 ∷ 6 ∷ 1 ∷ 0 ∷ 7 ∷ [])) × (words (dayM 100 30 60 100 50) 6 ≡ oneRound)
-  pub e : answer (dayM 100 30 60 101 50) 6 ≡ given (21 ∷ 1 ∷ 1 ∷ 1 ∷ 6 ∷ [])
+  pub e : (answer (dayM 100 30 60 101 50) 6 ≡ given (21 ∷ 1 ∷ 1 ∷ 1 ∷ 6 ∷ [])) × (words (dayM 100 30 60 101 50) 6 ≡ secondAlone)
   pub f : (answer (dayM 80 30 60 60 50) 6 ≡ given (35 ∷ 6 ∷ 1 ∷ 0 ∷ 7 ∷ [])) × (words (dayM 80 30 60 60 50) 6 ≡ oneRound)
   pub g : (answer (dayM 79 30 60 60 50) 6 ≡ given (42 ∷ 4 ∷ 1 ∷ 0 ∷ 10 ∷ [])) × (words (dayM 79 30 60 60 50) 6 ≡ twoRounds)
-  pub h : checkPlan (dayM 100 20 40 60 50) planH ≡ given (21 ∷ 1 ∷ 1 ∷ [])
+  pub h : (checkPlan (dayM 100 20 40 60 50) planH ≡ given (21 ∷ 1 ∷ 1 ∷ [])) × (minutesH (dayM 100 20 40 60 50) ≡ 10 ∷ 25 ∷ 40 ∷ [])
   pub i : checkPlan (dayM 100 20 39 60 50) planH ≡ refused 12 3
   pub j : (answer dayJ 0 ≡ given (0 ∷ 0 ∷ 1 ∷ 0 ∷ 0 ∷ [])) × (words dayJ 0 ≡ [])
 
 pub lettered : Lettered
-unfolding planning
+unfolding planning starts calls
 lettered =
     record {
       a = (refl, refl);
       b = (refl, refl);
       c = (refl, refl);
       d = (refl, refl);
-      e = refl;
+      e = (refl, refl);
       f = (refl, refl);
       g = (refl, refl);
-      h = refl;
+      h = (refl, refl);
       i = refl;
       j = (refl, refl);
     }

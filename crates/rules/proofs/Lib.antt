@@ -2,5 +2,6 @@ pub mod DayM
 pub mod CheckCases
 pub mod BuildCases
 pub mod TrialCases
+pub mod LawfulCases
 pub mod LetteredCases
 pub mod RefusalCases

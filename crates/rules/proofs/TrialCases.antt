@@ -7,7 +7,7 @@ use Rattle.rules.specs.Edits.{changeStop, changeTip, change, changed, to
 use Rattle.rules.specs.TrialList.{each, rising, vehicleFrom, pairTrials, stopTrials, otherTip, taskTrials, roundTrials, tipTrials, trialList}
 use Rattle.rules.specs.WalkedAgain.{inserting, emptiedFirst, exceeds, servingThen, walkTask, walkNext, walkOn, walkHome, doneBy, walkedAgain}
 use Rattle.rules.specs.Attempts.{retried, joined, triedFrom, distanceOf, isLawful, keptIf, attempt}
-use Rattle.rules.specs.Search.{run, improve, lists}
+use Rattle.rules.specs.Search.{run, improve}
 use Rattle.rules.specs.Planning.{searched}
 use Rattle.rules.proofs.BuildCases.{built}
 
@@ -23,5 +23,5 @@ walked = tt
 
 -- all that planning with trials computes by
 unfoldable pub tried : Unit {0}
-unfolding built listed walked stopsOn total distanceFrom retried joined triedFrom distanceOf isLawful keptIf attempt searched run improve lists
+unfolding built listed walked stopsOn total distanceFrom retried joined triedFrom distanceOf isLawful keptIf attempt searched run improve
 tried = tt

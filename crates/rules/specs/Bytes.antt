@@ -10,7 +10,7 @@ use Rattle.rules.specs.Buffer.{over}
 -- "32-bit words, low byte first": the word of the four bytes from 4i on
 abbrev pub byteWord : List ℕ → ℕ → ℕ
 byteWord bytes i =
-    getD bytes (4 * i) 0 + 256 * getD bytes (4 * i + 1) 0 + 65536 * getD bytes (4 * i + 2) 0 + 16777216 * getD bytes (4 * i + 3) 0
+    getD bytes (4 * i) 0 + 0x100 * getD bytes (4 * i + 1) 0 + 0x10000 * getD bytes (4 * i + 2) 0 + 0x1000000 * getD bytes (4 * i + 3) 0
 
 -- the first so many words of the bytes
 unfoldable pub byteWords : List ℕ → ℕ → List ℕ

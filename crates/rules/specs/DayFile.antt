@@ -11,31 +11,31 @@ use Rattle.rules.specs.Answers.{given, refused}
 
 -- "a lone number is in bits 26-0"
 abbrev pub loneNumber : ℕ → ℕ
-loneNumber w = w % 134217728
+loneNumber w = w % 0x8000000
 
 -- "a window has its opening E in bits 23-12"
 abbrev pub windowOpening : ℕ → ℕ
-windowOpening w = w / 4096 % 4096
+windowOpening w = w / 0x1000 % 0x1000
 
 -- "and closing L in bits 11-0"
 abbrev pub windowClosing : ℕ → ℕ
-windowClosing w = w % 4096
+windowClosing w = w % 0x1000
 
 -- a leg's "minutes t in bits 27-16"
 abbrev pub minutesOf : ℕ → ℕ
-minutesOf w = w / 65536 % 4096
+minutesOf w = w / 0x10000 % 0x1000
 
 -- a leg's "distance in bits 15-0"
 abbrev pub distanceOf : ℕ → ℕ
-distanceOf w = w % 65536
+distanceOf w = w % 0x10000
 
 -- word 0: "d in bits 11-8"
 abbrev pub tipsIn : ℕ → ℕ
-tipsIn w = w / 256 % 16
+tipsIn w = w / 0x100 % 0x10
 
 -- word 0: "n in bits 7-0"
 abbrev pub stopsIn : ℕ → ℕ
-stopsIn w = w % 256
+stopsIn w = w % 0x100
 
 -- "P = 1 + d + n": the depot, the tips, the stops
 abbrev pub placesOf : ℕ → ℕ → ℕ
@@ -99,17 +99,17 @@ formAt d n i =
 
 -- "bits 31-28 are the kind; unnamed bits are zero"
 unfoldable pub kindRight : Form → ℕ → Bool
-kindRight (lone kind least most) w = eqb (w / 134217728) (2 * kind)
-kindRight (window kind) w = eqb (w / 16777216) (16 * kind)
-kindRight leg w = eqb (w / 268435456) 9
-kindRight stay w = eqb (w / 268435456) 9
+kindRight (lone kind least most) w = eqb (w / 0x8000000) (2 * kind)
+kindRight (window kind) w = eqb (w / 0x1000000) (16 * kind)
+kindRight leg w = eqb (w / 0x10000000) 9
+kindRight stay w = eqb (w / 0x10000000) 9
 
 -- a value is in its range: "E ≤ L ≤ 1,440", minutes 0..1,440, "from a place to itself both are 0"
 unfoldable pub valueRight : Form → ℕ → Bool
 valueRight (lone kind least most) w = leb least (loneNumber w) && leb (loneNumber w) most
 valueRight (window kind) w = leb (windowOpening w) (windowClosing w) && leb (windowClosing w) 1440
 valueRight leg w = leb (minutesOf w) 1440
-valueRight stay w = eqb (w % 268435456) 0
+valueRight stay w = eqb (w % 0x10000000) 0
 
 -- what is wrong with a word: 2 "kind or zero bits wrong", 5 "value outside its range", 0 nothing
 unfoldable pub faultOf : Form → ℕ → ℕ
@@ -134,5 +134,5 @@ judgeSized d n day =
 unfoldable pub judgeDay : List ℕ → List ℕ
 judgeDay day =
     if ltb (length day) 7 then refused 1 (length day)
-    else if neb (getD day 0 0 / 4096) 65536 then refused 2 0
+    else if neb (getD day 0 0 / 0x1000) 0x10000 then refused 2 0
     else judgeSized (tipsIn (getD day 0 0)) (stopsIn (getD day 0 0)) day

@@ -13,6 +13,8 @@ pub mod Fields
 pub mod PlanWords
 pub mod Plan
 pub mod Lawful
+pub mod Calls
+pub mod EarliestMinutes
 pub mod Cargo
 pub mod Trip
 pub mod Check
@@ -37,5 +39,5 @@ pub mod SameRounds
 pub mod AnswerValues
 pub mod Built
 pub mod Planned
--- What is promised of planning
+-- What is promised
 pub mod Demands

@@ -34,13 +34,13 @@ resultValues day r =
 unfoldable pub plannedAnswer : List ℕ → (K budget room spare : ℕ) → List ℕ
 plannedAnswer day K budget room spare =
     if fewNeighbours K
-    then (if longEnough day room spare then given (resultValues day (searched day (K ∷ []) budget)) else refused 14 (5 * stops day))
+    then (if longEnough day room spare then given (resultValues day (searched day K budget)) else refused 14 (5 * stops day))
     else refused 13 K
 
 -- "after success the plan buffer is zero from the plan's end to 5n, as before beyond"; "each refusal changes no buffer"
 unfoldable pub plannedBuffer : List ℕ → (K budget spare : ℕ) → List ℕ → List ℕ
 plannedBuffer day K budget spare plan =
-    if fewNeighbours K && longEnough day (length plan) spare then planned day (planWords (searched day (K ∷ []) budget .plan) (greedyLefts day)) plan else plan
+    if fewNeighbours K && longEnough day (length plan) spare then planned day (planWords (searched day K budget .plan) (greedyLefts day)) plan else plan
 
 -- the answer on any day: refusals 1 to 5 first
 unfoldable pub planAnswer : List ℕ → (K budget room spare : ℕ) → List ℕ

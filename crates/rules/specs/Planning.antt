@@ -5,8 +5,8 @@ use Rattle.rules.specs.Plan.{Round}
 use Rattle.rules.specs.Build.{greedyRounds, greedyLefts}
 use Rattle.rules.specs.TrialList.{trialList}
 use Rattle.rules.specs.Attempts.{attempt}
-use Rattle.rules.specs.Search.{Result, improve, lists}
+use Rattle.rules.specs.Search.{Result, improve}
 
--- for a list of neighbourhoods: "that plan", the greedy one, "is worked over"
-unfoldable pub searched : List ℕ → List ℕ → ℕ → Result (List Round)
-searched day Ks budget = improve (lists (trialList day) Ks) (attempt day (greedyLefts day)) budget (greedyRounds day)
+-- "that plan", the greedy one, "is worked over", by trials with K neighbours
+unfoldable pub searched : List ℕ → (K budget : ℕ) → Result (List Round)
+searched day K budget = improve (trialList day K) (attempt day (greedyLefts day)) budget (greedyRounds day)

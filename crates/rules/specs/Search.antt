@@ -33,14 +33,3 @@ module _ {P M : Type 0} (list : P → List M) (attempt : P → M → Option P) w
     start : Held first first zero
     kept : {p q : P} {made : ℕ} (done : List M) (m : M) (rest : List M) → Held first p made → list p ≡ done ++ (m ∷ rest)
         → ((x : M) → List·Memᴰ x done → attempt p x ≡ none) → attempt p m ≡ some q → Held first q (made + length done + 1)
-
--- several neighbourhoods, one behind the other: a kept trial returns to the first, a list with none kept goes on to the next. With one
--- neighbourhood it is the search over its list.
-unfoldable pub lists : {P M N : Type 0} → (N → P → List M) → List N → P → List M
-lists list [] p = []
-lists list (k ∷ ks) p = list k p ++ lists list ks p
-
--- the sum of the neighbourhoods' sizes
-unfoldable pub sum : List ℕ → ℕ
-sum [] = 0
-sum (x ∷ xs) = x + sum xs
