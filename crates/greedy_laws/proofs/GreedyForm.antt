@@ -3,7 +3,7 @@
 -- Assumes nothing.
 use Prim.Native.Nat.{ℕ, _+_, _≤_, _<_}
 use mathlib.Core.Path.{_≡_, ap}
-use mathlib.Core.List.{List, [], _∷_, _++_}
+use mathlib.Core.List.{List, [], _++_}
 use native.Mathlib.Omega.{arith}
 use lib.ListN.{length, length-append}
 use Rattle.rules.specs.Lists.{Every, mem, times, Rising}
@@ -12,16 +12,11 @@ use Rattle.rules.specs.Plan.{stopsOn, stopsOnAll, Known}
 use Rattle.rules.specs.Build.{routed, greedyRounds, greedyLefts}
 use Rattle.laws.specs.Lists.{collect}
 use Rattle.laws.proofs.Fresh.{once, fresh-times, fresh-length, once-fresh, every-append, every-weaker, unmet-most}
+use Rattle.laws.proofs.Lists.{times-append}
 use Rattle.plan_laws.proofs.Theorems.{known-all}
 use Rattle.greedy_laws.proofs.Fleets.{fleet-every, fleet-routes}
 use Rattle.greedy_laws.proofs.LeftOut.{Remains, remaining-are, remaining-rising, remaining-once}
 use Rattle.greedy_laws.proofs.VehicleStops.{vehicle-routes}
-
--- a number in a list of two parts
-pub times-append : (k : ℕ) (xs ys : List ℕ) → times k (xs ++ ys) ≡ times k xs + times k ys
-unfolding times
-times-append k [] ys = omega arith
-times-append k (x ∷ xs) ys = omega (arith, times-append k xs ys)
 
 -- what `Formed` asks of the vehicles and of the F words
 module _ (day : List ℕ) where

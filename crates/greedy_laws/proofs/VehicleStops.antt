@@ -3,12 +3,12 @@
 use Prim.Native.Nat.{ℕ, _+_}
 use mathlib.Core.Path.{_≡_, refl, sym, ap, _∙_}
 use mathlib.Core.Bool.{true, false}
-use mathlib.Core.List.{List, [], _∷_, _++_, append-nil}
+use mathlib.Core.List.{List, [], _∷_, append-nil}
 use native.Mathlib.Omega.{arith}
 use lib.ListN.{length, length-append}
 use Rattle.rules.specs.Lists.{Every, unmet}
 use Rattle.rules.specs.Fields.{stops}
-use Rattle.rules.specs.Plan.{Task, serve, empty, lunch, Round, stopsOn, stopsOnAll, Known, wordFor}
+use Rattle.rules.specs.Plan.{Task, serve, empty, lunch, stopsOn, stopsOnAll, Known, wordFor}
 use Rattle.rules.specs.Cargo.{cargoAfter}
 use Rattle.rules.specs.Check.{metAfter}
 use Rattle.rules.specs.Home.{due}
@@ -16,18 +16,11 @@ use Rattle.rules.specs.Build.{Truck, fresh, doing, oneVehicle, resting}
 use Rattle.rules.specs.declared.walk.Cargo.{Cargo}
 use Rattle.laws.specs.Lists.{collect, Fresh}
 use Rattle.laws.proofs.Fresh.{collect-append, fresh-append, fresh-length, every-append}
+use Rattle.laws.proofs.Plan.{stops-append}
 use Rattle.plan_laws.proofs.Theorems.{known-all}
 use Rattle.greedy_laws.specs.Reached.{Reached}
 use Rattle.greedy_laws.proofs.Driving.{reached-keeps, vehicle-keeps, resting-keeps}
 use Rattle.greedy_laws.proofs.NextTasks.{IsNext, takes, empties, waits}
-
--- the stops of two parts of a round
-pub stops-append : (xs ys : Round) → stopsOn (xs ++ ys) ≡ stopsOn xs ++ stopsOn ys
-unfolding stopsOn
-stops-append [] ys = refl
-stops-append (serve k ∷ xs) ys = ap (λ (ks : List ℕ). k ∷ ks) (stops-append xs ys)
-stops-append (empty k ∷ xs) ys = stops-append xs ys
-stops-append (lunch ∷ xs) ys = stops-append xs ys
 
 -- a task adds its stop, where it has one
 met-task : (met : List ℕ) (task : Task) → metAfter met (wordFor task) ≡ collect met (stopsOn (task ∷ []))

@@ -7,5 +7,6 @@ pub mod Fresh
 pub mod Least
 pub mod Lists
 pub mod Marks
+pub mod Plan
 pub mod Tests
 pub mod Walk

@@ -4,13 +4,13 @@ use Prim.Native.Nat.{ℕ, zero, suc, _+_, _≤_, _<_}
 use mathlib.Core.Path.{_≡_, refl, ap, _∙_}
 use mathlib.Core.Bool.{true, false}
 use mathlib.Core.Logic.{_≢_}
-use mathlib.Core.List.{List, [], _∷_, map}
+use mathlib.Core.List.{List, [], _∷_, map, _++_}
 use native.Mathlib.Decide.{ℕ-discrete}
 use native.Mathlib.Omega.{arith}
 use lib.ListN.{length, getD, set}
 use lib.Seq.{getD-set-same, getD-set-other}
 use borrow.Author.Tests.{eq-eqb, ne-eqb}
-use Rattle.rules.specs.Lists.{Every, mem, unmet}
+use Rattle.rules.specs.Lists.{Every, mem, unmet, times}
 
 -- what holds of each element holds of the one at a place
 pub every-at : {A : Type 0} (P : A → Type 0) (xs : List A) (i : ℕ) (d : A) → Every P xs → i < length xs → P (getD xs i d)
@@ -66,3 +66,9 @@ unmet-less (suc n) k xs h g e = go (ℕ-discrete (suc n) k) (λ l. unmet-less n 
         let here : mem (suc n) xs ≡ false = ap (λ (j : ℕ). mem j xs) q ∙ e in
         rw (mem-same k (suc n) xs q, unmet-beyond n k xs (omega arith), here) (omega arith)
     go (no q) rest = rw (mem-other k (suc n) xs q) (omega (arith, rest (omega arith)))
+
+-- a number in a list of two parts
+pub times-append : (k : ℕ) (xs ys : List ℕ) → times k (xs ++ ys) ≡ times k xs + times k ys
+unfolding times
+times-append k [] ys = omega arith
+times-append k (x ∷ xs) ys = omega (arith, times-append k xs ys)

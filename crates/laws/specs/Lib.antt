@@ -3,4 +3,5 @@ pub mod Buffer
 pub mod Least
 pub mod Lists
 pub mod Marks
+pub mod Plan
 pub mod Walk

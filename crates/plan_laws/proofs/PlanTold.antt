@@ -3,13 +3,13 @@
 -- Assumes nothing.
 use Prim.Native.Nat.{ℕ, suc}
 use mathlib.Core.Path.{_≡_, refl, sym, ap, ap₂, _∙_, subst}
-use mathlib.Core.Bool.{true}
+use mathlib.Core.Bool.{Bool, true, false, false≢true}
 use mathlib.Core.List.{List, [], _∷_, _++_, map, nil≢cons, head-eq-of-cons-eq, tail-eq-of-cons-eq}
 use native.Mathlib.Omega.{arith}
 use Rattle.rules.specs.Answers.{given, isGiven}
 use Rattle.rules.specs.Lists.{Every}
 use Rattle.rules.specs.Fields.{IsAccepted}
-use Rattle.rules.specs.PlanWords.{Word, vehicle, stop, tip, rest, back, left, stray}
+use Rattle.rules.specs.PlanWords.{Word, vehicle, stop, tip, rest, back, left, stray, readPlan}
 use Rattle.rules.specs.Plan.{Task, serve, empty, lunch, Round, planWords, Formed, wordFor}
 use Rattle.rules.specs.Lawful.{Loads, Timed, Lawful, totals}
 use Rattle.rules.specs.Check.{checkPlan, checkWords}
@@ -34,18 +34,34 @@ for-task (serve k) = refl
 for-task (empty k) = refl
 for-task lunch = refl
 
-not-back : (task : Task) → back ≡ wordFor task → ⊥
-not-back (serve k) e = let z : _≡_ {A = ℕ} 0 1 = cc in omega arith
-not-back (empty k) e = let z : _≡_ {A = ℕ} 0 1 = cc in omega arith
-not-back lunch e = let z : _≡_ {A = ℕ} 0 1 = cc in omega arith
+-- words that begin with no task
+abbrev pub NoTask : List Word → Type 0
+NoTask ws = (task : Task) (us : List Word) → ws ≡ wordFor task ∷ us → ⊥
 
--- a vehicle's tasks end at its E
-tasks-told : (tasks others : Round) (ws us : List Word) → map wordFor tasks ++ (back ∷ ws) ≡ map wordFor others ++ (back ∷ us) → (tasks ≡ others) × (ws ≡ us)
-tasks-told [] [] ws us e = (refl, tail-eq-of-cons-eq e)
-tasks-told [] (other ∷ others) ws us e = absurd (not-back other (head-eq-of-cons-eq e))
-tasks-told (task ∷ tasks) [] ws us e = absurd (not-back task (sym (head-eq-of-cons-eq e)))
-tasks-told (task ∷ tasks) (other ∷ others) ws us e =
-    let p = tasks-told tasks others ws us (tail-eq-of-cons-eq e) in
+abbrev pub isTask : Word → Bool
+isTask (stop k) = true
+isTask (tip k) = true
+isTask rest = true
+isTask back = false
+isTask (vehicle k) = false
+isTask (left k) = false
+isTask stray = false
+
+task-is : (task : Task) → isTask (wordFor task) ≡ true
+task-is (serve k) = refl
+task-is (empty k) = refl
+task-is lunch = refl
+
+pub no-task : (u : Word) (ws : List Word) → isTask u ≡ false → NoTask (u ∷ ws)
+no-task u ws x task us e = false≢true (sym x ∙ ap isTask (head-eq-of-cons-eq e) ∙ task-is task)
+
+-- a vehicle's tasks end where no task comes
+pub tasks-told : (tasks others : Round) (ws us : List Word) → NoTask ws → NoTask us → map wordFor tasks ++ ws ≡ map wordFor others ++ us → (tasks ≡ others) × (ws ≡ us)
+tasks-told [] [] ws us n m e = (refl, e)
+tasks-told [] (other ∷ others) ws us n m e = absurd (n other _ e)
+tasks-told (task ∷ tasks) [] ws us n m e = absurd (m task _ (sym e))
+tasks-told (task ∷ tasks) (other ∷ others) ws us n m e =
+    let p = tasks-told tasks others ws us n m (tail-eq-of-cons-eq e) in
     let same : task ≡ other = sym (for-task task) ∙ ap taskFor (head-eq-of-cons-eq e) ∙ for-task other in
     (ap₂ (λ (t : Task) (ts : Round). t ∷ ts) same (p .0), p .1)
 
@@ -54,14 +70,39 @@ not-left : (lefts : List ℕ) (number : ℕ) (ws : List Word) → map left lefts
 not-left [] number ws e = nil≢cons e
 not-left (k ∷ lefts) number ws e = let z : _≡_ {A = ℕ} 0 1 = cc in omega arith
 
-rounds-told : (from : ℕ) (rounds others : List Round) (lefts away : List ℕ) → says from rounds lefts ≡ says from others away → rounds ≡ others
+lefts-told : (lefts away : List ℕ) → map left lefts ≡ map left away → lefts ≡ away
+lefts-told [] [] e = refl
+lefts-told [] (k ∷ away) e = absurd (nil≢cons e)
+lefts-told (k ∷ lefts) [] e = absurd (nil≢cons (sym e))
+lefts-told (k ∷ lefts) (l ∷ away) e =
+    let same : k ≡ l = cc in
+    ap₂ (λ (x : ℕ) (xs : List ℕ). x ∷ xs) same (lefts-told lefts away (tail-eq-of-cons-eq e))
+
+-- what a plan says tells its vehicles and the stops left out
+rounds-told : (from : ℕ) (rounds others : List Round) (lefts away : List ℕ) → says from rounds lefts ≡ says from others away → (rounds ≡ others) × (lefts ≡ away)
 unfolding says
-rounds-told from [] [] lefts away e = refl
+rounds-told from [] [] lefts away e = (refl, lefts-told lefts away e)
 rounds-told from [] (other ∷ others) lefts away e = absurd (not-left lefts (suc from) _ e)
 rounds-told from (tasks ∷ rounds) [] lefts away e = absurd (not-left away (suc from) _ (sym e))
 rounds-told from (tasks ∷ rounds) (other ∷ others) lefts away e =
-    let p = tasks-told tasks other _ _ (tail-eq-of-cons-eq e) in
-    ap₂ (λ (t : Round) (ts : List Round). t ∷ ts) (p .0) (rounds-told (suc from) rounds others lefts away (p .1))
+    let p = tasks-told tasks other _ _ (no-task back _ refl) (no-task back _ refl) (tail-eq-of-cons-eq e) in
+    let q = rounds-told (suc from) rounds others lefts away (tail-eq-of-cons-eq (p .1)) in
+    (ap₂ (λ (t : Round) (ts : List Round). t ∷ ts) (p .0) (q .0), q .1)
+
+-- a plan of the form says its vehicles and the stops left out
+pub formed-says : (day plan : List ℕ) (rounds : List Round) (lefts : List ℕ) → Formed day plan rounds lefts → readPlan plan ≡ says 0 rounds lefts
+unfolding planWords
+formed-says day plan rounds lefts f = f .text ∙ plan-says day 0 rounds lefts (f .known) (f .others) (omega (arith, few-rounds day plan rounds lefts f))
+
+-- so there are no others
+pub formed-only : (day plan : List ℕ) (rounds others : List Round) (lefts away : List ℕ) → Formed day plan rounds lefts → Formed day plan others away
+    → (rounds ≡ others) × (lefts ≡ away)
+formed-only day plan rounds others lefts away f g =
+    rounds-told 0 rounds others lefts away (sym (formed-says day plan rounds lefts f) ∙ formed-says day plan others away g)
+
+-- a lawful plan has one list of rounds, and one of stops left out
+pub lawful-only : (day plan : List ℕ) (a b : Lawful day plan) → (a .rounds ≡ b .rounds) × (a .lefts ≡ b .lefts)
+lawful-only day plan a b = formed-only day plan (a .rounds) (b .rounds) (a .lefts) (b .lefts) (a .formed) (b .formed)
 
 module _ (day : List ℕ) where
   -- vehicles whose words the check calls lawful: they have the form, loads and timetables, and the check answers with their totals
@@ -75,13 +116,7 @@ module _ (day : List ℕ) where
     found = lawful-iff day (planWords rounds lefts) .0 answered .1
 
     same : found .rounds ≡ rounds
-    unfolding planWords
-    same =
-        let g = found .formed in
-        let here = plan-says day 0 (found .rounds) (found .lefts) (g .known) (g .others)
-        (omega (arith, few-rounds day (planWords rounds lefts) (found .rounds) (found .lefts) g)) in
-        let there = plan-says day 0 rounds lefts (f .known) (f .others) (omega (arith, few-rounds day (planWords rounds lefts) rounds lefts f)) in
-        rounds-told 0 (found .rounds) rounds (found .lefts) lefts (sym here ∙ sym (g .text) ∙ there)
+    same = formed-only day (planWords rounds lefts) (found .rounds) rounds (found .lefts) lefts (found .formed) f .0
 
     pub told-lawful : Lawful day (planWords rounds lefts)
     told-lawful =

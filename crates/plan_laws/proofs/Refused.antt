@@ -1,0 +1,92 @@
+-- What a refusal leaves: "each refusal changes no buffer". And where 0 is none of a call's numbers, `isGiven` tells refusals from answers.
+-- Assumes nothing.
+use Prim.Native.Nat.{ℕ, _*_}
+use mathlib.Core.Path.{_≡_, refl, sym, ap, subst, _∙_}
+use mathlib.Core.Bool.{Bool, true, false, _&&_, false≢true}
+use mathlib.Core.List.{List}
+use mathlib.Core.Logic.{_↔_}
+use lib.Dec.{ltb}
+use lib.ListN.{length}
+use borrow.Author.Tests.{ne-eqb}
+use Rattle.rules.specs.Tests.{if_then_else_}
+use Rattle.rules.specs.Answers.{given, refused, isGiven}
+use Rattle.rules.specs.Lists.{mem}
+use Rattle.rules.specs.Bytes.{readAnswer, readBuffer}
+use Rattle.rules.specs.DayFile.{judgeDay}
+use Rattle.rules.specs.Fields.{stops}
+use Rattle.rules.specs.Built.{builtAnswer, buildAnswer, builtBuffer, buildBuffer}
+use Rattle.rules.specs.Planned.{fewNeighbours, longEnough, plannedAnswer, plannedBuffer, planAnswer, planBuffer}
+use Rattle.rules.specs.Demands.{AnswersBy, answer, refusal}
+
+-- a refusal by one of the numbers
+pub record IsRefused (numbers answered : List ℕ) : Type 0 where
+  pub number : ℕ
+  pub place : ℕ
+  pub listed : mem number numbers ≡ true
+  pub said : answered ≡ refused number place
+
+-- an answer
+pub record IsAnswer (answered : List ℕ) : Type 0 where
+  pub values : List ℕ
+  pub said : answered ≡ given values
+
+-- a call none of whose numbers is 0: `isGiven` says yes exactly of an answer, and no exactly of a refusal by one of them
+module _ (numbers : List ℕ) (none : mem 0 numbers ≡ false) where
+  -- a refusal by one of them is no answer
+  not-zero : (number place : ℕ) → mem number numbers ≡ true → isGiven (refused number place) ≡ false
+  not-zero number place m = ne-eqb number 0 (λ z. false≢true (sym none ∙ subst (λ (k : ℕ). mem k numbers ≡ true) z m))
+
+  -- yes, of an answer
+  pub given-exactly : {answered : List ℕ} → AnswersBy numbers answered → (isGiven answered ≡ true) ↔ IsAnswer answered
+  given-exactly by = (there by, λ a. ap isGiven (a .said))
+    where
+      there : {answered : List ℕ} → AnswersBy numbers answered → isGiven answered ≡ true → IsAnswer answered
+      there (answer values) e = record { values = values; said = refl }
+      there (refusal number place m) e = absurd (false≢true (sym (not-zero number place m) ∙ e))
+
+  -- no, of a refusal
+  pub refused-exactly : {answered : List ℕ} → AnswersBy numbers answered → (isGiven answered ≡ false) ↔ IsRefused numbers answered
+  refused-exactly by = (there by, λ r. ap isGiven (r .said) ∙ not-zero (r .number) (r .place) (r .listed))
+    where
+      there : {answered : List ℕ} → AnswersBy numbers answered → isGiven answered ≡ false → IsRefused numbers answered
+      there (answer values) e = absurd (false≢true (sym e))
+      there (refusal number place m) e = record { number = number; place = place; listed = m; said = refl }
+
+-- answer and buffer that one test decides: the buffer is kept if it is in both outcomes
+kept-if : (t : Bool) (first second after other before : List ℕ) → (isGiven first ≡ false → after ≡ before) → (isGiven second ≡ false → other ≡ before)
+    → isGiven (if t then first else second) ≡ false → (if t then after else other) ≡ before
+kept-if true first second after other before h g e = h e
+kept-if false first second after other before h g e = g e
+
+-- byte reading
+pub read-kept : (bytes words : List ℕ) → isGiven (readAnswer bytes (length words)) ≡ false → readBuffer bytes words ≡ words
+unfolding readBuffer
+read-kept bytes words e = rw e
+
+-- the build on an accepted day
+built-kept : (day plan : List ℕ) → isGiven (builtAnswer day (length plan)) ≡ false → builtBuffer day plan ≡ plan
+unfolding builtAnswer builtBuffer
+built-kept day plan e = kept-if (ltb (length plan) (5 * stops day)) _ _ plan _ plan (λ r. refl) (λ r. absurd (false≢true (sym r))) e
+
+-- the build on any day
+pub build-kept : (day plan : List ℕ) → isGiven (buildAnswer day (length plan)) ≡ false → buildBuffer day plan ≡ plan
+unfolding buildAnswer buildBuffer
+build-kept day plan e = kept-if (isGiven (judgeDay day)) _ _ _ plan plan (built-kept day plan) (λ r. refl) e
+
+-- planning with trials, on an accepted day
+planned-kept : (day : List ℕ) (K budget spare : ℕ) (plan : List ℕ) → isGiven (plannedAnswer day K budget (length plan) spare) ≡ false
+    → plannedBuffer day K budget spare plan ≡ plan
+unfolding plannedAnswer plannedBuffer
+planned-kept day K budget spare plan e = go (fewNeighbours K) (longEnough day (length plan) spare) _ _ _ e
+  where
+    go : (few long : Bool) (values after : List ℕ) (needed : ℕ)
+        → isGiven (if few then (if long then given values else refused 14 needed) else refused 13 K) ≡ false → (if few && long then after else plan) ≡ plan
+    go true true values after needed r = absurd (false≢true (sym r))
+    go true false values after needed r = refl
+    go false long values after needed r = refl
+
+-- planning with trials, on any day
+pub plan-kept : (day : List ℕ) (K budget spare : ℕ) (plan : List ℕ) → isGiven (planAnswer day K budget (length plan) spare) ≡ false
+    → planBuffer day K budget spare plan ≡ plan
+unfolding planAnswer planBuffer
+plan-kept day K budget spare plan e = kept-if (isGiven (judgeDay day)) _ _ _ plan plan (planned-kept day K budget spare plan) (λ r. refl) e
