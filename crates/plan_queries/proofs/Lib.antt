@@ -1,4 +1,3 @@
 pub mod PlanCalls
 pub mod RoundsCompared
-pub mod ToldApart
 pub mod VehicleParts

@@ -14,7 +14,7 @@ use Rattle.rules.specs.DayFile.{judgeDay}
 use Rattle.rules.specs.PlanWords.{wordOf}
 use Rattle.rules.specs.Check.{checkWords, checkPlan}
 use Rattle.rules.specs.VehiclePlace.{isVehicle, isBack, wordsToBack, placeFrom, vehiclePlace, vehicleWords}
-use Rattle.rules.specs.SameRounds.{counted, sameWords, secondAnswer, sameRounds}
+use Rattle.rules.specs.SameRounds.{isVisit, counted, sameWords, secondAnswer, sameRounds}
 use Rattle.rules.specs.declared.answers.Answer.{Answer}
 use Rattle.rules.specs.declared.answers.Answer.the-variants as Answers
 use Rattle.rules.specs.declared.answers.PlaceAnswer.{PlaceAnswer}
@@ -119,7 +119,7 @@ module _ (day plan : List ℕ) (number : ℕ) where
 -- same rounds: the second plan's answer, and the first's
 module _ (day first second : List ℕ) where
   module _ {answer : Answer} (e : answerValues answer ≡ checkPlan day second) where
-    module _ {a b c : ℕ} (q : answer ≡ Answers.Lawful a b c) {t : Bool} (s : t ≡ sameWords (counted first) (counted second)) where
+    module _ {a b c : ℕ} (q : answer ≡ Answers.Lawful a b c) {t : Bool} (s : t ≡ sameWords (counted isVisit first) (counted isVisit second)) where
       pub rounds-same : t ≡ true → given (1 ∷ []) ≡ secondAnswer day first second
       unfolding secondAnswer
       rounds-same z = rw (lawful-given day second e q, ← s, z)

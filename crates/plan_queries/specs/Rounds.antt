@@ -5,11 +5,11 @@ use mathlib.Core.Bool.{true}
 use mathlib.Core.List.{List}
 use lib.ListN.{length, drop, getD}
 use Rattle.rules.specs.PlanWords.{wordOf}
-use Rattle.rules.specs.SameRounds.{counts, counted}
+use Rattle.rules.specs.SameRounds.{isVisit, counts, counted}
 
 -- the next word that counts, or the end: those between do not count
 pub record NextCounted (plan : List ℕ) (from r : ℕ) : Type 0 where
   pub after : from ≤ r
   pub inside : r ≤ length plan
-  pub same : counted (drop from plan) ≡ counted (drop r plan)
-  pub here : r < length plan → counts (wordOf (getD plan r 0)) ≡ true
+  pub same : counted isVisit (drop from plan) ≡ counted isVisit (drop r plan)
+  pub here : r < length plan → counts isVisit (wordOf (getD plan r 0)) ≡ true

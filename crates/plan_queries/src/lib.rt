@@ -1,6 +1,6 @@
 // One vehicle's part of a lawful plan, and the rounds of two lawful plans.
-pub mod rounds;
-pub mod vehicles;
+mod rounds;
+mod vehicles;
 
 ghost use mathlib.Core.Path.{_≡_};
 ghost use lib.ListN.{length};

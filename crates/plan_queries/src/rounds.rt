@@ -4,12 +4,12 @@ ghost use mathlib.Core.Bool.{true};
 ghost use Prim.Native.Nat.{_≤_};
 ghost use lib.ListN.{length};
 ghost use Rattle.rules.specs.PlanWords.{wordOf};
-ghost use Rattle.rules.specs.SameRounds.{counts, counted, sameWords};
+ghost use Rattle.rules.specs.SameRounds.{isVisit, counts, counted, sameWords};
 ghost use Rattle.plan_queries.specs.Rounds.{NextCounted};
 
 // Whether a word counts: a vehicle or a stop.
 fn is_counted(w: u32) -> bool
-    ensures { λ r. ⌜ r ≡ counts (wordOf w) ⌝ }
+    ensures { λ r. ⌜ r ≡ counts isVisit (wordOf w) ⌝ }
 {
     if plan_words::is_stop(w) {
         return true;
@@ -33,8 +33,8 @@ fn next_counted(plan: &[u32], from: usize) -> usize
 }
 
 // Whether the words that count are the same.
-pub fn are_same(first: &[u32], second: &[u32]) -> bool
-    ensures { λ r. ⌜ r ≡ sameWords (counted (now (first .entry))) (counted (now (second .entry))) ⌝ }
+pub(crate) fn are_same(first: &[u32], second: &[u32]) -> bool
+    ensures { λ r. ⌜ r ≡ sameWords (counted isVisit (now (first .entry))) (counted isVisit (now (second .entry))) ⌝ }
 {
     let mut i = next_counted(first, 0);
     let mut j = next_counted(second, 0);

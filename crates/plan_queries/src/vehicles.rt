@@ -33,7 +33,7 @@ fn part_length(plan: &[u32], from: usize) -> usize
 }
 
 // Where a vehicle's words stand in a lawful plan.
-pub fn place_in(plan: &[u32], number: u64) -> PlaceAnswer
+pub(crate) fn place_in(plan: &[u32], number: u64) -> PlaceAnswer
     ensures { λ r. ⌜ placeValues r ≡ placeFrom number (now (plan .entry)) 0 ⌝ }
 {
     let mut i: usize = 0;

@@ -3,13 +3,13 @@ use Prim.Native.Nat.{_≤_, _-_}
 use borrow.Author.Needs.{needs}
 use lib.ListN.{length, drop}
 use mathlib.Core.Path.{_≡_, refl}
-use Rattle.rules.specs.SameRounds.{counted}
+use Rattle.rules.specs.SameRounds.{isVisit, counted}
 use Rattle.plan_queries.proofs.RoundsCompared.{next-here, next-later, next-none}
 use Rattle.plan_queries.proofs.rounds.next_counted.Statement.{statement}
 use Rattle.plan_queries.proofs.rounds.next_counted.Tie as tie
 
 abbrev Inv-loop : tie.InvT-loop
-Inv-loop plan from i₀ i = (from ≤ i) × (i ≤ length plan) × (counted (drop from plan) ≡ counted (drop i plan))
+Inv-loop plan from i₀ i = (from ≤ i) × (i ≤ length plan) × (counted isVisit (drop from plan) ≡ counted isVisit (drop i plan))
 
 abbrev μ-loop : tie.MeasureT-loop
 μ-loop plan from i₀ i = length plan - i
