@@ -19,21 +19,22 @@ use Rattle.rules.specs.Check.{checkWords, checkPlan}
 use Rattle.rules.specs.Build.{greedyLefts}
 use Rattle.rules.specs.Edits.{Trial}
 use Rattle.rules.specs.Attempts.{tried, distanceOf, isLawful, keptIf, attempt}
-use Rattle.day.proofs.Ranges.{accepted-ranges}
 use Rattle.laws.specs.Buffer.{Wrote}
 use Rattle.laws.proofs.Buffer.{over-front}
 use Rattle.laws.proofs.Decided.{known}
+use Rattle.day.proofs.Ranges.{accepted-ranges}
+use Rattle.plan_laws.proofs.Theorems.{told-totals}
 use Rattle.walks.specs.declared.vehicle.Walked.{Walked}
 use Rattle.trial_list.specs.Shapes.{Shaped}
 use Rattle.trial_list.proofs.Shapes.{shaped-formed}
-use Rattle.attempts.specs.Candidates.{SomeTrying, CandidateAs}
+use Rattle.candidates.specs.Candidates.{SomeTrying, CandidateAs}
+use Rattle.candidates.proofs.CopyLaws.{front-part}
+use Rattle.candidates.proofs.NextRounds.{few-vehicles}
+use Rattle.candidates.proofs.ShapeKept.{valid-shaped}
+use Rattle.candidates.proofs.WrittenLaws.{ends-inside}
 use Rattle.attempts.specs.Tries.{Made, NoneKept, TriedAs, LawfulBy, Judged}
 use Rattle.attempts.specs.declared.tries.Tried.{Tried}
-use Rattle.plan_laws.proofs.Theorems.{told-totals}
-use Rattle.attempts.proofs.ShapeKept.{valid-shaped}
-use Rattle.attempts.proofs.NextRounds.{few-vehicles}
 use Rattle.attempts.proofs.ShorterLaws.{attempt-failed}
-use Rattle.attempts.proofs.WrittenLaws.{ends-inside}
 
 -- the answer's numbers
 same-distance : {d e v u s w : ℕ} → _≡_ {A = List ℕ} (given (d ∷ v ∷ s ∷ [])) (given (e ∷ u ∷ w ∷ [])) → d ≡ e
@@ -118,10 +119,6 @@ words-fit {ws} {p} w = omega (arith, w .count, ap length (w .text), length-appen
 
 pub candidate-fits : {day : List ℕ} {m : Trial} {rounds : List Round} {p part : List ℕ} {c : Walked} → CandidateAs day m rounds p part c → c .stuck ≡ false → c .words ≤ length part
 candidate-fits a g = words-fit (a .written g .text)
-
--- a part from the front
-pub front-part : (n : ℕ) (xs : List ℕ) → take (n - 0) (drop 0 xs) ≡ take n xs
-front-part n xs = let e : n - 0 ≡ n = omega arith in ap (λ (k : ℕ). take k xs) e
 
 -- what the trial comes to
 module _ {day plan starts distances tracks : List ℕ} {m : Trial} {count distance : ℕ} {rounds : List Round} (ok : IsAccepted day) (h : Made day plan starts distances tracks m count distance rounds) where

@@ -1,11 +1,5 @@
-pub mod CandidateLaws
-pub mod CopyLaws
 pub mod Gains
 pub mod KeptLaws
-pub mod NextRounds
-pub mod RoundLists
-pub mod ShapeKept
 pub mod ShorterLaws
 pub mod SpanOfTrials
 pub mod TryLaws
-pub mod WrittenLaws

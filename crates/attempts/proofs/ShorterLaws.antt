@@ -16,15 +16,15 @@ use Rattle.rules.specs.Build.{greedyLefts}
 use Rattle.rules.specs.Edits.{Trial, touches, changed}
 use Rattle.rules.specs.WalkedAgain.{walkedAgain}
 use Rattle.rules.specs.Attempts.{retried, tried, distanceOf, keptIf, attempt}
-use Rattle.day.proofs.Ranges.{accepted-ranges}
 use Rattle.laws.proofs.Decided.{known}
+use Rattle.day.proofs.Ranges.{accepted-ranges}
 use Rattle.walks.specs.Rewalks.{AgainAs}
 use Rattle.walks.specs.declared.vehicle.Walked.{Walked}
 use Rattle.trial_list.specs.Shapes.{Valid, moved-before, moved-after, swapped, removed, replaced}
+use Rattle.candidates.proofs.NextRounds.{few-vehicles, plan-short, vehicle-stands}
+use Rattle.candidates.proofs.RoundLists.{tried-fails}
 use Rattle.attempts.specs.Tries.{Numbers, SomeTouched, Retries, Measured, SomeMeasured, SomeMade}
 use Rattle.attempts.proofs.Gains.{gain, tried-at, driven-one, driven-pair, tried-length}
-use Rattle.attempts.proofs.NextRounds.{few-vehicles, plan-short, vehicle-stands}
-use Rattle.attempts.proofs.RoundLists.{tried-fails}
 
 -- none is kept where the trial fails, or its plan is no shorter
 kept-none : (day lefts : List ℕ) (rounds : List Round) (o : Option (List Round)) → ((q : List Round) → o ≡ some q → distanceOf day rounds ≤ distanceOf day q)

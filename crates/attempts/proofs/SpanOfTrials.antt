@@ -11,9 +11,9 @@ use Rattle.rules.specs.Lists.{times}
 use Rattle.rules.specs.Plan.{Round, stopsOn}
 use Rattle.rules.specs.Edits.{Trial}
 use Rattle.laws.proofs.Decided.{known, bit-most}
+use Rattle.spans.specs.Span.{Single}
 use Rattle.trial_list.specs.Shapes.{StandsOn, On, Valid, moved-before, moved-after, swapped, removed, replaced}
 use Rattle.trial_list.proofs.Shapes.{each-vehicle}
-use Rattle.tracks.specs.Span.{Single}
 
 module _ {day : List ℕ} {rounds : List Round} (v : ℕ) (l : v < length rounds) where
   -- a stop stands on its own vehicle

@@ -9,16 +9,16 @@ use Rattle.rules.specs.Fields.{stops, IsAccepted}
 use Rattle.rules.specs.Plan.{Round, taskWord}
 use Rattle.rules.specs.Edits.{Trial, touches}
 use Rattle.day.proofs.Ranges.{accepted-ranges}
+use Rattle.spans.specs.Span.{Outside}
+use Rattle.onward.specs.Behind.{BehindOf}
 use Rattle.walks.specs.Rewalks.{Walkable}
-use Rattle.tracks.specs.Before.{BeforeOf}
-use Rattle.tracks.specs.Behind.{BehindOf}
-use Rattle.tracks.specs.Measure.{Measurable}
-use Rattle.tracks.specs.Span.{Outside}
 use Rattle.trial_list.proofs.LaidLaws.{start-next, vehicle-inside, round-are, words-are}
+use Rattle.candidates.specs.Candidates.{Trying}
+use Rattle.candidates.proofs.NextRounds.{plan-short, round-able, stops-here}
+use Rattle.tracks.specs.Before.{BeforeOf}
+use Rattle.tracks.specs.Measure.{Measurable}
 use Rattle.tracks.specs.Tables.{TrackedIn, beforeIn, behindIn}
 use Rattle.tracks.proofs.TableLaws.{first-is}
-use Rattle.attempts.specs.Candidates.{Trying}
-use Rattle.attempts.proofs.NextRounds.{plan-short, round-able, stops-here}
 
 -- the tasks of vehicle v stand one behind its start and one before its end
 module _ {day plan starts : List ℕ} {m : Trial} {rounds : List Round} (t : Trying day plan starts m rounds) {v : ℕ} (l : v < length rounds) where

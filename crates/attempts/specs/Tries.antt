@@ -15,8 +15,8 @@ use Rattle.rules.specs.Attempts.{distanceOf, attempt}
 use Rattle.walks.specs.Rewalks.{AgainAs}
 use Rattle.walks.specs.declared.vehicle.Walked.{Walked}
 use Rattle.trial_list.specs.Survey.{VehicleIn}
+use Rattle.candidates.specs.Candidates.{Trying}
 use Rattle.tracks.specs.Tables.{TrackedIn}
-use Rattle.attempts.specs.Candidates.{Trying}
 use Rattle.attempts.specs.declared.tries.Tried.{Tried}
 
 -- the numbers of the vehicles that a trial touches

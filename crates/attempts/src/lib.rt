@@ -1,3 +1,2 @@
-// A trial of a plan: the plan that it gives, and whether that plan is kept.
-pub mod candidate;
+// A trial of a plan: whether the plan that it gives is kept.
 pub mod tries;

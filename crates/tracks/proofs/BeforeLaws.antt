@@ -16,17 +16,18 @@ use Rattle.rules.specs.Build.{Truck, fresh}
 use Rattle.rules.specs.WalkedAgain.{walkOn}
 use Rattle.rules.specs.declared.walk.Trip.{Trip}
 use Rattle.laws.specs.Buffer.{Wrote}
-use Rattle.greedy_laws.proofs.VehicleStops.{stops-append}
-use Rattle.walks.specs.Cabs.{Start, atDepot, Stands, failed, onRoad}
-use Rattle.walks.specs.Rewalks.{Means, aStop, aTip, SomeWord, WalksWord}
-use Rattle.walks.specs.declared.cabs.Cab.{Cab}
+use Rattle.laws.proofs.Plan.{stops-append}
 use Rattle.laws.proofs.Lists.{every-at, get-map}
+use Rattle.edits.specs.EditWords.{Means, aStop, aTip}
+use Rattle.edits.specs.Kept.{kept}
+use Rattle.walks.specs.Cabs.{Start, atDepot, Stands, failed, onRoad}
+use Rattle.walks.specs.Rewalks.{SomeWord, WalksWord}
+use Rattle.walks.specs.declared.cabs.Cab.{Cab}
 use Rattle.walks.proofs.CabLaws.{riding-trip}
 use Rattle.walks.proofs.MidwayLaws.{fresh-stands}
 use Rattle.walks.proofs.RewalkLaws.{stands-fewer, walk-append}
 use Rattle.walks.proofs.WalkLaws.{stands-goes}
 use Rattle.tracks.specs.Before.{cabAt, RowHolds, Rides, halted, rides, truckBefore, BeforeTo, BeforeOf, RowsKept, Walks, TaskAhead, WalksTask}
-use Rattle.tracks.specs.Kept.{kept}
 
 -- a rest is passed over
 pub task-passed : {day part : List ℕ} {c : Cab} {w : ℕ} → w ≡ restWord → WalksTask day part c w part c

@@ -1,10 +1,8 @@
 pub mod BeforeLaws
-pub mod FillLaws
-pub mod FirstLaws
+pub mod CabRows
 pub mod MeasureLaws
-pub mod OnwardLaws
 pub mod PartLaws
-pub mod RowLaws
-pub mod SpanLaws
+pub mod SmoothLaws
+pub mod SpotLaws
 pub mod TableLaws
 pub mod TrackableLaws

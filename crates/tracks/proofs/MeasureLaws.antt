@@ -20,7 +20,11 @@ use Rattle.rules.specs.declared.walk.Trip.{Trip}
 use Rattle.laws.specs.Buffer.{Wrote}
 use Rattle.laws.proofs.Buffer.{wrote-same}
 use Rattle.laws.proofs.Tests.{both-true}
-use Rattle.greedy_laws.proofs.VehicleStops.{stops-append}
+use Rattle.laws.proofs.Plan.{stops-append}
+use Rattle.edits.specs.Kept.{kept}
+use Rattle.onward.specs.Behind.{OnwardWithin, rowAt, distanceOnward, onwardOf}
+use Rattle.onward.specs.declared.Onward.{Onward}
+use Rattle.onward.proofs.OnwardLaws.{onward-distance, row-bounds}
 use Rattle.walks.specs.Cabs.{Riding, Start, onRoad}
 use Rattle.walks.specs.Rewalks.{fromTask, Midway, Again, AgainAs}
 use Rattle.walks.specs.declared.cabs.Cab.{Cab}
@@ -30,12 +34,9 @@ use Rattle.walks.proofs.HomeLaws.{again-by, again-none}
 use Rattle.walks.proofs.RewalkLaws.{walk-append, left-all}
 use Rattle.walks.proofs.Walking.{failed-on}
 use Rattle.walks.proofs.WalkLaws.{stands-goes, stands-failed}
+use Rattle.tracks.proofs.SmoothLaws.{Smooth, onward-smooth}
 use Rattle.tracks.specs.Before.{cabAt, Rides, halted, rides, truckBefore}
-use Rattle.tracks.specs.Behind.{OnwardWithin, rowAt, distanceOnward, onwardOf}
-use Rattle.tracks.specs.Kept.{kept}
 use Rattle.tracks.specs.Measure.{isCut, Cuttable, Measurable}
-use Rattle.tracks.specs.declared.behind.Onward.{Onward}
-use Rattle.tracks.proofs.OnwardLaws.{Smooth, onward-distance, onward-smooth, row-bounds}
 
 -- whether what is left is known
 module _ (i last waiting load : ℕ) (o : Onward) where

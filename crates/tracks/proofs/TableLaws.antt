@@ -11,11 +11,11 @@ use borrow.Rule.Slice.PartMut.{putMid, mid-len, same-len-mid}
 use Rattle.rules.specs.Lists.{Every}
 use Rattle.rules.specs.Plan.{Round, taskWord, Known}
 use Rattle.laws.proofs.Lists.{every-at}
+use Rattle.onward.specs.Behind.{BehindOf, RoundTo, SomeRoundTo, FillsBehind, behindWords}
 use Rattle.trial_list.specs.Survey.{Laid}
 use Rattle.trial_list.proofs.LaidLaws.{behind, starts-rise, start-next, tasks-text, vehicle-in, vehicle-inside, words-are}
 use Rattle.tracks.specs.Before.{Walks, BeforeOf, FilledBefore}
-use Rattle.tracks.specs.Behind.{BehindOf, RoundTo, SomeRoundTo, FillsBehind}
-use Rattle.tracks.specs.Tables.{beforeWords, behindWords, behindEnd, tracksWords, firstTask, beforeIn, behindIn, spotsIn, Trackable, SomeTrackable, TracksIn, SomeVehicle, TracksOne, TracksVehicle}
+use Rattle.tracks.specs.Tables.{beforeWords, behindEnd, tracksWords, firstTask, beforeIn, behindIn, spotsIn, Trackable, SomeTrackable, TracksIn, SomeVehicle, TracksOne, TracksVehicle}
 use Rattle.tracks.proofs.PartLaws.{part-put, part-before, part-behind}
 
 -- the first task of vehicle v, counted from 0, stands behind its A word

@@ -11,9 +11,9 @@ use Rattle.rules.specs.Lists.{Every}
 use Rattle.rules.specs.Plan.{Task, Round, taskWord, stopsOn, Known}
 use Rattle.rules.specs.Build.{Truck, fresh}
 use Rattle.rules.specs.WalkedAgain.{walkOn}
+use Rattle.edits.specs.Kept.{kept}
 use Rattle.walks.specs.Cabs.{Riding, Start, Stands}
 use Rattle.walks.specs.declared.cabs.Cab.{Cab}
-use Rattle.tracks.specs.Kept.{kept}
 
 -- the row of a place of the plan: minute, place, rested, distance, load, failed
 unfoldable pub cabAt : List ℕ → ℕ → Cab

@@ -8,14 +8,14 @@ use lib.Dec.{leb, ltb, eqb}
 use lib.ListN.{length}
 use Rattle.rules.specs.Plan.{Round, stopsOn}
 use Rattle.rules.specs.Edits.{Edit, changed}
+use Rattle.spans.specs.Span.{Outside}
+use Rattle.onward.specs.Behind.{BehindOf}
+use Rattle.onward.specs.declared.Onward.{Onward}
 use Rattle.walks.specs.Cabs.{Start}
 use Rattle.walks.specs.Rewalks.{Walkable, Midway, AgainAs}
 use Rattle.walks.specs.declared.cabs.Cab.{Cab}
 use Rattle.walks.specs.declared.vehicle.Walked.{Walked}
 use Rattle.tracks.specs.Before.{BeforeOf}
-use Rattle.tracks.specs.Behind.{BehindOf}
-use Rattle.tracks.specs.Span.{Outside}
-use Rattle.tracks.specs.declared.behind.Onward.{Onward}
 
 -- nothing changes any more, and the load fits what is left
 unfoldable pub isCut : (i last waiting load : ℕ) → Onward → Bool

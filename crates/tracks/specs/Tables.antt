@@ -1,26 +1,26 @@
 -- The tables of all vehicles of the present plan. They serve the contracts of this crate's own functions. Assumes nothing.
 use Prim.Native.Nat.{ℕ, _+_, _-_, _*_, _≤_, _<_}
 use mathlib.Core.Path.{_≡_}
-use mathlib.Core.List.{List, []}
-use lib.ListN.{length, getD, take, drop}
+use mathlib.Core.List.{List, [], _∷_}
+use lib.Dec.{eqb}
+use lib.ListN.{length, getD, take, drop, set}
+use Rattle.rules.specs.Tests.{if_then_else_}
 use Rattle.rules.specs.Lists.{Every}
+use Rattle.rules.specs.PlanWords.{kindOf, numberOf, stopKind}
 use Rattle.rules.specs.Plan.{Round, roundsWords, stopsOn, Known}
+use Rattle.onward.specs.Behind.{BehindOf, rowAt, behindWords}
 use Rattle.trial_list.specs.Survey.{Laid, VehicleIn}
 use Rattle.tracks.specs.Before.{BeforeOf, RowsKept}
-use Rattle.tracks.specs.Behind.{BehindOf, rowAt}
 
 -- the place of the plan where the first task of vehicle v, counted from 0, stands
 abbrev pub firstTask : List Round → ℕ → ℕ
 firstTask rounds v = length (roundsWords 0 (take v rounds)) + 1
 
--- how long the tables are: six words, and four, for each place of a plan of at most 1200 words and the one behind it, and a word for each stop
+-- how long the table of the vehicles before their words is: six words for each place of a plan of at most 1200 words and the one behind it
 abbrev pub beforeWords : ℕ
 beforeWords = 7206
 
-abbrev pub behindWords : ℕ
-behindWords = 4804
-
--- where the second table ends in the buffer that holds all three, and how long that is
+-- where the table of what is left behind their words ends in the buffer that holds all three, and how long that is: a word for each stop is last
 abbrev pub behindEnd : ℕ
 behindEnd = 12010
 
@@ -98,3 +98,12 @@ abbrev pub TracksVehicle : (day plan starts : List ℕ) (room v : ℕ) (tracks a
 TracksVehicle day plan starts room v tracks after =
     (rounds : List Round) (lefts : List ℕ) → Trackable day plan starts room rounds lefts → v < length rounds
     → TracksOne day rounds v (beforeIn tracks) (beforeIn after) (behindIn tracks) (behindIn after)
+
+-- the places of the stops once the word at a place is looked at
+unfoldable pub spotAfter : (w at : ℕ) → List ℕ → List ℕ
+spotAfter w at spots = if eqb (kindOf w) stopKind then set spots (numberOf w) at else spots
+
+-- and once these words are, of which the first stands at a place: of a stop that stands there twice the last place is told
+unfoldable pub spotsAfter : (words : List ℕ) → ℕ → List ℕ → List ℕ
+spotsAfter [] at spots = spots
+spotsAfter (w ∷ words) at spots = spotsAfter words (at + 1) (spotAfter w at spots)

@@ -8,11 +8,11 @@ ghost use Rattle.rules.specs.Fields.{IsAccepted};
 ghost use Rattle.day.specs.Layout.{LayoutOf};
 ghost use Rattle.tracks.specs.Tables.{beforeWords};
 ghost use Rattle.tracks.specs.Before.{cabAt, RowHolds, RowsKept, SomeWalks, TaskAhead, WalksTask, FilledBefore};
-use crate::span::as_place;
 use day::fields::Layout;
 use plan_words::REST;
 use plan_words::VEHICLE;
 use rules::walk::Trip;
+use spans::as_place;
 use walks::cabs::Cab;
 use walks::vehicle::fresh_cab;
 use walks::vehicle::walk_word;
@@ -44,7 +44,7 @@ fn put_cab(before: &mut [u32], at: usize, c: Cab)
 }
 
 // The vehicle that a row holds; it has written its A word.
-pub fn cab_at(before: &[u32], at: usize) -> Cab
+pub(crate) fn cab_at(before: &[u32], at: usize) -> Cab
     requires { ⌜ (length (now before) ≡ beforeWords) × (at < 1201) ⌝ }
     ensures { λ r. ⌜ r ≡ cabAt (now (before .entry)) at ⌝ }
 {
@@ -74,7 +74,7 @@ fn walk_task(day: &[u32], layout: Layout, c: Cab, w: u32, part: &mut [u32]) -> C
 }
 
 // The rows of the vehicle whose tasks are these words, of which the first stands at a place of the plan. The part is worked in.
-pub fn fill_before(
+pub(crate) fn fill_before(
     day: &[u32],
     layout: Layout,
     words: &[u32],

@@ -1,13 +1,13 @@
 // The tables of all vehicles of the present plan, one behind the other in one buffer.
 ghost use mathlib.Core.Path.{_≡_};
-ghost use Prim.Native.Nat.{_<_, _≤_};
-ghost use lib.ListN.{length};
+ghost use Prim.Native.Nat.{_-_, _<_, _≤_};
+ghost use lib.ListN.{length, take, drop};
 ghost use Rattle.rules.specs.Fields.{IsAccepted};
 ghost use Rattle.day.specs.Layout.{LayoutOf};
-ghost use Rattle.tracks.specs.Tables.{tracksWords, SomeTrackable, TracksIn, SomeVehicle, TracksVehicle};
+ghost use Rattle.tracks.specs.Tables.{tracksWords, SomeTrackable, TracksIn, SomeVehicle, TracksVehicle, spotAfter, spotsAfter};
 use crate::before::fill_before;
-use crate::behind::fill_behind;
 use day::fields::Layout;
+use onward::fill_behind;
 
 // The tables stand one behind the other: six words, then four, for each of 1201 places of a plan, then a word for each stop.
 pub const BEFORE_WORDS: usize = 7206;
@@ -19,6 +19,7 @@ pub const TRACKS_WORDS: usize = 12266;
 // The place of a word, where it is a stop's.
 fn put_spot(w: u32, at: usize, spots: &mut [u32])
     requires { ⌜ (length (now spots) ≡ 256) × (at < 1200) ⌝ }
+    ensures { λ r. ⌜ now (spots .exit) ≡ spotAfter w at (now (spots .entry)) ⌝ }
 {
     if plan_words::is_stop(w) {
         spots[plan_words::number(w) as usize] = at as u32;
@@ -28,6 +29,7 @@ fn put_spot(w: u32, at: usize, spots: &mut [u32])
 // The places of the stops among the words of one vehicle. They are tested where they are used.
 fn fill_spots(plan: &[u32], from: usize, end: usize, spots: &mut [u32])
     requires { ⌜ (length (now spots) ≡ 256) × (end ≤ length (now plan)) × (length (now plan) ≤ 1200) ⌝ }
+    ensures { λ r. ⌜ now (spots .exit) ≡ spotsAfter (take (end - from) (drop from (now (plan .entry)))) from (now (spots .entry)) ⌝ }
 {
     let mut at = from;
     while at < end {

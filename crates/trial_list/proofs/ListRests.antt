@@ -15,9 +15,9 @@ use Rattle.day.specs.Layout.{LayoutOf}
 use Rattle.day.specs.declared.fields.Layout.{Layout}
 use Rattle.day.proofs.Ranges.{accepted-ranges}
 use Rattle.neighbours.specs.Tables.{TableOf}
-use Rattle.walks.specs.Rewalks.{Named, EditKnown, EditSmall}
-use Rattle.walks.specs.declared.edits.Edit as Code
-use Rattle.walks.specs.declared.edits.Edit.the-variants as Edits
+use Rattle.edits.specs.EditWords.{Named, EditKnown, EditSmall}
+use Rattle.edits.specs.declared.Edit as Code
+use Rattle.edits.specs.declared.Edit.the-variants as Edits
 use Rattle.trial_list.specs.Listing.{PairsOf, PairAnswer, TipsOf, TipAnswer, PlanTables, CursorFits, ListAnswer}
 use Rattle.trial_list.specs.Survey.{Surveyed}
 use Rattle.trial_list.specs.TrialRest.{listedTrial, pairRest, tipRest, restOf, listStart}

@@ -18,10 +18,11 @@ use Rattle.rules.specs.PlanWords.{stopWord, tipWord, restWord, backWord}
 use Rattle.rules.specs.Plan.{Task, serve, empty, lunch, Round, taskWord, stopsOn, Known}
 use Rattle.rules.specs.Lawful.{distanceFrom}
 use Rattle.laws.proofs.Lists.{mem-same, mem-other}
+use Rattle.laws.specs.Plan.{RoundAt}
 use Rattle.day.specs.Layout.{LayoutOf, LegOf}
 use Rattle.day.specs.declared.fields.Layout.{Layout}
 use Rattle.day.specs.declared.fields.Leg.{Leg}
-use Rattle.trial_list.specs.Survey.{RoundAt, SomeRound, EndsAll, firstOf, vehicleThen, Ended, placeOf, placeThen, distanceThen, vehiclesThen, TaskWord}
+use Rattle.trial_list.specs.Survey.{SomeRound, EndsAll, firstOf, vehicleThen, Ended, placeOf, placeThen, distanceThen, vehiclesThen, TaskWord}
 use Rattle.trial_list.specs.declared.survey.Driven.{Driven}
 
 -- the word at a place, and those behind it

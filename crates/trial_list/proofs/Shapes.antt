@@ -15,10 +15,11 @@ use Rattle.rules.specs.Fields.{stops, IsAccepted}
 use Rattle.rules.specs.Plan.{serve, Round, stopsOn, stopsOnAll, planWords, Formed}
 use Rattle.rules.specs.Build.{greedyRounds, greedyLefts}
 use Rattle.rules.specs.TrialList.{vehicleFrom}
+use Rattle.laws.proofs.Decided.{known}
+use Rattle.laws.proofs.Lists.{times-append}
 use Rattle.day.proofs.Ranges.{accepted-ranges}
 use Rattle.plan_laws.proofs.Theorems.{busy-rounds}
-use Rattle.laws.proofs.Decided.{known}
-use Rattle.greedy_laws.proofs.GreedyForm.{times-append, greedy-known, greedy-busy, greedy-rising, greedy-once, greedy-others, greedy-named}
+use Rattle.greedy_laws.proofs.GreedyForm.{greedy-known, greedy-busy, greedy-rising, greedy-once, greedy-others, greedy-named}
 use Rattle.greedy_laws.proofs.GreedyRoom.{rounds-words, plan-length, greedy-rooms}
 use Rattle.trial_list.specs.Shapes.{Shaped, EachFrom, StandsOn}
 

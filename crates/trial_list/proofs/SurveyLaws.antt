@@ -18,7 +18,8 @@ use Rattle.rules.specs.Lawful.{distanceFrom}
 use Rattle.rules.specs.TrialList.{vehicleFrom, vehicleOf}
 use Rattle.laws.proofs.Lists.{entries-next}
 use Rattle.laws.proofs.Tests.{both-true}
-use Rattle.trial_list.specs.Survey.{PlanOf, SomePlan, Surveyed, SurveysAll, RoundAt, SomeRound, firstOf, vehicleThen, EndsAll, isVehicle}
+use Rattle.laws.specs.Plan.{RoundAt}
+use Rattle.trial_list.specs.Survey.{PlanOf, SomePlan, Surveyed, SurveysAll, SomeRound, firstOf, vehicleThen, EndsAll, isVehicle}
 use Rattle.trial_list.specs.declared.survey.Driven.{Driven}
 use Rattle.trial_list.proofs.LaidLaws.{rounds-length}
 use Rattle.trial_list.proofs.RideLaws.{WordAt, word-at, first-some, first-none, first-zero}

@@ -3,16 +3,17 @@
 use Prim.Native.Nat.{ℕ, _+_, _-_, _≤_, _<_}
 use mathlib.Core.Path.{_≡_}
 use mathlib.Core.Bool.{Bool, _&&_}
-use mathlib.Core.List.{List, [], _∷_, _++_, map}
+use mathlib.Core.List.{List, []}
 use lib.Dec.{eqb, ltb}
-use lib.ListN.{length, getD, take, drop, set}
+use lib.ListN.{length, getD, take, set}
 use Rattle.rules.specs.Tests.{if_then_else_}
 use Rattle.rules.specs.Lists.{Every, mem}
 use Rattle.rules.specs.Fields.{tips, stops, places, legDistance}
-use Rattle.rules.specs.PlanWords.{stopWord, tipWord, restWord, backWord}
-use Rattle.rules.specs.Plan.{Round, taskWord, roundsWords, planWords, stopsOn, Known}
+use Rattle.rules.specs.PlanWords.{stopWord, tipWord, restWord}
+use Rattle.rules.specs.Plan.{Round, roundsWords, planWords, stopsOn, Known}
 use Rattle.rules.specs.Lawful.{distanceFrom}
 use Rattle.rules.specs.TrialList.{vehicleOf}
+use Rattle.laws.specs.Plan.{RoundAt}
 use Rattle.trial_list.specs.declared.survey.Driven.{Driven}
 
 -- where vehicles start: the A word of vehicle number v + 1 stands at starts[v], and behind the last vehicle starts says where they end
@@ -57,11 +58,6 @@ pub record Surveyed (day : List ℕ) (rounds : List Round) (starts vehicles dist
 abbrev pub SurveysAll : (day plan starts vehicles distances : List ℕ) (count : ℕ) → Type 0
 SurveysAll day plan starts vehicles distances count =
     (rounds : List Round) (lefts : List ℕ) → PlanOf day plan rounds lefts → Surveyed day rounds starts vehicles distances count
-
--- a vehicle's tasks stand in the plan from a place on, then E, then other words
-pub record RoundAt (day plan : List ℕ) (from : ℕ) (tasks : Round) (rest : List ℕ) : Type 0 where
-  pub text : drop from plan ≡ map taskWord tasks ++ (backWord ∷ rest)
-  pub known : Every (Known day) tasks
 
 -- there are such tasks
 pub record SomeRound (day plan : List ℕ) (from : ℕ) : Type 0 where

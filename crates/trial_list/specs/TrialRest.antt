@@ -10,7 +10,7 @@ use Rattle.rules.specs.Plan.{Task, serve, empty, lunch, Round}
 use Rattle.rules.specs.Neighbours.{neighbours}
 use Rattle.rules.specs.Edits.{before, after, swap, remove, Trial, onOne, onTwo}
 use Rattle.rules.specs.TrialList.{each, rising, pairTrials, otherTip, roundTrials, tipTrials}
-use Rattle.walks.specs.Rewalks.{trialOf}
+use Rattle.edits.specs.EditWords.{trialOf}
 use Rattle.trial_list.specs.declared.listing.Cursor.{Cursor}
 use Rattle.trial_list.specs.declared.listing.PairPlace.{PairPlace}
 use Rattle.trial_list.specs.declared.listing.TipPlace.{TipPlace}

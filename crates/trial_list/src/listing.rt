@@ -6,13 +6,13 @@ ghost use lib.Dec.{eqb};
 ghost use lib.ListN.{getD, length};
 ghost use Rattle.rules.specs.Tests.{if_then_else_};
 ghost use Rattle.rules.specs.Edits.{onOne, onTwo};
-ghost use Rattle.walks.specs.Rewalks.{editOf};
+ghost use Rattle.edits.specs.EditWords.{editOf};
 ghost use Rattle.trial_list.specs.TrialRest.{listedTrial, pairOn, listStart};
 ghost use Rattle.trial_list.specs.Listing.{nextTask, PairTells, TipTells, TipFits, PairsOf, PairStep, PairAnswer, TipsOf, SomeTip, TipSteps, TipAnswer, PlanTables, CursorFits, ListAnswer};
 use day::fields::Layout;
+use edits::Edit;
 use plan_words::REST;
 use plan_words::TIP;
-use walks::edits::Edit;
 
 // What is done, and the numbers of the vehicles that it touches, which may be one and the same.
 pub struct Trial {

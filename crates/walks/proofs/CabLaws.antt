@@ -18,14 +18,15 @@ use Rattle.rules.specs.Build.{Truck, doing, resting}
 use Rattle.rules.specs.WalkedAgain.{inserting}
 use Rattle.rules.specs.declared.walk.Trip.{Trip}
 use Rattle.laws.proofs.Buffer.{wrote-put, wrote-same}
+use Rattle.laws.proofs.Decided.{bit-most}
+use Rattle.laws.proofs.Plan.{stops-append}
 use Rattle.day.specs.Layout.{LayoutOf}
 use Rattle.day.specs.declared.fields.Layout.{Layout}
 use Rattle.day.proofs.Ranges.{accepted-ranges}
 use Rattle.trips.specs.Trips.{SmallTrip}
 use Rattle.greedy_laws.specs.Rooms.{Paid}
-use Rattle.laws.proofs.Decided.{bit-most}
 use Rattle.greedy_laws.proofs.GreedyRoom.{paid-rest, paid-serve, paid-empty, tasks-counted}
-use Rattle.greedy_laws.proofs.VehicleStops.{stops-append, visits-task}
+use Rattle.greedy_laws.proofs.VehicleStops.{visits-task}
 use Rattle.walks.specs.Cabs.{Able, Riding, Start, Standing, Stands, failed, onRoad, Space, SomeStanding, Drives}
 use Rattle.walks.specs.declared.cabs.Cab.{Cab}
 

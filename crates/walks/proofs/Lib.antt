@@ -1,7 +1,4 @@
 pub mod CabLaws
-pub mod ChangeLaws
-pub mod EditLaws
-pub mod EditSuits
 pub mod HomeLaws
 pub mod MidwayLaws
 pub mod RewalkLaws

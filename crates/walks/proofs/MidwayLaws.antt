@@ -17,12 +17,13 @@ use Rattle.rules.specs.WalkedAgain.{walkOn}
 use Rattle.laws.specs.Buffer.{Wrote}
 use Rattle.laws.proofs.Buffer.{wrote-same}
 use Rattle.laws.proofs.Lists.{get-map}
+use Rattle.laws.proofs.Plan.{stops-append}
 use Rattle.greedy_laws.proofs.GreedyRoom.{paid-fresh}
-use Rattle.greedy_laws.proofs.VehicleStops.{stops-append}
+use Rattle.edits.specs.EditWords.{editOf, EditKnown}
+use Rattle.edits.specs.declared.Edit as Code
 use Rattle.walks.specs.Cabs.{Start, atDepot, Stands, failed, onRoad}
-use Rattle.walks.specs.Rewalks.{editOf, EditKnown, SomeWord, WalksWord, Left, fromTask, fromWaiting, Turned, TakesTurn, steps, Walkable, Midway}
+use Rattle.walks.specs.Rewalks.{SomeWord, WalksWord, Left, fromTask, fromWaiting, Turned, TakesTurn, steps, Walkable, Midway}
 use Rattle.walks.specs.declared.cabs.Cab.{Cab}
-use Rattle.walks.specs.declared.edits.Edit as Code
 use Rattle.walks.specs.declared.vehicle.Turn.{Turn}
 use Rattle.walks.proofs.RewalkLaws.{stands-fewer, walk-append}
 

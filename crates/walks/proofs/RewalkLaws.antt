@@ -15,8 +15,9 @@ use Rattle.rules.specs.Plan.{Task, serve, empty, lunch, Round, stopsOn, Known}
 use Rattle.rules.specs.Build.{Truck, resting}
 use Rattle.rules.specs.Edits.{Edit, change, changed}
 use Rattle.rules.specs.WalkedAgain.{walkTask, walkNext, walkOn}
+use Rattle.edits.specs.EditWords.{Means, nothing, aStop, aTip, Becomes}
 use Rattle.walks.specs.Cabs.{Start, Stands, failed, onRoad, SomeStanding, Drives}
-use Rattle.walks.specs.Rewalks.{Means, nothing, aStop, aTip, Becomes, SomeWord, WalksWord, Left, fromTask, fromWaiting, Turned, steps}
+use Rattle.walks.specs.Rewalks.{SomeWord, WalksWord, Left, fromTask, fromWaiting, Turned, steps}
 use Rattle.walks.specs.declared.cabs.Cab.{Cab}
 use Rattle.walks.specs.declared.vehicle.Turn.{Turn}
 use Rattle.walks.proofs.CabLaws.{standing-fewer, some-standing, on-road}

@@ -21,11 +21,12 @@ use Rattle.rules.specs.WalkedAgain.{inserting, emptiedFirst, exceeds, servingTh
 use Rattle.laws.proofs.Fresh.{every-append}
 use Rattle.laws.proofs.Tests.{both-true, only-second}
 use Rattle.laws.proofs.Decided.{known, known-option}
+use Rattle.laws.proofs.Plan.{stops-append}
 use Rattle.greedy_laws.proofs.Driving.{resting-keeps}
 use Rattle.greedy_laws.specs.Rooms.{Paid, Room}
 use Rattle.greedy_laws.proofs.GreedyRoom.{paid-fresh, paid-rest, paid-serve, paid-empty, paid-room}
 use Rattle.greedy_laws.proofs.NextTasks.{nearest-open}
-use Rattle.greedy_laws.proofs.VehicleStops.{stops-append, visits-task}
+use Rattle.greedy_laws.proofs.VehicleStops.{visits-task}
 
 -- a vehicle on its way that has walked these tasks
 pub record Walked (day : List ℕ) (ts : Round) (v : Truck) : Type 0 where

@@ -31,7 +31,7 @@ pub struct Cab {
 }
 
 // A rest is taken, and written, where one is due.
-pub fn rest_cab(day: &[u32], layout: Layout, c: Cab, part: &mut [u32]) -> Cab
+pub(crate) fn rest_cab(day: &[u32], layout: Layout, c: Cab, part: &mut [u32]) -> Cab
     requires { ⌜ LayoutOf (now day) layout × IsAccepted (now day) × SomeStanding (now day) 0 (now part) c ⌝ }
     ensures { λ r. ⌜ Drives (now (day .entry)) 0 (now (part .entry)) c (λ v. some (resting (now (day .entry)) v)) (now (part .exit)) r ⌝ }
 {
@@ -114,7 +114,7 @@ fn is_full(day: &[u32], layout: Layout, load: u32, q: u32) -> bool
 }
 
 // Stop k is served, behind a tip where it would exceed Q.
-pub fn walk_stop(day: &[u32], layout: Layout, c: Cab, k: usize, part: &mut [u32]) -> Cab
+pub(crate) fn walk_stop(day: &[u32], layout: Layout, c: Cab, k: usize, part: &mut [u32]) -> Cab
     requires { ⌜ LayoutOf (now day) layout × IsAccepted (now day) × SomeStanding (now day) 1 (now part) c × (0 < k) × (k ≤ layout .stops) ⌝ }
     ensures { λ r. ⌜ Drives (now (day .entry)) 1 (now (part .entry)) c (λ v. walkTask (now (day .entry)) v (serve k)) (now (part .exit)) r ⌝ }
 {
@@ -130,7 +130,7 @@ pub fn walk_stop(day: &[u32], layout: Layout, c: Cab, k: usize, part: &mut [u32]
 }
 
 // The load is emptied at tip x; without a load the tip is dropped.
-pub fn walk_tip(day: &[u32], layout: Layout, c: Cab, x: usize, part: &mut [u32]) -> Cab
+pub(crate) fn walk_tip(day: &[u32], layout: Layout, c: Cab, x: usize, part: &mut [u32]) -> Cab
     requires { ⌜ LayoutOf (now day) layout × IsAccepted (now day) × SomeStanding (now day) 0 (now part) c × (0 < x) × (x ≤ layout .tips) ⌝ }
     ensures { λ r. ⌜ Drives (now (day .entry)) 0 (now (part .entry)) c (λ v. walkTask (now (day .entry)) v (empty x)) (now (part .exit)) r ⌝ }
 {
@@ -141,7 +141,7 @@ pub fn walk_tip(day: &[u32], layout: Layout, c: Cab, x: usize, part: &mut [u32])
 }
 
 // Before the vehicle comes back: a rest where one is due, and a tip where there is a load.
-pub fn walk_home(day: &[u32], layout: Layout, c: Cab, part: &mut [u32]) -> Cab
+pub(crate) fn walk_home(day: &[u32], layout: Layout, c: Cab, part: &mut [u32]) -> Cab
     requires { ⌜ LayoutOf (now day) layout × IsAccepted (now day) × SomeStanding (now day) 0 (now part) c ⌝ }
     ensures { λ r. ⌜ Drives (now (day .entry)) 0 (now (part .entry)) c (λ v. walkHome (now (day .entry)) (some v)) (now (part .exit)) r ⌝ }
 {

@@ -1,4 +1,3 @@
 // A vehicle whose words are changed by a trial and walked again.
 pub mod cabs;
-pub mod edits;
 pub mod vehicle;

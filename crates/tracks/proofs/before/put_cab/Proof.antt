@@ -1,7 +1,7 @@
 -- `tracks::before::put_cab` meets its contract.
 use native.Mathlib.Omega.{arith}
 use lib.ListN.{length-set}
-use Rattle.tracks.proofs.RowLaws.{failed-row, failed-others, written-row, written-others}
+use Rattle.tracks.proofs.CabRows.{failed-row, failed-others, written-row, written-others}
 use borrow.Author.Needs.{needs}
 use Rattle.tracks.proofs.before.put_cab.Statement.{statement}
 use Rattle.tracks.proofs.before.put_cab.Tie as tie

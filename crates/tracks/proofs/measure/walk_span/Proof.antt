@@ -6,8 +6,9 @@ use native.Mathlib.Omega.{arith}
 use mathlib.Core.Path.{sym, ap, _∙_}
 use lib.ListN.{length, length-map}
 use Rattle.rules.specs.Plan.{Round, taskWord}
+use Rattle.edits.specs.EditWords.{editOf}
 use Rattle.walks.specs.Cabs.{Start}
-use Rattle.walks.specs.Rewalks.{editOf, steps, Midway}
+use Rattle.walks.specs.Rewalks.{steps, Midway}
 use Rattle.walks.proofs.HomeLaws.{again-back}
 use Rattle.walks.proofs.MidwayLaws.{midway-word, midway-step, midway-done, turns-left, stands-size}
 use Rattle.tracks.specs.Measure.{Cuttable}

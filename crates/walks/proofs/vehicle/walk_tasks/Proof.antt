@@ -8,8 +8,9 @@ use Rattle.rules.specs.PlanWords.{vehicleWord}
 use Rattle.rules.specs.Plan.{Round}
 use Rattle.laws.specs.Buffer.{Wrote}
 use Rattle.laws.proofs.Buffer.{wrote-none, wrote-put}
+use Rattle.edits.specs.EditWords.{editOf}
 use Rattle.walks.specs.Cabs.{atDepot}
-use Rattle.walks.specs.Rewalks.{editOf, steps, Walkable, Midway}
+use Rattle.walks.specs.Rewalks.{steps, Walkable, Midway}
 use Rattle.walks.proofs.MidwayLaws.{midway-start, midway-word, midway-step, stands-size, midway-done, turns-left}
 use Rattle.walks.proofs.vehicle.walk_tasks.Statement.{statement}
 use Rattle.walks.proofs.vehicle.walk_tasks.Tie as tie

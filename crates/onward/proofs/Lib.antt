@@ -1,0 +1,4 @@
+pub mod FillLaws
+pub mod FirstLaws
+pub mod OnwardLaws
+pub mod RowLaws
