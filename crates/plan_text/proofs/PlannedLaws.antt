@@ -3,7 +3,7 @@
 use Prim.Native.Nat.{ℕ, _+_, _*_, _≤_}
 use mathlib.Core.Path.{_≡_, refl, sym, ap, ap₂, _∙_}
 use mathlib.Core.Bool.{Bool, true, false, false≢true}
-use mathlib.Core.List.{List, [], _∷_}
+use mathlib.Core.List.{List}
 use native.Mathlib.Omega.{arith}
 use lib.ListN.{length, length-replicate, getD}
 use Rattle.rules.specs.Tests.{if_then_else_}
@@ -14,7 +14,7 @@ use Rattle.rules.specs.Planning.{searched}
 use Rattle.rules.specs.Planned.{fewNeighbours, longEnough, resultValues, plannedAnswer, planAnswer, planBuffer}
 use Rattle.day.proofs.Answered.{judged-accepted}
 use Rattle.day.proofs.Ranges.{accepted-ranges}
-use Rattle.trials.proofs.Promises.{promised}
+use Rattle.search_steps.proofs.Promises.{promised-one}
 use Rattle.text.specs.Lines.{answerText, Within}
 use Rattle.text.specs.Put.{Put}
 use Rattle.text.proofs.PutLaws.{put-same}
@@ -43,8 +43,8 @@ long-within false values need few h = absurd (false≢true h)
 accepted-within : (day : List ℕ) → IsAccepted day → Within (plannedAnswer day 5 6 1200 1200) 1200
 unfolding plannedAnswer fewNeighbours resultValues
 accepted-within day a =
-    let fits = promised day (5 ∷ []) 6 a .fits in
-    long-within (longEnough day 1200 1200) (resultValues day (searched day (5 ∷ []) 6)) (5 * stops day) (omega (arith, fits, accepted-ranges day a .stopsMost))
+    let fits = promised-one day 5 6 a .fits in
+    long-within (longEnough day 1200 1200) (resultValues day (searched day 5 6)) (5 * stops day) (omega (arith, fits, accepted-ranges day a .stopsMost))
 
 pub planned-within : (day : List ℕ) → Within (printedAnswer day) 1200
 unfolding printedAnswer planAnswer

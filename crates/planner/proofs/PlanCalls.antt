@@ -1,5 +1,5 @@
 -- The call that plans with trials answers, and leaves the plan's buffer, as the definitions say. Assumes nothing.
-use Prim.Native.Nat.{ℕ, _+_, _-_, _*_, _≤_, _<_}
+use Prim.Native.Nat.{ℕ, _-_, _*_, _≤_, _<_}
 use mathlib.Core.Path.{_≡_, refl, sym, ap, _∙_}
 use mathlib.Core.Bool.{Bool, true, false, true≢false}
 use mathlib.Core.List.{List, [], _∷_, _++_}
@@ -16,9 +16,8 @@ use Rattle.rules.specs.DayFile.{judgeDay}
 use Rattle.rules.specs.Fields.{stops, IsAccepted}
 use Rattle.rules.specs.Plan.{Round, planWords}
 use Rattle.rules.specs.Build.{greedyRounds, greedyLefts, greedyPlan}
-use Rattle.rules.specs.TrialList.{trialList}
-use Rattle.rules.specs.Attempts.{distanceOf, attempt}
-use Rattle.rules.specs.Search.{Result, improve}
+use Rattle.rules.specs.Attempts.{distanceOf}
+use Rattle.rules.specs.Search.{Result}
 use Rattle.rules.specs.Planning.{searched}
 use Rattle.rules.specs.AnswerValues.{dayValues, planValues}
 use Rattle.rules.specs.Built.{builtAnswer, planned, builtBuffer}
@@ -35,16 +34,10 @@ use Rattle.day.specs.Layout.{LayoutOf}
 use Rattle.day.specs.declared.fields.Layout.{Layout}
 use Rattle.greedy_laws.proofs.GreedyRoom.{greedy-room}
 use Rattle.trial_list.proofs.Shapes.{greedy-shaped}
-use Rattle.trials.specs.Searches.{PlanAt, fromGreedy, Improved}
-use Rattle.trials.specs.declared.search.Search.{Search}
-use Rattle.trials.proofs.Searching.{lists-one}
+use Rattle.search_steps.specs.Searches.{PlanAt}
+use Rattle.search_steps.specs.declared.steps.Search.{Search}
+use Rattle.trials.specs.Improvements.{Improved}
 use Rattle.planner.specs.WorkedOver.{WorkedOver}
-
--- one neighbourhood
-searched-one : (day : List ℕ) (K budget : ℕ) → searched day (K ∷ []) budget ≡ fromGreedy day K budget
-unfolding searched
-searched-one day K budget =
-    ap (λ (list : List Round → List _). improve list (attempt day (greedyLefts day)) budget (greedyRounds day)) (lists-one (trialList day) K)
 
 -- K, and the lengths of the buffers
 pub few-none : (K : ℕ) → K < 1 → false ≡ fewNeighbours K
@@ -153,8 +146,8 @@ module _ (day plan : List ℕ) {layout : Layout} (h : LayoutOf day layout) (l : 
         size : length buffer ≡ 5 * layout .stops
         size = kept ∙ lent-long
 
-        result-is : searched day (K ∷ []) budget ≡ record { plan = i .rounds; trials = last .made; settled = last .settled }
-        result-is = searched-one day K budget ∙ sym (i .is)
+        result-is : searched day K budget ≡ record { plan = i .rounds; trials = last .made; settled = last .settled }
+        result-is = sym (i .is)
 
         abbrev improved : List ℕ
         improved = planWords (i .rounds) (greedyLefts day)

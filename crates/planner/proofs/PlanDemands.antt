@@ -1,15 +1,29 @@
--- Demand 3 holds of the call that plans with trials, on every accepted day, K from 1 to 50, any two budgets and buffers long enough.
--- Assumes nothing.
-use Prim.Native.Nat.{ℕ, _*_, _≤_}
-use mathlib.Core.Path.{_≡_, refl}
-use mathlib.Core.Bool.{true}
-use mathlib.Core.List.{List}
-use lib.ListN.{length}
+-- What demand 3 says of one call that plans with trials: on every accepted day, K from 1 to 50, any budget and buffers long enough, whatever
+-- they held. Assumes nothing.
+use Prim.Native.Nat.{ℕ, _+_, _-_, _*_, _≤_, _<_}
+use mathlib.Core.Path.{_≡_, refl, sym, ap, subst, _∙_}
+use mathlib.Core.Bool.{true, false}
+use mathlib.Core.List.{List, _++_, append-assoc}
+use native.Mathlib.Omega.{arith}
+use lib.ListN.{length, take, drop, replicate, length-append, length-replicate}
+use lib.Seq.{take-at}
 use borrow.Author.Tests.{le-leb}
+use Rattle.rules.specs.Answers.{given}
+use Rattle.rules.specs.Buffer.{over}
+use Rattle.rules.specs.Lists.{Every}
 use Rattle.rules.specs.Fields.{stops, IsAccepted}
-use Rattle.rules.specs.Planned.{fewNeighbours, longEnough, plannedAnswer, plannedBuffer, planAnswer, planBuffer}
-use Rattle.rules.specs.Demands.{Answered, Demanded}
-use Rattle.trials.proofs.Promises.{demand-three}
+use Rattle.rules.specs.Plan.{Round, planWords, Formed}
+use Rattle.rules.specs.Lawful.{Loads, Timed, Lawful}
+use Rattle.rules.specs.Build.{greedyLefts}
+use Rattle.rules.specs.TrialList.{trialList}
+use Rattle.rules.specs.Attempts.{distanceOf}
+use Rattle.rules.specs.Planning.{searched}
+use Rattle.rules.specs.Built.{planned}
+use Rattle.rules.specs.Planned.{fewNeighbours, longEnough, resultValues, plannedAnswer, plannedBuffer, planAnswer, planBuffer}
+use Rattle.rules.specs.Demands.{PlannedBy}
+use Rattle.laws.proofs.Buffer.{length-over}
+use Rattle.search_laws.proofs.NoneShorter.{none-shorter}
+use Rattle.search_steps.proofs.Promises.{promised-one, one-settles}
 
 few-true : (K : ℕ) → 1 ≤ K → K ≤ 50 → fewNeighbours K ≡ true
 unfolding fewNeighbours
@@ -19,22 +33,85 @@ long-true : (day : List ℕ) (room spare : ℕ) → 5 * stops day ≤ room → 5
 unfolding longEnough
 long-true day room spare l m = rw (le-leb (5 * stops day) room l, le-leb (5 * stops day) spare m) refl
 
-pub answered : (day : List ℕ) → IsAccepted day → (K budget : ℕ) → 1 ≤ K → K ≤ 50 → (plan : List ℕ) (spare : ℕ) → 5 * stops day ≤ length plan → 5 * stops day ≤ spare
-    → Answered day K budget plan spare
-unfolding planAnswer planBuffer plannedAnswer plannedBuffer
-answered day ok K budget l m plan spare p q =
+-- the plan stands at the front of its buffer
+planned-front : (day words plan : List ℕ) → take (length words) (planned day words plan) ≡ words
+unfolding planned over
+planned-front day words plan =
+    let zeros : List ℕ = replicate (5 * stops day - length words) 0 in
+    let rest = drop (length (words ++ zeros)) plan in
+    ap (take (length words)) (append-assoc words zeros rest) ∙ take-at words (zeros ++ rest) (length words) refl
+
+planned-length : (day words plan : List ℕ) → length words ≤ 5 * stops day → 5 * stops day ≤ length plan → length (planned day words plan) ≡ length plan
+unfolding planned
+planned-length day words plan l m =
+    let zeros : List ℕ = replicate (5 * stops day - length words) 0 in
+    length-over (words ++ zeros) plan (omega (arith, length-append words zeros, length-replicate {A = ℕ} (5 * stops day - length words) 0))
+
+-- words that are those of a lawful plan, by its vehicles and its stops left out
+lawful-as : {day words plan : List ℕ} {rounds : List Round} {lefts : List ℕ} (l : Lawful day plan) → l .rounds ≡ rounds → l .lefts ≡ lefts → words ≡ plan → Lawful day words
+lawful-as {day} {words} {rounds = rounds} {lefts = lefts} l r f e =
     record {
-      answer = rw (ok, few-true K l m, long-true day (length plan) spare p q) refl;
-      buffer = rw (ok, few-true K l m, long-true day (length plan) spare p q) refl;
+      rounds = rounds;
+      lefts = lefts;
+      formed = rw (e, ← r, ← f) (l .formed);
+      loads = subst (Every (Loads day)) r (l .loads);
+      timed = subst (Every (Timed day)) r (l .timed);
     }
 
-pub demanded : (day : List ℕ) → IsAccepted day → (K budget larger : ℕ) → 1 ≤ K → K ≤ 50 → budget ≤ larger
-    → (first : List ℕ) (firstSpare : ℕ) → 5 * stops day ≤ length first → 5 * stops day ≤ firstSpare
-    → (second : List ℕ) (secondSpare : ℕ) → 5 * stops day ≤ length second → 5 * stops day ≤ secondSpare
-    → Demanded day K budget larger first firstSpare second secondSpare
-demanded day ok K budget larger l m b first firstSpare p q second secondSpare s t =
-    record {
-      one = answered day ok K budget l m first firstSpare p q;
-      two = answered day ok K larger l m second secondSpare s t;
-      both = demand-three day ok K budget larger b;
-    }
+-- a call: the day, K and budget, and how long the lent buffers are
+module _ (day : List ℕ) (ok : IsAccepted day) (K budget : ℕ) (l : 1 ≤ K) (m : K ≤ 50) (plan : List ℕ) (spare : ℕ) (p : 5 * stops day ≤ length plan) (q : 5 * stops day ≤ spare) where
+  pub answer-is : {answer : List ℕ} → answer ≡ planAnswer day K budget (length plan) spare → answer ≡ given (resultValues day (searched day K budget))
+  unfolding planAnswer plannedAnswer
+  answer-is e = e ∙ rw (ok, few-true K l m, long-true day (length plan) spare p q) refl
+
+  pub buffer-is : {buffer : List ℕ} → buffer ≡ planBuffer day K budget spare plan
+      → buffer ≡ planned day (planWords (searched day K budget .plan) (greedyLefts day)) plan
+  unfolding planBuffer plannedBuffer
+  buffer-is e = e ∙ rw (ok, few-true K l m, long-true day (length plan) spare p q) refl
+
+  -- what demand 3 says of its answer and of its buffer
+  module _ {answer buffer : List ℕ} (a : answer ≡ planAnswer day K budget (length plan) spare) (b : buffer ≡ planBuffer day K budget spare plan) where
+    abbrev words : List ℕ
+    words = planWords (searched day K budget .plan) (greedyLefts day)
+
+    front-is : take (length words) buffer ≡ words
+    front-is = ap (take (length words)) (buffer-is b) ∙ planned-front day words plan
+
+    pub planned-by : PlannedBy day K budget answer buffer
+    unfolding resultValues lawful-as
+    planned-by =
+        let r = searched day K budget in
+        let facts = promised-one day K budget ok in
+        let none = none-shorter day (greedyLefts day) ok K (r .plan) in
+        record {
+          distance = distanceOf day (r .plan);
+          trials = r .trials;
+          settled = r .settled;
+          words = length words;
+          lawful = lawful-as (facts .lawful) (facts .rounds) (facts .lefts) front-is;
+          inside = omega (arith, ap length (buffer-is b), planned-length day words plan (facts .fits) p, facts .fits);
+          answered = answer-is a;
+          exactly = front-is;
+          rounds = refl;
+          leftOut = facts .leftOut;
+          drives = refl;
+          noLonger = facts .noLonger;
+          counted = refl;
+          within = facts .within;
+          before = facts .at;
+          held = facts .held;
+          settledWhen = (λ s. let h = facts .settledWhen .0 s in (h .0, none .0 (h .1)), λ h. facts .settledWhen .1 (h .0, none .1 (h .1)));
+          whole = facts .whole;
+          spent = facts .spent;
+          settles = one-settles day K budget ok;
+        }
+
+    -- it leaves out the stops that the greedy plan leaves out
+    pub planned-lefts : planned-by .lawful .lefts ≡ greedyLefts day
+    unfolding planned-by lawful-as
+    planned-lefts = refl
+
+    -- not settled, a trial of its list was not made
+    pub planned-missed : planned-by .settled ≡ false → planned-by .trials < planned-by .before + length (trialList day K (planned-by .lawful .rounds))
+    unfolding planned-by lawful-as
+    planned-missed = promised-one day K budget ok .missed

@@ -79,7 +79,7 @@ fn are_long(day: &[u32], layout: Layout, room: usize, spare: usize) -> bool
 }
 
 // The answer on an accepted day.
-pub fn plan_accepted(
+pub(crate) fn plan_accepted(
     day: &[u32],
     layout: Layout,
     k: u64,

@@ -1,5 +1,5 @@
 // The calls that plan a day: any day, any lent buffers.
-pub mod accepted;
+mod accepted;
 
 ghost use mathlib.Core.Path.{_≡_};
 ghost use lib.ListN.{length};

@@ -1,5 +1,2 @@
 pub mod ImproveLaws
-pub mod Promises
-pub mod SearchSteps
-pub mod Searching
-pub mod TakeOverLaws
+pub mod TrialSteps

@@ -6,14 +6,15 @@ ghost use Rattle.rules.specs.Fields.{IsAccepted};
 ghost use Rattle.rules.specs.Build.{greedyRounds};
 ghost use Rattle.rules.specs.Attempts.{distanceOf};
 ghost use Rattle.day.specs.Layout.{LayoutOf};
-ghost use Rattle.trials.specs.Searches.{PlanAt, Improved};
-use crate::held::Held;
-use crate::search::Search;
-use crate::search::Setting;
+ghost use Rattle.search_steps.specs.Searches.{PlanAt};
+ghost use Rattle.trials.specs.Improvements.{Improved};
 use crate::search::run_trials;
 use builder::lefts::fill_zeros;
 use day::fields::Layout;
 use neighbours::table::fill_table;
+use search_steps::held::Held;
+use search_steps::steps::Search;
+use search_steps::steps::Setting;
 
 // The plan that the trials come to fills the buffer, with zeros behind it. Neighbours are worked out once.
 pub fn improve(

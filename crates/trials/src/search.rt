@@ -1,6 +1,6 @@
 // The search: trial after trial, from the start of the list again once a plan is kept.
 ghost use mathlib.Core.Path.{_≡_};
-ghost use mathlib.Core.Bool.{true, false, not};
+ghost use mathlib.Core.Bool.{true, false};
 ghost use mathlib.Core.List.{List};
 ghost use Prim.Native.Nat.{_-_, _≤_, _<_, _*_};
 ghost use lib.ListN.{length, take, drop};
@@ -10,101 +10,28 @@ ghost use Rattle.rules.specs.Build.{greedyRounds};
 ghost use Rattle.rules.specs.Attempts.{distanceOf};
 ghost use Rattle.day.specs.Layout.{LayoutOf};
 ghost use Rattle.neighbours.specs.Tables.{TableOf};
-ghost use Rattle.walks.specs.Rewalks.{EditKnown, EditSmall};
-ghost use Rattle.trial_list.specs.Listing.{PlanTables, CursorFits, ListAnswer};
+ghost use Rattle.edits.specs.EditWords.{EditKnown, EditSmall};
 ghost use Rattle.trial_list.specs.TrialRest.{listedTrial};
-ghost use Rattle.attempts.specs.Tries.{Made, SomeMade, TriedAs};
 ghost use Rattle.tracks.specs.Tables.{tracksWords};
-ghost use Rattle.trials.specs.Searches.{PlanAt, SomePlanAt, TakesOver, AfterTrial, NextTrial, BeginsAll, Searching, endedBy, goingOn};
-use crate::held::Held;
-use crate::held::make_tables;
-use attempts::candidate::copy_words;
+ghost use Rattle.attempts.specs.Tries.{Made, SomeMade, TriedAs};
+ghost use Rattle.search_steps.specs.Searches.{PlanAt, NextTrial, Searching};
+ghost use Rattle.trials.specs.Improvements.{AfterTrial};
 use attempts::tries::Tried;
 use attempts::tries::make_trial;
 use day::fields::Layout;
+use search_steps::held::Held;
+use search_steps::steps::Search;
+use search_steps::steps::Setting;
+use search_steps::steps::begin;
+use search_steps::steps::end;
+use search_steps::steps::going;
+use search_steps::steps::is_going;
+use search_steps::steps::list_next;
+use search_steps::steps::take_over;
 use trial_list::listing::Cursor;
 use trial_list::listing::Listed;
 use trial_list::listing::Trial;
 use trial_list::listing::first_trial;
-use trial_list::listing::next_trial;
-
-// What is asked for: K, and how many trials may be made.
-pub struct Setting {
-    pub k: usize,
-    pub budget: u64,
-}
-
-// The plan held: its words, its vehicles and how far it drives; how many trials were made, where the list goes on, and whether the search
-// has ended, settled or not.
-pub struct Search {
-    pub words: usize,
-    pub count: usize,
-    pub distance: u32,
-    pub made: u64,
-    pub cursor: Cursor,
-    pub ended: bool,
-    pub settled: bool,
-}
-
-// The plan at the front of the working buffer is taken over, and its tables are made. How many vehicles it has.
-fn take_over(
-    day: &[u32],
-    layout: Layout,
-    work: &mut [u32],
-    words: usize,
-    plan: &mut [u32],
-    starts: &mut [u32],
-    vehicles: &mut [u8],
-    driven: &mut [u32],
-    tracks: &mut [u32],
-) -> usize
-    requires { ⌜ LayoutOf (now day) layout × IsAccepted (now day) × SomePlanAt (now day) (now work) words × (5 * layout .stops ≤ length (now plan)) × (5 * layout .stops ≤ length (now work)) ⌝ }
-    requires { ⌜ (length (now starts) ≡ 256) × (length (now vehicles) ≡ 256) × (length (now driven) ≡ 256) × (length (now tracks) ≡ tracksWords) ⌝ }
-    ensures { λ r. ⌜ TakesOver (now (day .entry)) (now (work .entry)) words (now (plan .exit)) (now (starts .exit)) (now (vehicles .exit)) (now (driven .exit)) (now (tracks .exit)) r ⌝ }
-{
-    copy_words(&work[0..words], plan);
-    make_tables(
-        day,
-        layout,
-        &plan[0..words],
-        starts,
-        vehicles,
-        driven,
-        tracks,
-        work,
-    )
-}
-
-// The search has ended.
-fn end(s: Search, settled: bool) -> Search
-    ensures { λ r. ⌜ r ≡ endedBy s settled ⌝ }
-{
-    let cursor = s.cursor;
-    Search {
-        words: s.words,
-        count: s.count,
-        distance: s.distance,
-        made: s.made,
-        cursor,
-        ended: true,
-        settled,
-    }
-}
-
-// The search goes on with a plan held.
-fn going(words: usize, count: usize, distance: u32, made: u64, cursor: Cursor) -> Search
-    ensures { λ r. ⌜ r ≡ goingOn words count distance made cursor ⌝ }
-{
-    Search {
-        words,
-        count,
-        distance,
-        made,
-        cursor,
-        ended: false,
-        settled: false,
-    }
-}
 
 // A trial was made: its plan is taken over where it is kept, and else the list goes on.
 fn after_trial(
@@ -140,34 +67,6 @@ fn after_trial(
         return going(words, count, tried.distance, s.made + 1, first_trial());
     }
     going(s.words, s.count, s.distance, s.made + 1, next)
-}
-
-// The next trial of the plan held, or none.
-fn list_next(
-    layout: Layout,
-    set: Setting,
-    table: &[u8],
-    starts: &[u32],
-    vehicles: &[u8],
-    plan: &[u32],
-    s: Search,
-) -> Listed
-    requires { ⌜ PlanTables layout (set .k) (now table) (now starts) (now vehicles) (take (s .words - 0) (drop 0 (now plan))) (s .count) × CursorFits (now starts) (s .count) (s .cursor) × (s .words ≤ length (now plan)) ⌝ }
-    ensures { λ r. ⌜ ListAnswer layout (set .k) (now (table .entry)) (now (starts .entry)) (now (vehicles .entry)) (take (s .words - 0) (drop 0 (now (plan .entry)))) (s .count) (s .cursor) r ⌝ }
-{
-    let words = s.words;
-    let cursor = s.cursor;
-    let held = &plan[0..words];
-    next_trial(
-        layout,
-        set.k,
-        table,
-        starts,
-        vehicles,
-        s.count,
-        held,
-        cursor,
-    )
 }
 
 // A trial of the plan held is made.
@@ -276,40 +175,8 @@ fn next_step(
     end(s, true)
 }
 
-// Whether trials are still to be made.
-fn is_going(s: Search) -> bool
-    ensures { λ r. ⌜ r ≡ not (s .ended) ⌝ }
-{
-    if s.ended {
-        return false;
-    }
-    true
-}
-
-// The greedy plan is held; its tables are made, and no trial is made yet.
-fn begin(
-    day: &[u32],
-    layout: Layout,
-    held: Held,
-    plan: &[u32],
-    starts: &mut [u32],
-    vehicles: &mut [u8],
-    driven: &mut [u32],
-    tracks: &mut [u32],
-    work: &mut [u32],
-) -> Search
-    requires { ⌜ LayoutOf (now day) layout × IsAccepted (now day) × PlanAt (now day) (now plan) (held .words) (greedyRounds (now day)) × (held .distance ≡ distanceOf (now day) (greedyRounds (now day))) × (5 * layout .stops ≤ length (now work)) ⌝ }
-    requires { ⌜ (length (now starts) ≡ 256) × (length (now vehicles) ≡ 256) × (length (now driven) ≡ 256) × (length (now tracks) ≡ tracksWords) ⌝ }
-    ensures { λ r. ⌜ BeginsAll (now (day .entry)) (now (plan .entry)) (now (starts .exit)) (now (vehicles .exit)) (now (driven .exit)) (now (tracks .exit)) r ⌝ }
-{
-    let words = held.words;
-    let front = &plan[0..words];
-    let count = make_tables(day, layout, front, starts, vehicles, driven, tracks, work);
-    going(words, count, held.distance, 0, first_trial())
-}
-
 // Trials of the greedy plan, and of the plans that come of it, are made until the search ends.
-pub fn run_trials(
+pub(crate) fn run_trials(
     day: &[u32],
     layout: Layout,
     set: Setting,

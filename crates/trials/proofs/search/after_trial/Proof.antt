@@ -1,6 +1,6 @@
 -- `trials::search::after_trial` meets its contract.
 use native.Mathlib.Omega.{arith}
-use Rattle.trials.proofs.SearchSteps.{goes-on, kept-plan, keeps-plan}
+use Rattle.trials.proofs.TrialSteps.{goes-on, kept-plan, keeps-plan}
 use borrow.Author.Needs.{needs}
 use Rattle.trials.proofs.search.after_trial.Statement.{statement}
 use Rattle.trials.proofs.search.after_trial.Tie as tie

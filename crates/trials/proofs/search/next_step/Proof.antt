@@ -1,8 +1,8 @@
 -- `trials::search::next_step` meets its contract.
 use mathlib.Core.Path.{sym, ap, _∙_}
-use Rattle.trials.specs.declared.search.Search.{Search}
+use Rattle.search_steps.specs.declared.steps.Search.{Search}
 use mathlib.Core.Bool.{true≢false}
-use Rattle.trials.proofs.SearchSteps.{held-tables, ends-settled, ends-spent, next-trial}
+use Rattle.search_steps.proofs.SearchSteps.{held-tables, ends-settled, ends-spent, next-trial}
 use borrow.Author.Needs.{needs}
 use Rattle.trials.proofs.search.next_step.Statement.{statement}
 use Rattle.trials.proofs.search.next_step.Tie as tie

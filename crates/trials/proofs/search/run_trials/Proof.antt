@@ -5,8 +5,8 @@ use mathlib.Core.Path.{_≡_, refl, sym, _∙_}
 use native.Mathlib.Omega.{arith}
 use lib.ListN.{length}
 use Rattle.rules.specs.Tests.{if_then_else_}
-use Rattle.trials.specs.Searches.{Searching}
-use Rattle.trials.proofs.SearchSteps.{is-on, is-off, fewer-left}
+use Rattle.search_steps.specs.Searches.{Searching}
+use Rattle.search_steps.proofs.SearchSteps.{is-on, is-off, fewer-left}
 use Rattle.trials.proofs.search.run_trials.Statement.{statement}
 use Rattle.trials.proofs.search.run_trials.Tie as tie
 

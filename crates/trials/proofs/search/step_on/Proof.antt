@@ -1,6 +1,7 @@
 -- `trials::search::step_on` meets its contract.
 use native.Mathlib.Omega.{arith}
-use Rattle.trials.proofs.SearchSteps.{trial-names, some-made, after-made}
+use Rattle.search_steps.proofs.SearchSteps.{trial-names}
+use Rattle.trials.proofs.TrialSteps.{some-made, after-made}
 use borrow.Author.Needs.{needs}
 use Rattle.trials.proofs.search.step_on.Statement.{statement}
 use Rattle.trials.proofs.search.step_on.Tie as tie

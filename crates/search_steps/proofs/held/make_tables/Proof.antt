@@ -1,10 +1,10 @@
--- `trials::held::make_tables` meets its contract.
+-- `search_steps::held::make_tables` meets its contract.
 use Rattle.greedy_laws.proofs.GreedyRoom.{room-is}
 use Rattle.tracks.proofs.TrackableLaws.{some-trackable}
-use Rattle.trials.proofs.TakeOverLaws.{held-short, held-plan, held-survey, tables-made}
+use Rattle.search_steps.proofs.TakeOverLaws.{held-short, held-plan, held-survey, tables-made}
 use borrow.Author.Needs.{needs}
-use Rattle.trials.proofs.held.make_tables.Statement.{statement}
-use Rattle.trials.proofs.held.make_tables.Tie as tie
+use Rattle.search_steps.proofs.held.make_tables.Statement.{statement}
+use Rattle.search_steps.proofs.held.make_tables.Tie as tie
 
 survey-requires : tie.Need-survey-requires
 survey-requires c κs = let p = c .before .before .before .before .before .before .before .before .before .before .pre .0 in ((p .0, held-short (p .1) (p .2), held-plan (p .1) (p .2)), (c .before .before .before .before .before .before .before .before .before .before .pre .1 .0, c .before .before .before .before .before .before .before .before .before .before .pre .1 .1, c .before .before .before .before .before .before .before .before .before .before .pre .1 .2))

@@ -5,7 +5,7 @@ ghost use lib.ListN.{length};
 ghost use Rattle.rules.specs.Fields.{IsAccepted};
 ghost use Rattle.day.specs.Layout.{LayoutOf};
 ghost use Rattle.tracks.specs.Tables.{tracksWords};
-ghost use Rattle.trials.specs.Searches.{SomeHeld, MakesTables};
+ghost use Rattle.search_steps.specs.Searches.{SomeHeld, MakesTables};
 use day::fields::Layout;
 use tracks::tables::track;
 use trial_list::survey::survey;
@@ -17,7 +17,7 @@ pub struct Held {
 }
 
 // Where its vehicles are and how far they drive, and what trials are measured by. The working buffer is worked in. How many vehicles it has.
-pub fn make_tables(
+pub(crate) fn make_tables(
     day: &[u32],
     layout: Layout,
     plan: &[u32],

@@ -1,26 +1,25 @@
--- The search while it goes on, as the code has it. It serves the contracts of this crate's own functions. Assumes nothing.
+-- The search while it goes on, as the code has it. It serves the contracts of the functions that begin a search, go on with it and end it. Assumes nothing.
 use Prim.Native.Nat.{ℕ, _-_, _≤_, _<_}
 use mathlib.Core.Path.{_≡_}
 use mathlib.Core.Bool.{Bool, true, false}
-use mathlib.Core.List.{List, _∷_, _++_}
-use lib.ListN.{length, take, replicate}
+use mathlib.Core.List.{List, _∷_}
+use lib.ListN.{length, take}
 use Rattle.rules.specs.Lists.{Every}
 use Rattle.rules.specs.Plan.{Round, planWords}
-use Rattle.rules.specs.Build.{greedyRounds, greedyLefts}
+use Rattle.rules.specs.Build.{greedyLefts}
 use Rattle.rules.specs.Edits.{Trial}
 use Rattle.rules.specs.TrialList.{trialList}
 use Rattle.rules.specs.Attempts.{distanceOf, attempt}
-use Rattle.rules.specs.Search.{Result, run, improve}
+use Rattle.rules.specs.Search.{run}
+use Rattle.rules.specs.Planning.{searched}
 use Rattle.trial_list.specs.Listing.{CursorFits}
 use Rattle.trial_list.specs.Shapes.{Shaped, Valid}
 use Rattle.trial_list.specs.Survey.{Surveyed}
 use Rattle.trial_list.specs.TrialRest.{restOf, listedTrial}
 use Rattle.trial_list.specs.declared.listing.Cursor.{Cursor}
 use Rattle.trial_list.specs.declared.listing.Listed.{Listed}
-use Rattle.attempts.specs.Tries.{TriedAs}
-use Rattle.attempts.specs.declared.tries.Tried.{Tried}
 use Rattle.tracks.specs.Tables.{TrackedIn}
-use Rattle.trials.specs.declared.search.Search.{Search}
+use Rattle.search_steps.specs.declared.steps.Search.{Search}
 
 -- a plan of these words is one that trials work on
 pub record PlanAt (day buffer : List ℕ) (words : ℕ) (rounds : List Round) : Type 0 where
@@ -58,16 +57,12 @@ abbrev pub TakesOver : List ℕ → List ℕ → ℕ → List ℕ → List ℕ �
 TakesOver day buffer words plan starts vehicles distances tracks count =
     (rounds : List Round) → PlanAt day buffer words rounds → TakenOver day plan words rounds starts vehicles distances tracks count
 
--- document 01's search with one neighbourhood
-abbrev pub fromGreedy : List ℕ → ℕ → ℕ → Result (List Round)
-fromGreedy day K budget = improve (trialList day K) (attempt day (greedyLefts day)) budget (greedyRounds day)
-
 -- trials are still to be made of the plan held
 pub record Going (day : List ℕ) (K budget : ℕ) (starts : List ℕ) (rounds : List Round) (s : Search) : Type 0 where
   pub fits : CursorFits starts (s .count) (s .cursor)
   pub valid : Every (Valid day rounds) (restOf day K rounds (s .cursor))
   pub same :
-      run (trialList day K) (attempt day (greedyLefts day)) (budget - s .made) rounds (restOf day K rounds (s .cursor)) (s .made) ≡ fromGreedy day K budget
+      run (trialList day K) (attempt day (greedyLefts day)) (budget - s .made) rounds (restOf day K rounds (s .cursor)) (s .made) ≡ searched day K budget
 
 -- the search, going on or ended
 pub record Searching (day : List ℕ) (K budget : ℕ) (plan starts vehicles distances tracks : List ℕ) (s : Search) : Type 0 where
@@ -76,7 +71,7 @@ pub record Searching (day : List ℕ) (K budget : ℕ) (plan starts vehicles dis
   pub drives : s .distance ≡ distanceOf day rounds
   pub within : s .made ≤ budget
   pub going : s .ended ≡ false → Going day K budget starts rounds s
-  pub done : s .ended ≡ true → record { plan = rounds; trials = s .made; settled = s .settled } ≡ fromGreedy day K budget
+  pub done : s .ended ≡ true → record { plan = rounds; trials = s .made; settled = s .settled } ≡ searched day K budget
 
 -- the search goes on with a plan held
 abbrev pub goingOn : (words count distance made : ℕ) → Cursor → Search
@@ -99,25 +94,11 @@ pub record Ahead (day : List ℕ) (K budget : ℕ) (plan starts vehicles distanc
   pub mayBe : Valid day rounds m
   pub fits : CursorFits starts (s .count) next
   pub same :
-      run (trialList day K) (attempt day (greedyLefts day)) (budget - s .made) rounds (restOf day K rounds (s .cursor)) (s .made) ≡ fromGreedy day K budget
+      run (trialList day K) (attempt day (greedyLefts day)) (budget - s .made) rounds (restOf day K rounds (s .cursor)) (s .made) ≡ searched day K budget
 
 abbrev pub NextTrial : List ℕ → ℕ → ℕ → List ℕ → List ℕ → List ℕ → List ℕ → List ℕ → Search → Listed → Type 0
 NextTrial day K budget plan starts vehicles distances tracks s l = Ahead day K budget plan starts vehicles distances tracks s (listedTrial (l .trial)) (l .next)
 
--- such a trial was made
-pub record AfterTrial (day : List ℕ) (K budget : ℕ) (work plan starts vehicles distances tracks : List ℕ) (s : Search) (next : Cursor) (tried : Tried) : Type 0 where
-  pub m : Trial
-  pub ahead : Ahead day K budget plan starts vehicles distances tracks s m next
-  pub triedAs : TriedAs day m (ahead .rounds) work tried
-
 -- the greedy plan is held, and no trial is made yet
 abbrev pub BeginsAll : List ℕ → List ℕ → List ℕ → List ℕ → List ℕ → List ℕ → Search → Type 0
 BeginsAll day plan starts vehicles distances tracks s = (K budget : ℕ) → Searching day K budget plan starts vehicles distances tracks s
-
--- the plan that the search hands over fills the buffer, with zeros behind it
-pub record Improved (day : List ℕ) (K budget : ℕ) (plan : List ℕ) (r : Search) : Type 0 where
-  pub rounds : List Round
-  pub is : record { plan = rounds; trials = r .made; settled = r .settled } ≡ fromGreedy day K budget
-  pub count : r .words ≡ length (planWords rounds (greedyLefts day))
-  pub distance : r .distance ≡ distanceOf day rounds
-  pub text : plan ≡ planWords rounds (greedyLefts day) ++ replicate (length plan - r .words) 0

@@ -11,8 +11,9 @@ use native.Mathlib.Omega.{arith}
 use native.Mathlib.Numerals.{add-one}
 use native.Mathlib.Nat.{mul-le-mul-right, suc-add, sub-zero}
 use lib.ListN.{length, length-append}
-use Rattle.rules.specs.Search.{Result, run, improve, Held, start, kept, lists, sum}
-use Rattle.trials.specs.Outcomes.{Outcome}
+use Rattle.rules.specs.Search.{Result, run, improve, Held, start, kept}
+use Rattle.search_laws.specs.Neighbourhoods.{lists, sum}
+use Rattle.search_laws.specs.Outcomes.{Outcome}
 use Rattle.laws.proofs.Decided.{known-option}
 
 module _ {P M : Type 0} (list : P → List M) (attempt : P → M → Option P) where

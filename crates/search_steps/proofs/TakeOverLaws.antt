@@ -15,10 +15,10 @@ use Rattle.day.proofs.Ranges.{accepted-ranges}
 use Rattle.trial_list.specs.Shapes.{Shaped}
 use Rattle.trial_list.specs.Survey.{PlanOf, SomePlan, Surveyed, SurveysAll}
 use Rattle.trial_list.proofs.Shapes.{shaped-few, shaped-length}
-use Rattle.attempts.proofs.KeptLaws.{front-part}
+use Rattle.candidates.proofs.CopyLaws.{front-part}
 use Rattle.tracks.specs.Tables.{TracksIn}
 use Rattle.tracks.proofs.TrackableLaws.{shaped-trackable}
-use Rattle.trials.specs.Searches.{PlanAt, SomePlanAt, SomeHeld, MakesTables, TakenOver}
+use Rattle.search_steps.specs.Searches.{PlanAt, SomePlanAt, SomeHeld, MakesTables, TakenOver}
 
 -- the vehicles of a plan that trials work on, for its tables
 held-of : {day plan : List ℕ} {rounds : List Round} → IsAccepted day → Shaped day rounds → plan ≡ planWords rounds (greedyLefts day) → PlanOf day plan rounds (greedyLefts day)

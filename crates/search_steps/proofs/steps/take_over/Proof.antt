@@ -1,10 +1,10 @@
--- `trials::search::take_over` meets its contract.
+-- `search_steps::steps::take_over` meets its contract.
 use native.Mathlib.Omega.{arith}
 use Rattle.greedy_laws.proofs.GreedyRoom.{room-is}
-use Rattle.trials.proofs.TakeOverLaws.{slice-size, words-most, copied, some-held, taken-over}
+use Rattle.search_steps.proofs.TakeOverLaws.{slice-size, words-most, copied, some-held, taken-over}
 use borrow.Author.Needs.{needs}
-use Rattle.trials.proofs.search.take_over.Statement.{statement}
-use Rattle.trials.proofs.search.take_over.Tie as tie
+use Rattle.search_steps.proofs.steps.take_over.Statement.{statement}
+use Rattle.search_steps.proofs.steps.take_over.Tie as tie
 
 copy-words-requires : tie.Need-copy-words-requires
 copy-words-requires c κs = let s = c .before .before .before .before .before .before .before .before .before .before .pre .0 .2 in omega (arith, slice-size (s .planAt), words-most (s .planAt), room-is (c .before .before .before .before .before .before .before .before .before .before .pre .0 .0) (c .before .before .before .before .before .before .before .before .before .before .pre .0 .3))

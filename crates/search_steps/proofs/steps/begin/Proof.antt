@@ -1,9 +1,9 @@
--- `trials::search::begin` meets its contract.
-use Rattle.trials.proofs.ImproveLaws.{begins}
-use Rattle.trials.proofs.TakeOverLaws.{some-held}
+-- `search_steps::steps::begin` meets its contract.
+use Rattle.search_steps.proofs.BeginLaws.{begins}
+use Rattle.search_steps.proofs.TakeOverLaws.{some-held}
 use borrow.Author.Needs.{needs}
-use Rattle.trials.proofs.search.begin.Statement.{statement}
-use Rattle.trials.proofs.search.begin.Tie as tie
+use Rattle.search_steps.proofs.steps.begin.Statement.{statement}
+use Rattle.search_steps.proofs.steps.begin.Tie as tie
 
 make-tables-requires : tie.Need-make-tables-requires
 make-tables-requires c κs = let p = c .before .before .before .before .before .before .before .before .before .before .before .before .before .pre .0 in ((p .0, p .1, some-held (record { rounds = _; planAt = p .2 }), p .4), c .before .before .before .before .before .before .before .before .before .before .before .before .before .pre .1)

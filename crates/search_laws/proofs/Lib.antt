@@ -1,0 +1,3 @@
+pub mod KeptTrials
+pub mod NoneShorter
+pub mod Searching

@@ -1,0 +1,2 @@
+pub mod Neighbourhoods
+pub mod Outcomes

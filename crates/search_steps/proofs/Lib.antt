@@ -1,0 +1,4 @@
+pub mod BeginLaws
+pub mod Promises
+pub mod SearchSteps
+pub mod TakeOverLaws
