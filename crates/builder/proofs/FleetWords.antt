@@ -1,6 +1,6 @@
 -- The words of the vehicles while they are written one behind the other.
 -- Assumes nothing.
-use Prim.Native.Nat.{ℕ, _+_, _-_, _*_, _≤_, _<_}
+use Prim.Native.Nat.{ℕ, _+_, _-_, _*_, _≤_, _<_, min}
 use mathlib.Core.Path.{_≡_, refl, sym, ap, _∙_, subst, fun-ext}
 use mathlib.Core.Bool.{and-true}
 use mathlib.Core.List.{List, [], _∷_, _++_, map, append-assoc, append-nil}
@@ -164,6 +164,16 @@ module _ {day p part : List ℕ} {m : Marks} {at number words : ℕ} (u : Underw
       underway-next =
           let one = w (u .taken) (u .leftIs) in
           elim (eq-zero-or-pos more) [ inl z ↦ idle-next more one z | inr l ↦ busy-next more one l ]
+
+      -- a vehicle that is written takes a stop, so that the ones fall; one that takes none is the last
+      pub ones-fall : onesOf (r .words) + min more 1 < onesOf (m .words) + min words 1
+      ones-fall =
+          let one = w (u .taken) (u .leftIs) in
+          let before = u .leftIs .count in
+          elim (eq-zero-or-pos more) [
+            | inl z ↦ omega (arith, one .left z .count, h)
+            | inr l ↦ omega (arith, one .done l .leftIs .count, one .some l, vehicle-unmet day (u .taken), h)
+          ]
 
       pub next-few : at + more ≤ 1200
       next-few = let after = underway-next in omega (arith, after .room, u .most)

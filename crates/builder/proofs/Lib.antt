@@ -1,4 +1,3 @@
 pub mod BuiltPlans
 pub mod FleetWords
 pub mod LeftLaws
-pub mod ToldApart

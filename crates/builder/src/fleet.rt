@@ -8,7 +8,7 @@ use vehicle_writer::writer::Written;
 use vehicle_writer::writer::write_vehicle;
 
 // The words of all vehicles: the stops still to be routed then, and how many words there are.
-pub fn write_vehicles(day: &[u32], layout: Layout, plan: &mut [u32]) -> Written
+pub(crate) fn write_vehicles(day: &[u32], layout: Layout, plan: &mut [u32]) -> Written
     requires { ⌜ LayoutOf (now day) layout × (layout .stops ≤ 240) × (5 * layout .stops ≤ length (now plan)) ⌝ }
     ensures { λ r. ⌜ AllWritten (now (day .entry)) (now (plan .entry)) (now (plan .exit)) (r .left) (r .words) ⌝ }
 {

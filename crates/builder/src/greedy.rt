@@ -15,9 +15,9 @@ use rules::answers::Answer;
 use rules::answers::PlanAnswer;
 
 // How many words a plan has, and how many stops it leaves out.
-pub struct Size {
-    pub words: usize,
-    pub lefts: usize,
+struct Size {
+    words: usize,
+    lefts: usize,
 }
 
 // The vehicles, the stops left out, and zeros to the end of the five words for each stop.

@@ -11,7 +11,7 @@ use marks::unmark;
 use plan_words::left_word;
 
 // The F words of the stops still to be routed, rising, from place `from` on; how many words there are then.
-pub fn write_lefts(left: Marks, part: &mut [u32], from: usize) -> usize
+pub(crate) fn write_lefts(left: Marks, part: &mut [u32], from: usize) -> usize
     requires { ⌜ from + onesOf (left .words) ≤ length (now part) ⌝ }
     ensures count { λ r. ⌜ r ≤ from + onesOf (left .words) ⌝ }
     ensures text { λ r. ⌜ LeavesAll (now (part .entry)) from left (now (part .exit)) r ⌝ }

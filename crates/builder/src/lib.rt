@@ -1,4 +1,4 @@
 // The greedy build.
-pub mod fleet;
+mod fleet;
 pub mod greedy;
 pub mod lefts;

@@ -1,5 +1,5 @@
 // A plan against a day: lawful, or refused at its first word at fault.
-pub mod run;
+mod run;
 
 ghost use mathlib.Core.Path.{_≡_};
 ghost use Rattle.day.specs.Layout.{LayoutOf};

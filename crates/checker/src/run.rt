@@ -65,7 +65,7 @@ fn check_each(day: &[u32], layout: day::fields::Layout, limits: Limits, plan: &[
 }
 
 // The answer on a plan of at most 4,096 words. Where the walk over the parts ends without an answer, each word is looked at.
-pub fn check_words(day: &[u32], layout: day::fields::Layout, plan: &[u32]) -> Answer
+pub(crate) fn check_words(day: &[u32], layout: day::fields::Layout, plan: &[u32]) -> Answer
     requires { ⌜ LayoutOf (now day) layout × (length (now plan) ≤ 4096) ⌝ }
     ensures { λ r. ⌜ answerValues r ≡ checkFrom (now (day .entry)) (now (plan .entry)) 0 (start (now (day .entry))) ⌝ }
 {

@@ -24,14 +24,14 @@ pub struct Leg {
     pub distance: u32,
 }
 
-// The layout of an accepted day, whose length is known to be right.
+// The layout of an accepted day, whose length is known to be right: word 0 has d in bits 11-8, n in bits 7-0.
 pub fn layout_of(day: &[u32]) -> Layout
     requires { ⌜ length (now day) ≡ wordsOf (tips (now day)) (stops (now day)) ⌝ }
     ensures { λ r. ⌜ LayoutOf (now (day .entry)) r ⌝ }
 {
     let w = day[0];
-    let tips = (w / 256 % 16) as usize;
-    let stops = (w % 256) as usize;
+    let tips = (w / 0x100 % 0x10) as usize;
+    let stops = (w % 0x100) as usize;
     Layout {
         stops,
         tips,
@@ -40,23 +40,23 @@ pub fn layout_of(day: &[u32]) -> Layout
     }
 }
 
-// The lone number at an index.
+// The lone number at an index, in bits 26-0.
 fn number_at(day: &[u32], i: usize) -> u32
     requires { ⌜ i < length (now day) ⌝ }
     ensures { λ r. ⌜ r ≡ loneNumber (wordAt (now (day .entry)) i) ⌝ }
 {
-    day[i] % 134217728
+    day[i] % 0x8000000
 }
 
-// The two ends of the window at an index.
+// The two ends of the window at an index: its opening in bits 23-12, its closing in bits 11-0.
 fn window_at(day: &[u32], i: usize) -> Window
     requires { ⌜ i < length (now day) ⌝ }
     ensures { λ r. ⌜ (r .opening ≡ windowOpening (wordAt (now (day .entry)) i)) × (r .closing ≡ windowClosing (wordAt (now (day .entry)) i)) ⌝ }
 {
     let w = day[i];
     Window {
-        opening: w / 4096 % 4096,
-        closing: w % 4096,
+        opening: w / 0x1000 % 0x1000,
+        closing: w % 0x1000,
     }
 }
 
@@ -137,14 +137,14 @@ pub fn stop_quantity(day: &[u32], layout: Layout, stop: usize) -> u32
     number_at(day, 6 + 2 * layout.tips + 3 * stop)
 }
 
-// The leg from place p to place q.
+// The leg from place p to place q: its minutes in bits 27-16, its distance in bits 15-0.
 pub fn leg_between(day: &[u32], layout: Layout, p: usize, q: usize) -> Leg
     requires { ⌜ LayoutOf (now day) layout × (p < layout .places) × (q < layout .places) ⌝ }
     ensures { λ r. ⌜ LegOf (now (day .entry)) p q r ⌝ }
 {
     let w = day[layout.legs + p * layout.places + q];
     Leg {
-        minutes: w / 65536 % 4096,
-        distance: w % 65536,
+        minutes: w / 0x10000 % 0x1000,
+        distance: w % 0x10000,
     }
 }

@@ -11,6 +11,7 @@ fn wide(x: u8) -> u32
     x as u32
 }
 
+// The word of the four bytes from index 4i on: each byte stands 8 bits above the one before it.
 fn word_from(bytes: &[u8], i: usize) -> u32
     requires { ⌜ 4 * i + 3 < length (now bytes) ⌝ }
     ensures { λ r. ⌜ r ≡ byteWord (now (bytes .entry)) i ⌝ }
@@ -20,11 +21,11 @@ fn word_from(bytes: &[u8], i: usize) -> u32
     let b = wide(bytes[at + 1]);
     let c = wide(bytes[at + 2]);
     let d = wide(bytes[at + 3]);
-    a + 256 * b + 65536 * c + 16777216 * d
+    a + 0x100 * b + 0x10000 * c + 0x1000000 * d
 }
 
 // The first n words, written at the front of the buffer.
-pub fn write_words(bytes: &[u8], words: &mut [u32], n: usize)
+pub(crate) fn write_words(bytes: &[u8], words: &mut [u32], n: usize)
     requires { ⌜ (4 * n ≤ length (now bytes)) × (n ≤ length (now words)) ⌝ }
     ensures { λ r. ⌜ now (words .exit) ≡ over (byteWords (now (bytes .entry)) n) (now (words .entry)) ⌝ }
 {

@@ -1,5 +1,5 @@
 // A day file's bytes, read as words.
-pub mod bytes;
+mod bytes;
 
 ghost use mathlib.Core.Path.{_≡_};
 ghost use Prim.Native.Nat.{_<_};

@@ -28,13 +28,13 @@ pub record Whole (day : List ℕ) (d n : ℕ) : Type 0 where
 
 -- each word from one index up to another is a leg of at most 1,440 minutes: kind and minutes are one range of words
 pub record InRange (day : List ℕ) (from end : ℕ) : Type 0 where
-  pub least : (k : ℕ) → from ≤ k → k < end → 2415919104 ≤ getD day k 0
-  pub most : (k : ℕ) → from ≤ k → k < end → getD day k 0 ≤ 2510356479
+  pub least : (k : ℕ) → from ≤ k → k < end → 0x90000000 ≤ getD day k 0
+  pub most : (k : ℕ) → from ≤ k → k < end → getD day k 0 ≤ 0x95A0FFFF
 
 -- besides, the leg from the row's own place to itself is 0
 pub record RowRight (day : List ℕ) (from end own : ℕ) : Type 0 where
   pub legs : InRange day from end
-  pub still : getD day own 0 ≡ 2415919104
+  pub still : getD day own 0 ≡ 0x90000000
 
 -- the legs from place p stand from one index up to another
 pub record Row (day : List ℕ) (d n p from end : ℕ) : Type 0 where

@@ -14,7 +14,7 @@ pub struct Fault {
 }
 
 // Nothing found up to an index.
-pub fn none_until(end: usize) -> Fault
+pub(crate) fn none_until(end: usize) -> Fault
     ensures { λ r. ⌜ (r .number ≡ 0) × (r .place ≡ end) ⌝ }
 {
     Fault {

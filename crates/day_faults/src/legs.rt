@@ -9,14 +9,15 @@ use crate::faults::Fault;
 use crate::faults::none_until;
 use crate::words::leg_word_fault;
 
-// 0 where a word is a leg of at most 1,440 minutes, else 1.
+// 0 where a word is a leg of at most 1,440 minutes, else 1. Such legs are one range of words: kind 9 in bits 31-28, minutes 0 to
+// 0x5A0 in bits 27-16, any distance in bits 15-0.
 fn out_of_range(w: u32) -> u32
-    ensures { λ r. ⌜ (r ≤ 1) × (r ≡ 0 → (2415919104 ≤ w) × (w ≤ 2510356479)) ⌝ }
+    ensures { λ r. ⌜ (r ≤ 1) × (r ≡ 0 → (0x90000000 ≤ w) × (w ≤ 0x95A0FFFF)) ⌝ }
 {
-    if w < 2415919104 {
+    if w < 0x90000000 {
         return 1;
     }
-    if 2510356479 < w {
+    if 0x95A0FFFF < w {
         return 1;
     }
     0
@@ -24,7 +25,7 @@ fn out_of_range(w: u32) -> u32
 
 // How many words of a part of the legs are out of range. The loop has no way out but its end, so that several words are compared at once.
 fn legs_off(day: &[u32], from: usize, end: usize) -> u32
-    requires { ⌜ (from ≤ end) × (end ≤ length (now day)) × (length (now day) < 4294967296) ⌝ }
+    requires { ⌜ (from ≤ end) × (end ≤ length (now day)) × (length (now day) < 0x100000000) ⌝ }
     ensures { λ r. ⌜ (r ≡ 0 → InRange (now (day .entry)) from end) ⌝ }
 {
     let mut off: u32 = 0;
@@ -55,13 +56,13 @@ fn row_words_fault(day: &[u32], d: u32, n: u32, p: usize, from: usize, end: usiz
 
 // Whether a row is right at a glance: every word in range, and nothing to drive from the place to itself.
 fn row_right(day: &[u32], from: usize, end: usize, own: usize) -> bool
-    requires { ⌜ (from ≤ own) × (own < end) × (end ≤ length (now day)) × (length (now day) < 4294967296) ⌝ }
+    requires { ⌜ (from ≤ own) × (own < end) × (end ≤ length (now day)) × (length (now day) < 0x100000000) ⌝ }
     ensures { λ r. ⌜ (r ≡ true → RowRight (now (day .entry)) from end own) ⌝ }
 {
     if legs_off(day, from, end) != 0 {
         return false;
     }
-    day[own] == 2415919104
+    day[own] == 0x90000000
 }
 
 // The first fault among the legs from place p.

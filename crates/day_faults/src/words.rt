@@ -4,15 +4,15 @@ ghost use Prim.Native.Nat.{_<_};
 ghost use Rattle.rules.specs.Tests.{if_then_else_};
 ghost use Rattle.rules.specs.DayFile.{lone, window, leg, stay, headForm, faultOf};
 
-// The fault of a lone number.
-pub fn number_fault(w: u32, kind: u32, least: u32, most: u32) -> u32
+// The fault of a lone number: its kind in bits 31-28, bit 27 zero, its value in bits 26-0.
+pub(crate) fn number_fault(w: u32, kind: u32, least: u32, most: u32) -> u32
     requires { ⌜ kind < 16 ⌝ }
     ensures { λ r. ⌜ r ≡ faultOf (lone kind least most) w ⌝ }
 {
-    if w / 134217728 != 2 * kind {
+    if w / 0x8000000 != 2 * kind {
         return 2;
     }
-    let value = w % 134217728;
+    let value = w % 0x8000000;
     if value < least {
         return 5;
     }
@@ -22,16 +22,16 @@ pub fn number_fault(w: u32, kind: u32, least: u32, most: u32) -> u32
     0
 }
 
-// The fault of a window.
-pub fn window_fault(w: u32, kind: u32) -> u32
+// The fault of a window: its kind in bits 31-28, bits 27-24 zero, its opening in bits 23-12, its closing in bits 11-0.
+pub(crate) fn window_fault(w: u32, kind: u32) -> u32
     requires { ⌜ kind < 16 ⌝ }
     ensures { λ r. ⌜ r ≡ faultOf (window kind) w ⌝ }
 {
-    if w / 16777216 != 16 * kind {
+    if w / 0x1000000 != 0x10 * kind {
         return 2;
     }
-    let closing = w % 4096;
-    if closing < w / 4096 % 4096 {
+    let closing = w % 0x1000;
+    if closing < w / 0x1000 % 0x1000 {
         return 5;
     }
     if 1440 < closing {
@@ -40,34 +40,34 @@ pub fn window_fault(w: u32, kind: u32) -> u32
     0
 }
 
-// The fault of a leg.
+// The fault of a leg: kind 9 in bits 31-28, its minutes in bits 27-16.
 fn leg_fault(w: u32) -> u32
     ensures { λ r. ⌜ r ≡ faultOf leg w ⌝ }
 {
-    if w / 268435456 != 9 {
+    if w / 0x10000000 != 9 {
         return 2;
     }
-    if 1440 < w / 65536 % 4096 {
+    if 1440 < w / 0x10000 % 0x1000 {
         return 5;
     }
     0
 }
 
-// The fault of a leg from a place to itself.
+// The fault of a leg from a place to itself: kind 9 in bits 31-28, all other bits zero.
 fn stay_fault(w: u32) -> u32
     ensures { λ r. ⌜ r ≡ faultOf stay w ⌝ }
 {
-    if w / 268435456 != 9 {
+    if w / 0x10000000 != 9 {
         return 2;
     }
-    if w % 268435456 != 0 {
+    if w % 0x10000000 != 0 {
         return 5;
     }
     0
 }
 
 // The fault of a leg, which may be one from a place to itself.
-pub fn leg_word_fault(own: bool, w: u32) -> u32
+pub(crate) fn leg_word_fault(own: bool, w: u32) -> u32
     ensures { λ r. ⌜ r ≡ faultOf (if own then stay else leg) w ⌝ }
 {
     if own {
@@ -77,7 +77,7 @@ pub fn leg_word_fault(own: bool, w: u32) -> u32
 }
 
 // The fault of one of the words 1 to 6.
-pub fn head_word_fault(i: usize, w: u32) -> u32
+pub(crate) fn head_word_fault(i: usize, w: u32) -> u32
     ensures { λ r. ⌜ r ≡ faultOf (headForm i) w ⌝ }
 {
     if i == 1 {

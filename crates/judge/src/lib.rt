@@ -90,7 +90,8 @@ fn judge_sized(day: &[u32], d: u32, n: u32) -> DayAnswer
     judge_words(day, d, n)
 }
 
-// A day of any words and any length is accepted, or refused by 1 to 5.
+// A day of any words and any length is accepted, or refused by 1 to 5. Word 0 has kind 1 in bits 31-28, zeros in bits 27-12, d in
+// bits 11-8, n in bits 7-0.
 pub fn judge(day: &[u32]) -> DayAnswer
     ensures { λ r. ⌜ dayValues r ≡ judgeDay (now (day .entry)) ⌝ }
 {
@@ -101,11 +102,11 @@ pub fn judge(day: &[u32]) -> DayAnswer
         };
     }
     let w = day[0];
-    if w / 4096 != 65536 {
+    if w / 0x1000 != 0x10000 {
         return DayAnswer::Refused {
             number: 2,
             place: 0,
         };
     }
-    judge_sized(day, w / 256 % 16, w % 256)
+    judge_sized(day, w / 0x100 % 0x10, w % 0x100)
 }

@@ -12,14 +12,14 @@ pub struct Marks {
 }
 
 // No number is marked.
-pub fn none() -> Marks
+fn none() -> Marks
     ensures { λ r. ⌜ r .words ≡ replicate 4 0 ⌝ }
 {
     Marks { words: [0u64; 4] }
 }
 
 // The set with k, which was not in it.
-pub fn mark(m: Marks, k: usize) -> Marks
+fn mark(m: Marks, k: usize) -> Marks
     requires { ⌜ (k < 256) × (marked (m .words) k ≡ false) ⌝ }
     ensures { λ r. ⌜ Marked (m .words) k (r .words) ⌝ }
 {

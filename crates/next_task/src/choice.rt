@@ -181,7 +181,7 @@ fn best_in_word(
 }
 
 // The unrouted stop that is wanted and has the least key, the lowest number among equals, 0 where there is none.
-pub fn best_stop(
+pub(crate) fn best_stop(
     day: &[u32],
     layout: Layout,
     trip: Trip,

@@ -1,3 +1,3 @@
 // The next task of a vehicle: the choice of a stop, a tip or the way home.
-pub mod choice;
+mod choice;
 pub mod tasks;

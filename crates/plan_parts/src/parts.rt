@@ -17,18 +17,18 @@ use trips::cargo::nothing;
 use trips::cargo::same_cargo;
 use trips::tally::none_told;
 use trips::trip::leave;
+use trips::trip::nowhere;
 use trips::trip::same_trip;
 use word_steps::steps::State;
-use word_steps::steps::at_fault;
 use word_steps::words::left_word;
 use word_steps::words::task_step;
 use word_steps::words::vehicle_word;
 
 // The state behind a part and the index there, if the part was gone through.
-pub struct Part {
-    pub done: bool,
-    pub end: usize,
-    pub state: State,
+struct Part {
+    done: bool,
+    end: usize,
+    state: State,
 }
 
 // The tally of a plan, if it was gone through.
@@ -40,12 +40,14 @@ pub struct Told {
 fn no_part() -> Part
     ensures { λ r. ⌜ r .done ≡ false ⌝ }
 {
-    let step = at_fault(7);
-    let state = step.state;
     Part {
         done: false,
         end: 0,
-        state,
+        state: State {
+            tally: none_told(),
+            cargo: nothing(),
+            trip: nowhere(),
+        },
     }
 }
 

@@ -4,4 +4,4 @@ use mathlib.Core.Path.{_≡_}
 
 -- the first word and r more, in 32 bits, are the word
 abbrev pub IndexFrom : (first word r : ℕ) → Type 0
-IndexFrom first word r = (r + first) % 4294967296 ≡ word
+IndexFrom first word r = (r + first) % 0x100000000 ≡ word

@@ -16,7 +16,7 @@ pub const REST: u32 = 0xD0000000;
 
 pub const BACK: u32 = 0xE0000000;
 
-pub const LEFT: u32 = 0xF0000000;
+const LEFT: u32 = 0xF0000000;
 
 // The kinds that carry a number, with the zero bits behind them: bits 31-8 of a word.
 const VEHICLE_KIND: u32 = 0xA00000;

@@ -1,4 +1,4 @@
 // Bytes, numbers and lines of text, put behind each other.
 pub mod lines;
-pub mod numbers;
+mod numbers;
 pub mod put;

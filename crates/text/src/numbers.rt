@@ -29,7 +29,7 @@ fn put_decimal(text: &mut [u8], at: usize, n: u64) -> usize
 }
 
 // A number, and the mark behind it.
-pub fn put_number(text: &mut [u8], at: usize, n: u64, mark: u8) -> usize
+pub(crate) fn put_number(text: &mut [u8], at: usize, n: u64, mark: u8) -> usize
     requires { ⌜ at + 21 ≤ length (now text) ⌝ }
     ensures text { λ r. ⌜ Put (number n mark) (now (text .entry)) at (now (text .exit)) r ⌝ }
     ensures room { λ r. ⌜ r ≤ at + 21 ⌝ }
@@ -60,7 +60,7 @@ fn put_word(text: &mut [u8], at: usize, w: u32) -> usize
 }
 
 // Words, one a line.
-pub fn put_words(text: &mut [u8], at: usize, words: &[u32]) -> usize
+pub(crate) fn put_words(text: &mut [u8], at: usize, words: &[u32]) -> usize
     requires { ⌜ at + 9 * length (now words) ≤ length (now text) ⌝ }
     ensures { λ r. ⌜ Put (wordLines (now (words .entry))) (now (text .entry)) at (now (text .exit)) r ⌝ }
 {

@@ -5,7 +5,7 @@ ghost use lib.ListN.{length};
 ghost use Rattle.text.specs.Put.{Put};
 
 // One byte.
-pub fn put_byte(text: &mut [u8], at: usize, byte: u8) -> usize
+pub(crate) fn put_byte(text: &mut [u8], at: usize, byte: u8) -> usize
     requires { ⌜ at < length (now text) ⌝ }
     ensures { λ r. ⌜ Put (byte ∷ []) (now (text .entry)) at (now (text .exit)) r ⌝ }
 {

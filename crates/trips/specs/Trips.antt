@@ -2,6 +2,7 @@
 -- of the check rests on it. Assumes nothing.
 use Prim.Native.Nat.{ℕ, _*_, _<_, _≤_}
 use mathlib.Core.Path.{_≡_}
+use mathlib.Core.Bool.{false}
 use mathlib.Core.List.{List}
 use Rattle.rules.specs.Fields.{places, loadLimit, dayLimit, stopLimit}
 use Rattle.rules.specs.PlanWords.{left}
@@ -10,6 +11,10 @@ use Rattle.rules.specs.declared.walk.Tally.{Tally}
 use Rattle.rules.specs.declared.walk.Trip.{Trip}
 use Rattle.trips.specs.declared.cargo.Limits.{Limits}
 use Rattle.trips.specs.declared.trip.Driven.{Driven}
+
+-- the trip that stands where there is none
+abbrev pub noTrip : Trip
+noTrip = record { minute = 0; place = 0; rested = false; distance = 0 }
 
 -- a drive that ends in a trip, or in a fault that is not 0
 pub record DrivenTo (fault : ℕ) (trip : Trip) (r : Driven) : Type 0 where

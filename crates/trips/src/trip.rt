@@ -7,7 +7,7 @@ ghost use lib.Dec.{ltb};
 ghost use Rattle.rules.specs.Fields.{stopPlace, closing, restClosing, service};
 ghost use Rattle.rules.specs.Trip.{leaving, arrival, visitStart, driven, visited, restedAt, visitFault, restFault, backFault};
 ghost use Rattle.day.specs.Layout.{LayoutOf, WindowOf};
-ghost use Rattle.trips.specs.Trips.{DrivenTo, TripWithin};
+ghost use Rattle.trips.specs.Trips.{noTrip, DrivenTo, TripWithin};
 use rules::walk::Trip;
 
 // A trip after a word, or the word's fault, which is not 0; the trip means nothing then.
@@ -17,7 +17,9 @@ pub struct Driven {
 }
 
 // A trip that means nothing.
-pub fn nowhere() -> Trip {
+pub fn nowhere() -> Trip
+    ensures { λ r. ⌜ r ≡ noTrip ⌝ }
+{
     Trip {
         minute: 0,
         place: 0,

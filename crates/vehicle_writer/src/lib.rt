@@ -1,3 +1,3 @@
 // One vehicle of the greedy build: its state from task to task, and its words.
-pub mod state;
+mod state;
 pub mod writer;

@@ -33,7 +33,7 @@ pub struct State {
 }
 
 // The trip of a fresh vehicle: at the depot when it opens.
-pub fn leave_depot(day: &[u32], layout: Layout) -> Trip
+pub(crate) fn leave_depot(day: &[u32], layout: Layout) -> Trip
     requires { ⌜ LayoutOf (now day) layout ⌝ }
     ensures { λ r. ⌜ r ≡ leaving (now (day .entry)) ⌝ }
 {
@@ -92,7 +92,7 @@ fn empty_load(day: &[u32], layout: Layout, state: State, tip: usize) -> State
 }
 
 // The next task is done.
-pub fn do_task(day: &[u32], layout: Layout, state: State, next: Next) -> State
+pub(crate) fn do_task(day: &[u32], layout: Layout, state: State, next: Next) -> State
     requires { ⌜ SmallState (now day) layout state × NextWithin layout next × Doable (state .left .words) next ⌝ }
     ensures { λ r. ⌜ Done (now (day .entry)) state next r ⌝ }
 {
@@ -125,7 +125,7 @@ pub struct Ready {
 }
 
 // A rest is taken if due, and the next task is found.
-pub fn make_ready(day: &[u32], layout: Layout, before: State) -> Ready
+pub(crate) fn make_ready(day: &[u32], layout: Layout, before: State) -> Ready
     requires { ⌜ SmallState (now day) layout before ⌝ }
     ensures { λ r. ⌜ MadeReady (now (day .entry)) layout before r ⌝ }
 {
@@ -140,7 +140,7 @@ pub fn make_ready(day: &[u32], layout: Layout, before: State) -> Ready
 }
 
 // A fresh vehicle, ready for its first task.
-pub fn set_out(day: &[u32], layout: Layout, left: Marks) -> Ready
+pub(crate) fn set_out(day: &[u32], layout: Layout, left: Marks) -> Ready
     requires { ⌜ LayoutOf (now day) layout ⌝ }
     ensures { λ r. ⌜ SetsOut (now (day .entry)) layout left r ⌝ }
 {
@@ -148,7 +148,7 @@ pub fn set_out(day: &[u32], layout: Layout, left: Marks) -> Ready
 }
 
 // The word of a task: B or C; E where there is none.
-pub fn word_of(next: Next) -> u32
+pub(crate) fn word_of(next: Next) -> u32
     requires { ⌜ Fits next ⌝ }
     ensures { λ r. ⌜ wordOf r ≡ nextSaid next ⌝ }
 {
@@ -160,7 +160,7 @@ pub fn word_of(next: Next) -> u32
 }
 
 // Whether there is a task.
-pub fn has_task(ready: Ready) -> bool
+pub(crate) fn has_task(ready: Ready) -> bool
     ensures { λ r. ⌜ r ≡ isTask (ready .next) ⌝ }
 {
     let next = ready.next;

@@ -32,9 +32,9 @@ fn write_rest(day: &[u32], layout: Layout, trip: Trip, part: &mut [u32], at: usi
 }
 
 // Where the writer of one vehicle stands: the vehicle, ready for its next task, and how many words there are.
-pub struct Progress {
-    pub ready: Ready,
-    pub at: usize,
+struct Progress {
+    ready: Ready,
+    at: usize,
 }
 
 // One task more is written and done, and the rest behind it where one is due.

@@ -44,7 +44,7 @@ pub struct Step {
     pub state: State,
 }
 
-pub fn at_fault(number: u32) -> Step
+pub(crate) fn at_fault(number: u32) -> Step
     ensures { λ r. ⌜ r .fault ≡ number ⌝ }
 {
     Step {
@@ -59,7 +59,7 @@ pub fn at_fault(number: u32) -> Step
 }
 
 // B, a stop is served.
-pub fn serve(
+pub(crate) fn serve(
     day: &[u32],
     layout: day::fields::Layout,
     limits: Limits,
@@ -84,7 +84,7 @@ pub fn serve(
 }
 
 // C, the load is tipped.
-pub fn empty_out(day: &[u32], layout: day::fields::Layout, s: State, number: usize) -> Step
+pub(crate) fn empty_out(day: &[u32], layout: day::fields::Layout, s: State, number: usize) -> Step
     requires { ⌜ LayoutOf (now day) layout × Within (now day) 4096 s × (0 < number) × (number ≤ layout .tips) ⌝ }
     ensures { λ r. ⌜ StepOf (formedFault (now (day .entry)) s (tip number)) (now (day .entry)) s (tip number) r ⌝ }
 {
@@ -100,7 +100,7 @@ pub fn empty_out(day: &[u32], layout: day::fields::Layout, s: State, number: usi
 }
 
 // D, the vehicle rests.
-pub fn take_rest(day: &[u32], layout: day::fields::Layout, s: State) -> Step
+pub(crate) fn take_rest(day: &[u32], layout: day::fields::Layout, s: State) -> Step
     requires { ⌜ LayoutOf (now day) layout × Within (now day) 4096 s ⌝ }
     ensures { λ r. ⌜ StepOf (formedFault (now (day .entry)) s rest) (now (day .entry)) s rest r ⌝ }
 {
@@ -116,7 +116,7 @@ pub fn take_rest(day: &[u32], layout: day::fields::Layout, s: State) -> Step
 }
 
 // E, the vehicle is back.
-pub fn come_back(day: &[u32], layout: day::fields::Layout, s: State) -> Step
+pub(crate) fn come_back(day: &[u32], layout: day::fields::Layout, s: State) -> Step
     requires { ⌜ LayoutOf (now day) layout × Within (now day) 4096 s × (s .tally .inside ≡ true) ⌝ }
     ensures { λ r. ⌜ StepOf (formedFault (now (day .entry)) s back) (now (day .entry)) s back r ⌝ }
 {
@@ -138,7 +138,7 @@ pub fn come_back(day: &[u32], layout: day::fields::Layout, s: State) -> Step
 }
 
 // A, a vehicle leaves.
-pub fn set_out(day: &[u32], layout: day::fields::Layout, s: State, number: u32) -> Step
+pub(crate) fn set_out(day: &[u32], layout: day::fields::Layout, s: State, number: u32) -> Step
     requires { ⌜ LayoutOf (now day) layout × Within (now day) 4096 s ⌝ }
     ensures { λ r. ⌜ StepOf (formedFault (now (day .entry)) s (vehicle number)) (now (day .entry)) s (vehicle number) r ⌝ }
 {
@@ -154,7 +154,7 @@ pub fn set_out(day: &[u32], layout: day::fields::Layout, s: State, number: u32) 
 }
 
 // F, a stop is left out.
-pub fn leave_out(day: &[u32], s: State, number: u32) -> Step
+pub(crate) fn leave_out(day: &[u32], s: State, number: u32) -> Step
     requires { ⌜ Within (now day) 4096 s ⌝ }
     ensures { λ r. ⌜ StepOf (formedFault (now (day .entry)) s (left number)) (now (day .entry)) s (left number) r ⌝ }
 {

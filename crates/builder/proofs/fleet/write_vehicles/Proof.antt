@@ -1,6 +1,7 @@
 -- `builder::fleet::write_vehicles` meets its contract.
-use Prim.Native.Nat.{_-_}
-use Rattle.builder.proofs.FleetWords.{Underway, underway-start, at-few, at-within, underway-space, number-few, underway-next, next-few, underway-end}
+use Prim.Native.Nat.{_+_, min}
+use Rattle.laws.specs.Marks.{onesOf}
+use Rattle.builder.proofs.FleetWords.{Underway, underway-start, at-few, at-within, underway-space, number-few, underway-next, ones-fall, next-few, underway-end}
 use borrow.Author.Needs.{needs}
 use native.Mathlib.Omega.{arith}
 use Rattle.builder.proofs.fleet.write_vehicles.Statement.{statement}
@@ -9,8 +10,9 @@ use Rattle.builder.proofs.fleet.write_vehicles.Tie as tie
 abbrev Inv-loop : tie.InvT-loop
 Inv-loop day layout plan₀ left₀ at₀ number₀ words₀ plan left at number words = Underway day plan₀ plan left at number words
 
+-- the stops that are still marked, and one turn more while vehicles are written
 abbrev μ-loop : tie.MeasureT-loop
-μ-loop day layout plan₀ left₀ at₀ number₀ words₀ plan left at number words = 256 - number
+μ-loop day layout plan₀ left₀ at₀ number₀ words₀ plan left at number words = onesOf (left .words) + min words 1
 
 loop-holds : tie.Need-loop-holds Inv-loop μ-loop
 loop-holds c = search (needs, underway-start)
@@ -44,9 +46,7 @@ add-number c =
     omega (arith, number-few (turn .before .loop .inv) (turn .loop-test .taken))
 
 loop-less : tie.Need-loop-less Inv-loop μ-loop
-loop-less c =
-    let turn = c .before .before .before .before .before in
-    omega (arith, number-few (turn .before .loop .inv) (turn .loop-test .taken))
+loop-less c = search ones-fall
 
 loop-again : tie.Need-loop-again Inv-loop μ-loop
 loop-again c = search underway-next

@@ -26,7 +26,7 @@ returns-4 c =
     let legs = early .before .before .before .before in
     let served = legs .before .before .before in
     let shut = served .before .before .before in
-    key-is _ _ _ _ (shut .before .before .pre .0) _ _ _ _ (served .before .before .stop-window .ensures) (served .before .stop-window2 .ensures) (served .stop-service .ensures) (legs .leg-between .ensures) (shut .if1 .left) (early .if2 .left) (late .if3 .left)
+    key-is _ _ _ _ (shut .before .before .pre .0) _ _ _ _ (served .before .before .stop-window .ensures) (served .before .stop-window2 .ensures) (served .stop-service .ensures) (legs .leg-between .ensures) (shut .if1 .left) (early .if2 .left) (omega (arith, late .if3 .left))
 
 pub key-of-spec : {M : Type 1} → statement M
 key-of-spec =
