@@ -1,0 +1,7 @@
+pub mod DemandOne
+pub mod DemandTwo
+pub mod GreedyPlan
+pub mod DemandThree
+pub mod EachCall
+pub mod ToldApart
+pub mod Cases
