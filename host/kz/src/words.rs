@@ -1,9 +1,7 @@
-//! Words as files have them: raw bytes, low byte first, or hexadecimal lines, one word a line.
-//!
-//! Which of the two a file is shows in its content. The high byte of an accepted day's word 0 is 10
-//! in hexadecimal digits, and that of a lawful plan's words A0 or more: neither is a printable
-//! character of ASCII. So a file of such characters and white space alone has hexadecimal lines, or
-//! is no day and no plan. A file of no bytes has no words either way.
+//! Words as files have them: raw bytes, low byte first, or hexadecimal lines, one word a line. A file
+//! of no bytes has no words either way.
+
+use crate::form::{self, Form};
 
 /// Why bytes are no words.
 #[derive(Debug, PartialEq, Eq)]
@@ -12,12 +10,19 @@ pub enum NoWords {
     CutAt(u64),
     /// A line is no word, and which line it is, from 1.
     Line(usize, String),
+    /// They are text, and no hexadecimal lines.
+    Text,
+    /// They are a file of another program, and what it is.
+    Foreign(&'static str),
 }
 
 /// The words of a file.
 pub fn read(bytes: &[u8]) -> Result<Vec<u32>, NoWords> {
-    if is_printable(bytes) {
-        return hexadecimal(bytes);
+    match form::of(bytes) {
+        Form::Foreign(what) => return Err(NoWords::Foreign(what)),
+        Form::Text => return Err(NoWords::Text),
+        Form::Lines => return hexadecimal(bytes),
+        Form::Raw => {}
     }
     match bytes.as_chunks() {
         (words, []) => Ok(words.iter().map(|word| u32::from_le_bytes(*word)).collect()),
@@ -25,22 +30,22 @@ pub fn read(bytes: &[u8]) -> Result<Vec<u32>, NoWords> {
     }
 }
 
-/// Whether there is nothing but printable ASCII and white space.
-fn is_printable(bytes: &[u8]) -> bool {
-    bytes.iter().all(|byte| byte.is_ascii_graphic() || byte.is_ascii_whitespace())
+/// The line on which a word stands, from 1, where the bytes are hexadecimal lines.
+pub fn line_of(bytes: &[u8], index: usize) -> Option<usize> {
+    let text = (form::of(bytes) == Form::Lines).then(|| String::from_utf8_lossy(bytes))?;
+    let mut lines = (1..).zip(text.lines()).filter(|(_, line)| !line.trim().is_empty());
+    lines.nth(index).map(|(number, _)| number)
 }
 
 /// The words of hexadecimal lines. Lines without anything are passed over.
 fn hexadecimal(bytes: &[u8]) -> Result<Vec<u32>, NoWords> {
-    let text = String::from_utf8_lossy(bytes);
+    let text = String::from_utf8_lossy(form::without_mark(bytes));
     let lines = text.lines().map(str::trim).enumerate().filter(|(_, line)| !line.is_empty());
-    lines.map(|(index, line)| word(line).ok_or(no_word(index, line))).collect()
+    lines.map(|(index, line)| word(line).ok_or_else(|| no_word(index, line))).collect()
 }
 
-/// Eight digits; a sign, which number parsing would take, is none.
 fn word(line: &str) -> Option<u32> {
-    let digits = line.len() == 8 && line.bytes().all(|byte| byte.is_ascii_hexdigit());
-    digits.then(|| u32::from_str_radix(line, 16).ok()).flatten()
+    form::is_word(line.as_bytes()).then(|| u32::from_str_radix(line, 16).ok()).flatten()
 }
 
 fn no_word(index: usize, line: &str) -> NoWords {
@@ -60,7 +65,7 @@ pub fn lines(words: &[u32]) -> String {
 
 #[cfg(test)]
 mod tests {
-    use super::{lines, raw, read, NoWords};
+    use super::{line_of, lines, raw, read, NoWords};
 
     const WORDS: [u32; 3] = [0x1000_0102, 0xA000_0001, 0x9FFF_FFFF];
 
@@ -68,12 +73,20 @@ mod tests {
     fn words_come_back_from_both_forms() {
         assert_eq!(read(&raw(&WORDS)), Ok(WORDS.to_vec()));
         assert_eq!(read(lines(&WORDS).as_bytes()), Ok(WORDS.to_vec()));
+        assert_eq!(read(format!("\u{FEFF}{}", lines(&WORDS)).as_bytes()), Ok(WORDS.to_vec()));
         assert_eq!(lines(&WORDS), "10000102\nA0000001\n9FFFFFFF\n");
     }
 
     #[test]
     fn lines_may_have_small_letters_and_white_space_around_them() {
         assert_eq!(read(b"\n  a0000001\t\r\n\r\nE0000000"), Ok(vec![0xA000_0001, 0xE000_0000]));
+    }
+
+    #[test]
+    fn a_word_of_lines_has_a_line_and_one_of_raw_bytes_has_none() {
+        let text = b"\n  A0000001\t\r\n\r\nE0000000";
+        assert_eq!([0, 1, 2].map(|index| line_of(text, index)), [Some(2), Some(4), None]);
+        assert_eq!(line_of(&raw(&WORDS), 0), None);
     }
 
     #[test]
@@ -93,5 +106,12 @@ mod tests {
         assert_eq!(read(b"A0000001\n+0000001\n"), no_word("+0000001"));
         assert_eq!(read(b"A0000001\nA000000G\n"), no_word("A000000G"));
         assert_eq!(read(b"A0000001\nA0000001 B0000001\n"), no_word("A0000001 B0000001"));
+        assert_eq!(read(b"A0000001\n\xE9\n"), no_word("\u{FFFD}"));
+    }
+
+    #[test]
+    fn other_text_and_files_of_other_programs_are_no_words() {
+        assert_eq!(read(b"day M\n"), Err(NoWords::Text));
+        assert_eq!(read(b"%PDF-1.7\n"), Err(NoWords::Foreign("a PDF")));
     }
 }

@@ -26,7 +26,7 @@ fn the_committed_files_are_what_the_generator_gives() {
 fn planned(words: &[u32], stops: usize) -> (u64, u64, Vec<u32>) {
     let (mut plan, mut work) = (vec![0; 5 * stops], vec![0; 5 * stops]);
     let greedy = kazhuvendi::build(words, &mut plan).expect("an accepted day");
-    let planned = kazhuvendi::plan(words, 10, u64::MAX, &mut plan, &mut work).expect("a plan");
+    let planned = kazhuvendi::plan(words, 50, u64::MAX, &mut plan, &mut work).expect("a plan");
     assert!(planned.settled);
     plan.truncate(planned.words);
     (greedy.distance, planned.distance, plan)

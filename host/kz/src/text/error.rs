@@ -3,7 +3,12 @@
 use std::error::Error;
 use std::fmt;
 
-/// The first thing that is wrong with a text.
+use crate::clock::shortened;
+
+/// No message has more characters. What a file that is no day has on one line can be anything.
+const LONGEST: usize = 300;
+
+/// One thing that is wrong with a text.
 #[derive(Clone, Debug, PartialEq, Eq)]
 pub struct TextError {
     /// The line, from 1.
@@ -31,6 +36,7 @@ pub(super) struct Spot {
 
 impl Spot {
     pub fn error(self, message: impl Into<String>) -> TextError {
-        TextError { line: self.line, column: self.column, message: message.into() }
+        let message = shortened(&message.into(), LONGEST);
+        TextError { line: self.line, column: self.column, message }
     }
 }

@@ -22,25 +22,46 @@ impl Field<'_> {
 pub(super) struct Fields<'t> {
     fields: std::vec::IntoIter<Field<'t>>,
     end: Spot,
+    /// Whether a comment stands behind the last field.
+    commented: bool,
+    /// Why the line could not be taken apart behind its last field.
+    broken: Option<TextError>,
+    /// Faults of values that leave no doubt where the next field begins.
+    noted: Vec<TextError>,
 }
 
 impl<'t> Fields<'t> {
-    /// Takes a line apart.
-    pub fn of(line: usize, text: &'t str) -> Result<Fields<'t>, TextError> {
+    /// Takes a line apart, up to where it is broken.
+    pub fn of(line: usize, text: &'t str) -> Fields<'t> {
         let mut cut = Cut { line, column: 1, rest: text };
         let mut fields = Vec::new();
+        let mut broken = None;
         cut.skip(char::is_whitespace);
-        while !cut.rest.is_empty() && !cut.rest.starts_with('#') {
-            fields.push(cut.field()?);
+        while broken.is_none() && !cut.rest.is_empty() && !cut.rest.starts_with('#') {
+            match cut.field() {
+                Ok(field) => fields.push(field),
+                Err(error) => broken = Some(error),
+            }
             cut.skip(char::is_whitespace);
         }
         let end = fields.last().map_or(cut.spot(), behind);
-        Ok(Fields { fields: fields.into_iter(), end })
+        let commented = cut.rest.starts_with('#');
+        Fields { fields: fields.into_iter(), end, commented, broken, noted: Vec::new() }
+    }
+
+    /// Whether the line says nothing.
+    pub fn is_empty(&self) -> bool {
+        self.peek().is_none() && self.broken.is_none()
     }
 
     /// The next field as it is written, without taking it.
     pub fn peek(&self) -> Option<&'t str> {
-        self.fields.as_slice().first().map(|field| field.text)
+        self.left().first().map(|field| field.text)
+    }
+
+    /// The fields that were not taken yet.
+    pub fn left(&self) -> &[Field<'t>] {
+        self.fields.as_slice()
     }
 
     /// The spot behind the last field.
@@ -50,12 +71,19 @@ impl<'t> Fields<'t> {
 
     /// Takes the next field, which says `what`.
     pub fn next(&mut self, what: &str) -> Result<Field<'t>, TextError> {
-        self.fields.next().ok_or_else(|| self.end.error(format!("{what} is missing")))
+        self.next_of(|| what.to_string())
+    }
+
+    /// Takes the next field. What it says is asked for only where it is missing.
+    pub fn next_of(&mut self, what: impl Fn() -> String) -> Result<Field<'t>, TextError> {
+        let comment = if self.commented { " before the #, which begins a comment" } else { "" };
+        let missing = || self.end.error(format!("{} is missing{comment}", what()));
+        self.fields.next().ok_or_else(|| self.broken.take().unwrap_or_else(missing))
     }
 
     /// Takes a word that can be no other.
     pub fn expect(&mut self, word: &str) -> Result<(), TextError> {
-        let field = self.next(&format!("\"{word}\""))?;
+        let field = self.next_of(|| format!("\"{word}\""))?;
         if field.quoted || field.text != word {
             let text = field.text;
             return Err(field.error(format!("\"{word}\" is expected here, not \"{text}\"")));
@@ -63,15 +91,44 @@ impl<'t> Fields<'t> {
         Ok(())
     }
 
+    /// Takes the next field where it is this word.
+    pub fn take(&mut self, word: &str) -> Option<Field<'t>> {
+        let is_it = self.left().first().is_some_and(|field| !field.quoted && field.text == word);
+        is_it.then(|| self.fields.next()).flatten()
+    }
+
+    /// Passes over what is left of the line.
+    pub fn skip(&mut self) {
+        self.fields = Vec::new().into_iter();
+        self.broken = None;
+    }
+
     /// Asks that nothing is left.
-    pub fn finish(mut self) -> Result<(), TextError> {
+    pub fn finish(&mut self) -> Result<(), TextError> {
         match self.fields.next() {
-            None => Ok(()),
+            None => self.broken.take().map_or(Ok(()), Err),
             Some(field) => {
                 let text = field.text;
                 Err(field.error(format!("nothing more is expected on this line, not \"{text}\"")))
             }
         }
+    }
+
+    /// The value of a field. A fault of it is noted, and the reading goes on with another value.
+    pub fn noting<T>(&mut self, read: Result<T, TextError>, instead: T) -> T {
+        read.unwrap_or_else(|fault| {
+            self.noted.push(fault);
+            instead
+        })
+    }
+
+    pub fn has_noted(&self) -> bool {
+        !self.noted.is_empty()
+    }
+
+    /// The faults that were noted.
+    pub fn take_noted(&mut self) -> Vec<TextError> {
+        std::mem::take(&mut self.noted)
     }
 }
 
@@ -111,6 +168,9 @@ impl<'t> Cut<'t> {
         } else {
             self.skip(|c| !c.is_whitespace() && c != '#' && c != '"')
         };
+        if let Some(curly) = text.chars().next().filter(|c| !quoted && is_curly(*c)) {
+            return Err(spot.error(straight(curly)));
+        }
         if self.rest.starts_with(|c: char| !c.is_whitespace() && c != '#') {
             return Err(self.spot().error("a blank is missing before or behind a quote"));
         }
@@ -124,7 +184,8 @@ impl<'t> Cut<'t> {
         self.one();
         let text = self.skip(|c| c != '"');
         if self.rest.is_empty() {
-            return Err(spot.error("the closing quote is missing"));
+            let curly = text.chars().find(|c| is_curly(*c)).map(straight);
+            return Err(spot.error(curly.unwrap_or("the closing quote is missing".to_string())));
         }
         self.one();
         Ok(text)
@@ -135,4 +196,13 @@ impl<'t> Cut<'t> {
         self.rest = &self.rest[1..];
         self.column += 1;
     }
+}
+
+/// The double quotes that text processors put in place of straight ones.
+pub(super) fn is_curly(c: char) -> bool {
+    matches!(c, '\u{201C}'..='\u{201F}' | '\u{AB}' | '\u{BB}')
+}
+
+fn straight(curly: char) -> String {
+    format!("a name stands between straight quotes, \" and \", not {curly}")
 }

@@ -1,21 +1,33 @@
 //! The plain text form of a day, which docs/FORMAT.md describes: read into a day's words and the
 //! names of its places, and written from them.
 
+mod bytes;
 mod coordinates;
+mod degrees;
 mod draft;
 mod error;
+mod faults;
 mod fields;
+mod guess;
+mod lines;
 mod matrix;
+mod measure;
 mod names;
+mod places;
+mod reader;
 mod statements;
+mod times;
 mod values;
 mod write;
 
+pub use bytes::{is_utf16, no_plan, of_bytes};
 pub use error::TextError;
+pub use faults::Faults;
 pub use names::Names;
+pub use places::PlaceLines;
 pub use write::write;
 
-use fields::Fields;
+use faults::Found;
 
 /// A day and the names that its text gives to the places.
 #[derive(Clone, Debug, PartialEq, Eq)]
@@ -33,21 +45,9 @@ const HEADING: &str = "day";
 ///
 /// # Errors
 ///
-/// The first place of the text that is not as docs/FORMAT.md asks, and what is wrong there.
-pub fn parse(text: &str) -> Result<NamedDay, TextError> {
-    statements::read(without_mark(text))
-}
-
-/// Whether bytes are meant as a day in text: they are text, and the first word that is no comment
-/// is `day`. The bytes of a day file never are, for the third of them is 0; and words written in
-/// hexadecimal begin with a digit.
-pub fn is_text(bytes: &[u8]) -> bool {
-    let Ok(text) = std::str::from_utf8(bytes) else { return false };
-    let first = without_mark(text).lines().find_map(|line| match Fields::of(1, line) {
-        Ok(fields) => fields.peek(),
-        Err(_) => Some(""),
-    });
-    first == Some(HEADING)
+/// The places of the text that are not as docs/FORMAT.md asks, and what is wrong there.
+pub fn parse(text: &str) -> Result<NamedDay, Faults> {
+    reader::read(without_mark(text), Found::default())
 }
 
 /// Some editors put a mark in front of a text that says how it is encoded.

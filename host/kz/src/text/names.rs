@@ -33,6 +33,11 @@ impl Names {
         &self.tips[tip - 1]
     }
 
+    /// How many places have a name, the depot among them.
+    pub(super) fn places(&self) -> usize {
+        1 + self.tips.len() + self.stops.len()
+    }
+
     /// The name of a place: 0 the depot, then the tips, then the stops.
     pub fn place(&self, place: usize) -> &str {
         match place {

@@ -1,13 +1,13 @@
-//! The values that fields hold: numbers with their unit, times, windows, names and positions. Each
-//! is held to what a word of the day file can say, so that what is wrong is named where it stands.
+//! The values that fields hold: numbers with their unit, names and positions. Each is held to what
+//! a word of the day file can say, so that what is wrong is named where it stands.
 
 use std::ops::RangeInclusive;
 
 use super::error::{Spot, TextError};
 use super::fields::{Field, Fields};
-use crate::day::{range, Visit, Window};
+use crate::day::{range, Visit};
 
-/// A position in thousandths of the unit that the legs name.
+/// A position in millionths of the unit that the legs name.
 #[derive(Clone, Copy, Debug, PartialEq, Eq)]
 pub(super) struct Position {
     pub x: i64,
@@ -19,15 +19,21 @@ pub(super) struct Position {
 pub(super) struct Site {
     pub position: Option<Position>,
     pub spot: Spot,
+    /// Whether its line has a fault, which is told already.
+    pub faulty: bool,
 }
 
-/// No coordinate is further from 0, in units.
-const FARTHEST: u64 = 1_000_000;
+/// How finely positions are told.
+pub(super) const MILLION: i64 = 1_000_000;
 
-impl Fields<'_> {
+/// No coordinate is further from 0, in units: metres in any grid of the earth are less.
+const FARTHEST: u64 = 100_000_000;
+
+impl<'t> Fields<'t> {
     /// A whole number of this range.
     pub fn number(&mut self, what: &str, range: RangeInclusive<u32>) -> Result<u32, TextError> {
-        self.next(what)?.number(what, range)
+        let field = self.next(what)?;
+        Ok(self.noting(field.number(what, &range), *range.start()))
     }
 
     /// A whole number with its unit behind it.
@@ -37,26 +43,17 @@ impl Fields<'_> {
         range: RangeInclusive<u32>,
         unit: &str,
     ) -> Result<u32, TextError> {
-        let number = self.number(what, range)?;
+        let field = self.next(what)?;
+        let text = field.text;
+        if let Some(number) = text.strip_suffix(unit).filter(|number| is_digits(number)) {
+            let message = format!(
+                "a blank stands between a number and its unit: write {number} {unit}, not \"{text}\""
+            );
+            return Ok(self.noting(Err(field.error(message)), *range.start()));
+        }
+        let number = self.noting(field.number(what, &range), *range.start());
         self.expect(unit)?;
         Ok(number)
-    }
-
-    /// A window, as 07:00-09:30.
-    pub fn window(&mut self, what: &str) -> Result<Window, TextError> {
-        let field = self.next(what)?;
-        let Some((opening, closing)) = field.split('-') else {
-            let text = field.text;
-            return Err(field.error(format!("{what} is written as 07:00-09:30, not \"{text}\"")));
-        };
-        let window = Window { opening: opening.time()?, closing: closing.time()? };
-        if window.opening > window.closing {
-            let (opening, late) = (opening.text, closing.text);
-            return Err(closing.error(format!(
-                "the closing {late} is before the opening {opening}; a day ends at 24:00"
-            )));
-        }
-        Ok(window)
     }
 
     /// A window and the minutes of service.
@@ -66,38 +63,49 @@ impl Fields<'_> {
     }
 
     /// A name: one word, or more of them between quotes.
-    pub fn name(&mut self, what: &str) -> Result<(String, Spot), TextError> {
+    pub fn name(&mut self, what: &str) -> Result<Field<'t>, TextError> {
         let field = self.next(what)?;
         if field.text.trim().is_empty() {
             return Err(field.error(format!("{what} is empty")));
         }
-        Ok((field.text.to_string(), field.spot))
+        Ok(field)
+    }
+
+    /// Asks that none of the next fields, so many, belongs to a name that stands before them.
+    pub fn name_ends(&self, name: &Field<'t>, words: usize) -> Result<(), TextError> {
+        if words == 0 {
+            return Ok(());
+        }
+        let several = between_quotes(name, &self.left()[..words]);
+        Err(name.error(format!("a name of several words needs quotes: write {several}")))
     }
 
     /// `at X Y`, where it is there.
     pub fn site(&mut self) -> Result<Site, TextError> {
         if self.peek().is_none() {
-            return Ok(Site { position: None, spot: self.end() });
+            return Ok(Site { position: None, spot: self.end(), faulty: false });
         }
         self.expect("at")?;
         let x = self.next("the first coordinate")?;
         let y = self.next("the second coordinate")?;
-        let position = Position { x: x.coordinate()?, y: y.coordinate()? };
-        Ok(Site { position: Some(position), spot: x.spot })
+        let read = x.coordinate().and_then(|x| Ok(Some(Position { x, y: y.coordinate()? })));
+        let position = self.noting(read, None);
+        Ok(Site { position, spot: x.spot, faulty: position.is_none() })
     }
 
     /// A number with at most two decimals, in hundredths.
     pub fn hundredths(&mut self, what: &str, range: RangeInclusive<u32>) -> Result<u32, TextError> {
         let field = self.next(what)?;
         let value = decimal(field.text, 2).and_then(|value| u32::try_from(value).ok());
-        value.filter(|value| range.contains(value) && !field.quoted).ok_or_else(|| {
+        let value = value.filter(|value| range.contains(value) && !field.quoted).ok_or_else(|| {
             let shown = |hundredths: &u32| format!("{}.{:02}", hundredths / 100, hundredths % 100);
             let (least, most) = (shown(range.start()), shown(range.end()));
             let text = field.text;
             field.error(format!(
                 "{what} must be {least} to {most} with at most 2 decimals, not \"{text}\""
             ))
-        })
+        });
+        Ok(self.noting(value, *range.start()))
     }
 }
 
@@ -111,68 +119,62 @@ impl<'t> Field<'t> {
     }
 
     /// A whole number of this range.
-    pub fn number(&self, what: &str, range: RangeInclusive<u32>) -> Result<u32, TextError> {
-        let text = self.text;
-        if self.quoted || !is_digits(text) {
-            return Err(self.error(format!("{what} must be a whole number, not \"{text}\"")));
-        }
-        let (least, most) = (range.start(), range.end());
-        let value = text.parse().ok().filter(|value| range.contains(value));
-        value.ok_or_else(|| self.error(format!("{what} must be {least} to {most}, not {text}")))
+    pub fn number(&self, what: &str, range: &RangeInclusive<u32>) -> Result<u32, TextError> {
+        let value = whole(self.text).filter(|value| range.contains(value) && !self.quoted);
+        value.ok_or_else(|| self.error(self.no_number(what, range)))
     }
 
-    /// Minutes from midnight, written as 07:35 or as minutes.
-    fn time(&self) -> Result<u32, TextError> {
+    fn no_number(&self, what: &str, range: &RangeInclusive<u32>) -> String {
         let text = self.text;
-        let minutes = match text.split_once(':') {
-            Some((hours, minutes)) => of_clock(hours, minutes),
-            None => is_digits(text).then(|| text.parse().unwrap_or(u32::MAX)),
-        };
-        match minutes {
-            Some(minutes) if range::MINUTE.contains(&minutes) => Ok(minutes),
-            Some(_) => Err(self.error(format!("{text} is later than 24:00, which is minute 1440"))),
-            None => Err(self.error(format!(
-                "a time is written as 07:35 or in minutes from midnight, not \"{text}\""
-            ))),
+        let digits = text.replace(',', "");
+        if self.quoted || !is_digits(&digits) {
+            return format!("{what} must be a whole number, not \"{text}\"");
         }
+        if digits != text {
+            return format!("{what} has no commas: write {digits}, not \"{text}\"");
+        }
+        format!("{what} must be {} to {}, not {text}", range.start(), range.end())
     }
 
-    /// A number with at most three decimals, in thousandths.
+    /// A number with at most six decimals, in millionths.
     fn coordinate(&self) -> Result<i64, TextError> {
-        let (sign, size) = match self.text.strip_prefix('-') {
-            Some(size) => (-1, size),
-            None => (1, self.text),
-        };
-        let value = decimal(size, 3).filter(|value| *value <= FARTHEST * 1_000 && !self.quoted);
+        let text = self.text;
+        let (sign, size) = text.strip_prefix('-').map_or((1, text), |size| (-1, size));
+        let most = FARTHEST * MILLION as u64;
+        let value = decimal(size, 6).filter(|value| *value <= most && !self.quoted);
         value.map(|value| sign * value as i64).ok_or_else(|| {
-            let text = self.text;
+            let comma = if text.contains(',') { "; it has a point and no comma" } else { "" };
             self.error(format!(
-                "a coordinate is a number with at most 3 decimals and at most {FARTHEST} from 0, \
-                 not \"{text}\""
+                "a coordinate is a number with at most 6 decimals and at most {FARTHEST} from 0, \
+                 not \"{text}\"{comma}"
             ))
         })
     }
 }
 
-/// The minutes that a clock's hours and minutes come to, where they are written as on a clock.
-fn of_clock(hours: &str, minutes: &str) -> Option<u32> {
-    let digits = is_digits(hours) && is_digits(minutes);
-    if !digits || hours.len() > 2 || minutes.len() != 2 {
-        return None;
-    }
-    let in_hour: u32 = minutes.parse().ok().filter(|minutes| *minutes < 60)?;
-    Some(hours.parse::<u32>().ok()? * 60 + in_hour)
+/// A name and the words behind it as one name. Single quotes around all of it go.
+pub(super) fn between_quotes(first: &Field<'_>, others: &[Field<'_>]) -> String {
+    let words: Vec<&str> = [first].into_iter().chain(others).map(|field| field.text).collect();
+    let name = words.join(" ");
+    let single = ['\'', '\u{2018}', '\u{2019}', '\u{201A}', '`'];
+    let inner = name.strip_prefix(single).and_then(|name| name.strip_suffix(single));
+    format!("\"{}\"", inner.unwrap_or(&name))
 }
 
 /// A number with at most so many decimals, as a whole number of its last place.
 fn decimal(text: &str, places: usize) -> Option<u64> {
-    let (whole, part) = text.split_once('.').unwrap_or((text, "0"));
-    if !is_digits(whole) || !is_digits(part) || part.len() > places {
+    let (units, part) = text.split_once('.').unwrap_or((text, "0"));
+    if !is_digits(units) || !is_digits(part) || part.len() > places {
         return None;
     }
-    format!("{whole}{part:0<places$}").parse().ok()
+    format!("{units}{part:0<places$}").parse().ok()
 }
 
-fn is_digits(text: &str) -> bool {
+pub(super) fn is_digits(text: &str) -> bool {
     !text.is_empty() && text.bytes().all(|byte| byte.is_ascii_digit())
+}
+
+/// A whole number, without the sign that number parsing would take.
+pub(super) fn whole(text: &str) -> Option<u32> {
+    is_digits(text).then(|| text.parse().ok()).flatten()
 }

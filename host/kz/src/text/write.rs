@@ -1,5 +1,6 @@
 //! A day written as text, with its legs as a matrix.
 
+use super::fields::is_curly;
 use super::matrix::NO_WAY;
 use super::names::Names;
 use super::HEADING;
@@ -66,10 +67,10 @@ fn written(leg: Leg) -> String {
     format!("{}/{}", leg.minutes, leg.distance)
 }
 
-/// A name as a field: between quotes where it is more than a word.
+/// A name as a field: between quotes where it is more than a word, or begins with a quote itself.
 fn field(name: &str) -> String {
     let more_than_a_word = |c: char| c.is_whitespace() || c == '#';
-    if name.contains(more_than_a_word) {
+    if name.contains(more_than_a_word) || name.starts_with(is_curly) {
         format!("\"{name}\"")
     } else {
         name.to_string()
