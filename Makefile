@@ -2,11 +2,11 @@
 # make test    everything that has to hold before a change is taken in
 # make kz      the command line program, host/target/release/kz
 # make demo    plans a sample depot's day, shows it and draws it
-# make install puts program, library, header, manual page and completions below PREFIX
+# make install puts program, library, header, manual page, completions and documents below PREFIX
 # make bench   times of the library beside plain Rust
 # make figures time and memory of kz, the table in docs/INTEGRATE.md; a minute or more
-# make fuzz    compares the library with the second implementation for SECONDS seconds;
-#              SEED=... repeats a run
+# make fuzz    compares the library with the second implementation, then gives damaged files to every
+#              command of kz, each for SECONDS seconds; SEED=... repeats a run
 # make examples  writes the sample days and the plan of day M anew
 # make manual    writes the manual page and the completions anew
 # make pictures  writes the pictures of the guide anew
@@ -26,6 +26,7 @@ RUN := $(CARGO) run --release --offline --quiet
 KZ := host/target/release/kz
 CHART := target/demo.svg
 PLACE := $(DESTDIR)$(PREFIX)
+DOCUMENTS := $(PLACE)/share/doc/kazhuvendi
 
 .PHONY: lib kz test demo install bench figures fuzz examples manual pictures clean
 
@@ -33,9 +34,8 @@ lib: $(LIBRARY)
 
 # What the library stands on is proved several crates at a time; rt staticlib alone would take one after the other.
 $(LIBRARY): $(PROVED)
-	@echo "The library is proved first and then built: about 5 minutes on two cores, and only once."
-	RT_JOBS=$${RT_JOBS:-4} rt check $(BELOW)
-	rt staticlib kazhuvendi
+	@echo "The library is proved first and then built: about 4 minutes on two cores, and only once."
+	. .ci/rt-settings && rt check $(BELOW) && rt staticlib kazhuvendi
 
 test:
 	.ci/run
@@ -54,6 +54,9 @@ install: kz
 	install -D -m 644 host/kz/completions/kz.bash $(PLACE)/share/bash-completion/completions/kz
 	install -D -m 644 host/kz/completions/_kz $(PLACE)/share/zsh/site-functions/_kz
 	install -D -m 644 host/kz/completions/kz.fish $(PLACE)/share/fish/vendor_completions.d/kz.fish
+	install -D -m 644 -t $(DOCUMENTS) LICENSE docs/GUIDE.md docs/FORMAT.md docs/INTEGRATE.md docs/PROMISES.md
+	install -D -m 644 -t $(DOCUMENTS)/pictures docs/pictures/*.svg
+	install -D -m 644 -t $(DOCUMENTS)/examples examples/*
 
 bench: lib
 	@$(RUN) -p bench
@@ -63,6 +66,7 @@ figures: kz
 
 fuzz: lib
 	@$(RUN) -p kazhuvendi --example fuzz -- $(SECONDS) $(SEED)
+	@$(RUN) -p kz --example damaged -- $(SECONDS) $(SEED)
 
 examples: lib
 	@$(RUN) -p reference --example day_m > ../examples/day-m.day

@@ -21,8 +21,9 @@ use crate::refusals;
 /// A budget that no planning uses up: the library always settles far below it.
 pub const SETTLE: u64 = u64::MAX;
 
-/// How many neighbours of a stop are tried where the call does not say.
-pub const USUAL_NEIGHBOURS: u64 = 10;
+/// How many neighbours of a stop are tried where the call does not say: the most that there may be.
+/// Fewer give longer plans most often, and the time that they save is a second or two at the most.
+pub const USUAL_NEIGHBOURS: u64 = 50;
 
 /// The budget of the first step behind the greedy plan's.
 const FIRST: u64 = 1_000;
@@ -82,7 +83,7 @@ pub fn run(
     loop {
         match steps.recv_timeout(PATIENCE) {
             Ok(step) => {
-                let best = step.map_err(|refusal| refusals::of_plans(refusal, &day.words, &[]))?;
+                let best = step.map_err(|refusal| refusals::of_plans(refusal, day, &[]))?;
                 let outcome = Outcome::behind(last.take(), best);
                 show(last.insert(outcome));
             }

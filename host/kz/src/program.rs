@@ -1,9 +1,9 @@
 //! The program from its arguments to its exit status.
 
-use std::ffi::OsString;
+use std::ffi::{OsStr, OsString};
 use std::io::{self, IsTerminal, Write};
 
-use crate::answer::{Answer, Failure, Product};
+use crate::answer::{warning_line, Answer, Failure, Product};
 use crate::arguments::{self, Call, Request};
 use crate::catalogue::{HEX, JSON, OUTPUT};
 use crate::{help, output, words};
@@ -12,19 +12,28 @@ use crate::{help, output, words};
 pub fn run(arguments: &[OsString]) -> u8 {
     let done = arguments::parse(arguments).and_then(serve);
     let Err(failure) = done else { return 0 };
-    if arguments::wants_json(arguments) {
-        // Where this can't be written either, the exit status is all that is left to say.
-        output::print(format!("{}\n", failure.json()).as_bytes()).ok();
-    } else {
+    tell(&failure, arguments::wants_json(arguments))
+}
+
+/// Says why there is no answer, and gives the exit status.
+fn tell(failure: &Failure, json: bool) -> u8 {
+    if !json || matches!(failure, Failure::Unprinted(_) | Failure::NobodyReads) {
         say(&failure.report());
+        return failure.status();
     }
-    failure.status()
+    match output::print(format!("{}\n", failure.json()).as_bytes()) {
+        Err(unprinted @ Failure::Unprinted(_)) => tell(&unprinted, json),
+        _ => failure.status(),
+    }
 }
 
 fn serve(request: Request) -> Result<(), Failure> {
     match request {
         Request::Run(call) => {
             no_two_outputs(&call)?;
+            if let Some(name) = target(&call) {
+                output::spare_input(name, call.inputs())?;
+            }
             deliver(&call, (call.command.run)(&call)?)
         }
         Request::Help(None) => output::print(help::overall().as_bytes()),
@@ -41,16 +50,25 @@ fn no_two_outputs(call: &Call) -> Result<(), Failure> {
     Ok(())
 }
 
+/// The file that the product goes to, where it does not go to standard output.
+fn target(call: &Call) -> Option<&OsStr> {
+    call.value(&OUTPUT).filter(|name| *name != "-")
+}
+
 /// Writes the product first, so that what is told of it is true.
 fn deliver(call: &Call, answer: Answer) -> Result<(), Failure> {
-    let target = call.value(&OUTPUT).filter(|name| *name != "-");
+    let target = target(call);
     let json = call.has(&JSON);
     if let (Some(product), Some(name)) = (&answer.product, target) {
         output::write(name, &bytes(product, call.has(&HEX)))?;
+        if let Product::Plan(_, made_for) = product {
+            made_for.note(name)?;
+        }
     }
     if json {
         return output::print(format!("{}\n", answer.json).as_bytes());
     }
+    say(&warning_line(answer.warning.as_deref()));
     match &answer.product {
         Some(product) if target.is_none() => {
             let readable = call.has(&HEX) || io::stdout().is_terminal();
@@ -64,8 +82,10 @@ fn deliver(call: &Call, answer: Answer) -> Result<(), Failure> {
 
 fn bytes(product: &Product, hexadecimal: bool) -> Vec<u8> {
     match product {
-        Product::Words(words) if hexadecimal => words::lines(words).into_bytes(),
-        Product::Words(words) => words::raw(words),
+        Product::Words(words) | Product::Plan(words, _) if hexadecimal => {
+            words::lines(words).into_bytes()
+        }
+        Product::Words(words) | Product::Plan(words, _) => words::raw(words),
         Product::Text(text) => text.clone().into_bytes(),
     }
 }

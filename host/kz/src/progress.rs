@@ -1,8 +1,17 @@
 //! How far planning is, on standard error.
 
+use std::env;
 use std::io::{self, IsTerminal, Write};
 
+use crate::clock::shortened;
 use crate::planning::Outcome;
+
+/// A line of so many characters never goes on to a second one on a terminal of 80 columns, which
+/// could not be cleared.
+const WIDTH: usize = 79;
+
+/// Takes away what a line of a terminal shows.
+const CLEARED: &str = "\r\x1b[K";
 
 /// Where it is shown.
 #[derive(Clone, Copy, Debug, PartialEq, Eq)]
@@ -16,9 +25,9 @@ pub enum Progress {
 }
 
 impl Progress {
-    /// On a terminal it is always shown, elsewhere where it is asked for.
+    /// On a terminal that can clear a line it is always shown, elsewhere where it is asked for.
     pub fn of(asked_for: bool) -> Progress {
-        match (io::stderr().is_terminal(), asked_for) {
+        match (io::stderr().is_terminal() && clears_lines(), asked_for) {
             (true, _) => Progress::OneLine,
             (false, true) => Progress::Lines,
             (false, false) => Progress::Hidden,
@@ -27,16 +36,9 @@ impl Progress {
 
     /// Shows a step.
     pub fn show(self, outcome: &Outcome) {
-        let planned = outcome.best.planned;
-        let saved = outcome.greedy - planned.distance;
-        let text = format!(
-            "{} trials, distance {}, {saved} below the greedy plan, \
-             a shorter plan kept in {} of {} steps",
-            planned.trials, planned.distance, outcome.kept, outcome.steps
-        );
         match self {
-            Progress::OneLine => say(&format!("\r\x1b[K{text}")),
-            Progress::Lines => say(&format!("{text}\n")),
+            Progress::OneLine => say(&format!("{CLEARED}{}", shortened(&line(outcome), WIDTH))),
+            Progress::Lines => say(&format!("{}\n", line(outcome))),
             Progress::Hidden => {}
         }
     }
@@ -44,12 +46,50 @@ impl Progress {
     /// Leaves the terminal as it was.
     pub fn end(self) {
         if self == Progress::OneLine {
-            say("\r\x1b[K");
+            say(CLEARED);
         }
     }
+}
+
+fn line(outcome: &Outcome) -> String {
+    let planned = outcome.best.planned;
+    let saved = outcome.greedy - planned.distance;
+    let (kept, steps) = (outcome.kept, outcome.steps);
+    format!(
+        "{} trials, distance {}, {saved} saved, shorter in {kept} of {steps} steps",
+        planned.trials, planned.distance
+    )
+}
+
+/// Whether the terminal understands more than plain characters.
+fn clears_lines() -> bool {
+    env::var_os("TERM").is_some_and(|name| !name.is_empty() && name != "dumb")
 }
 
 /// Whether anybody sees it does not matter to planning.
 fn say(text: &str) {
     io::stderr().write_all(text.as_bytes()).ok();
+}
+
+#[cfg(test)]
+mod tests {
+    use kazhuvendi::Planned;
+
+    use super::*;
+    use crate::planning::Step;
+
+    /// The most that there can be: 1,200 legs, and as many trials as always settle.
+    #[test]
+    fn the_longest_line_says_all_numbers_but_the_last() {
+        let (greedy, trials) = (1_200 * 65_535, 1_200 * 65_535 * 240 * 115);
+        let planned =
+            Planned { distance: 10_000_000, trials, settled: false, left_out: 0, words: 0 };
+        let best = Step { planned, words: vec![] };
+        let outcome = Outcome { best, greedy, steps: 55, kept: 55, interrupted: false };
+        let shown = shortened(&line(&outcome), WIDTH);
+        assert_eq!(
+            shown,
+            "2170519200000 trials, distance 10000000, 68642000 saved, shorter in 55 of 55 s\u{2026}"
+        );
+    }
 }

@@ -25,7 +25,8 @@ fn day_m_is_settled_by_six_trials_and_not_by_five() {
     let output = scratch.name("plan");
     let plan =
         |trials| kz(&["plan", scratch::DAY_M, "--k", "5", "--trials", trials, "-o", &output]);
-    let begin = "planned: distance 35 (greedy 35), vehicles 1, stops left out 0, words 7; ";
+    let planned = "distance 35 (greedy 35), vehicles 1, stops left out 0, words 7";
+    let begin = format!("planned: {}: {planned}; ", scratch::DAY_M);
     assert_eq!(plan("5").answer(), format!("{begin}5 trials, not settled\n"));
     assert_eq!(plan("6").answer(), format!("{begin}6 trials, settled\n"));
     assert_eq!(plan("18446744073709551615").answer(), format!("{begin}6 trials, settled\n"));
@@ -39,11 +40,24 @@ fn steps_give_the_plan_of_a_single_call() {
     let day = scratch.words("day", &words);
     for budget in [0, 1, 999, 1_000, 1_001, 2_500, 8_000, 1_000_000] {
         let ran = kz(&["plan", &day, "--trials", &budget.to_string()]);
-        assert_eq!(ran.out, bytes::write(&single_call(&words, stops, 10, budget)), "{budget}");
+        assert_eq!(ran.out, bytes::write(&single_call(&words, stops, 50, budget)), "{budget}");
     }
-    let settled = bytes::write(&single_call(&words, stops, 10, u64::MAX));
+    let settled = bytes::write(&single_call(&words, stops, 50, u64::MAX));
     assert_eq!(kz(&["plan", &day]).out, settled);
-    assert_eq!(kz(&["plan", &day, "--settle", "--k", "10"]).out, settled);
+    assert_eq!(kz(&["plan", &day, "--settle", "--k", "50"]).out, settled);
+}
+
+#[test]
+fn without_k_plan_and_demo_try_50_neighbours() {
+    let depot = concat!(env!("CARGO_MANIFEST_DIR"), "/../../examples/depot.txt");
+    let trials = |arguments: &[&str]| {
+        let answer = kz(&[arguments, &["--json"]].concat()).json();
+        (answer.at("distance").number(), answer.at("trials").number())
+    };
+    assert_eq!(trials(&["plan", depot, "--k", "10"]), (157_747, 22_063));
+    assert_eq!(trials(&["plan", depot, "--k", "50"]), (153_887, 66_705));
+    assert_eq!(trials(&["plan", depot]), (153_887, 66_705));
+    assert_eq!(trials(&["demo"]), (153_887, 66_705));
 }
 
 #[test]
@@ -88,7 +102,7 @@ fn a_day_without_stops_has_the_plan_of_no_words() {
         assert_eq!((ran.status, ran.out.len()), (0, 0), "{ran:?}");
     }
     let empty = scratch.file("plan", b"");
-    assert!(kz(&["check", &day, &empty]).answer().starts_with("lawful: distance 0"));
+    assert!(kz(&["check", &day, &empty]).answer().contains(": distance 0, "));
     for arguments in [["show", &day, &empty], ["chart", &day, &empty]] {
         kz(&arguments).answer();
     }
@@ -121,25 +135,58 @@ fn the_sample_day_settles_within_a_second() {
     assert!(begun.elapsed() < Duration::from_secs(1), "it took {:?}", begun.elapsed());
 }
 
-/// What a terminal shows of a run, where there is a `script` to lend it one.
-fn on_a_terminal(arguments: &[&str]) -> Option<String> {
+/// What a terminal of this kind shows of a run, where there is a `script` to lend it one.
+fn on_a_terminal(kind: &str, arguments: &[&str]) -> Option<String> {
     let call = [&[env!("CARGO_BIN_EXE_kz")], arguments].concat().join(" ");
-    let shown = Command::new("script").args(["-qec", &call, "/dev/null"]).output().ok()?;
+    let mut script = Command::new("script");
+    let Ok(shown) = script.env("TERM", kind).args(["-qec", &call, "/dev/null"]).output() else {
+        println!("there is no `script` here: nothing was shown on a terminal");
+        return None;
+    };
     Some(String::from_utf8_lossy(&shown.stdout).into_owned())
 }
 
+/// What goes before each step, and behind the last one.
+const CLEARED: &str = "\r\x1b[K";
+
 #[test]
-fn a_terminal_shows_progress_and_words_as_lines() {
-    let Some(shown) = on_a_terminal(&["plan", scratch::DAY_M, "--k", "5"]) else {
-        println!("there is no `script` here: nothing was shown on a terminal");
-        return;
-    };
-    assert!(
-        shown.contains(
-            "0 trials, distance 35, 0 below the greedy plan, a shorter plan kept in 0 of 0 steps\r"
-        ),
-        "{shown:?}"
-    );
-    assert!(shown.contains("\nE0000000\r\n"), "{shown:?}");
-    assert!(shown.contains("6 trials, settled"), "{shown:?}");
+fn a_terminal_shows_progress_which_is_cleared_and_words_as_lines() {
+    let day = scratch::DAY_M;
+    let Some(shown) = on_a_terminal("xterm", &["plan", day, "--k", "5"]) else { return };
+    let steps: Vec<&str> = shown.split(CLEARED).collect();
+    let [before, greedy, last, behind] = steps[..] else { panic!("{shown:?}") };
+    assert_eq!(before, "");
+    assert_eq!(greedy, "0 trials, distance 35, 0 saved, shorter in 0 of 0 steps");
+    assert_eq!(last, "6 trials, distance 35, 0 saved, shorter in 0 of 1 steps");
+    assert!(behind.starts_with("A0000001\r\n") && behind.contains("\nE0000000\r\n"), "{shown:?}");
+    assert!(behind.contains("6 trials, settled"), "{shown:?}");
+}
+
+#[test]
+fn progress_fits_a_terminal_of_80_columns() {
+    let scratch = Scratch::new();
+    let words = day_of_many_short_rounds(&mut Random::new(1), 240, 15).words();
+    let (day, plan) = (scratch.words("day", &words), scratch.name("plan"));
+    let Some(shown) = on_a_terminal("xterm", &["plan", &day, "-o", &plan]) else { return };
+    let steps: Vec<&str> = shown.split(CLEARED).collect();
+    let [_, steps @ .., behind] = &steps[..] else { panic!("{shown:?}") };
+    assert!(steps.len() > 5 && behind.starts_with("planned: "), "{shown:?}");
+    for step in steps {
+        assert!(step.len() < 80 && step.ends_with(" steps"), "{step:?}");
+    }
+}
+
+#[test]
+fn a_terminal_that_cannot_clear_a_line_shows_progress_only_where_it_is_asked_for() {
+    let scratch = Scratch::new();
+    let plan = scratch.name("plan");
+    let call = ["plan", scratch::DAY_M, "--k", "5", "-o", &plan];
+    for kind in ["dumb", ""] {
+        let Some(shown) = on_a_terminal(kind, &call) else { return };
+        assert!(shown.starts_with("planned: ") && !shown.contains('\x1b'), "{shown:?}");
+    }
+    let asked = [&call[..], &["--progress"]].concat();
+    let Some(shown) = on_a_terminal("dumb", &asked) else { return };
+    assert!(shown.starts_with("0 trials, distance 35, "), "{shown:?}");
+    assert!(shown.contains(" of 0 steps\r\n6 trials, ") && !shown.contains('\x1b'), "{shown:?}");
 }
