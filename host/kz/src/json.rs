@@ -22,6 +22,14 @@ impl Json {
     pub fn words(words: &[u32]) -> Json {
         Json::List(words.iter().map(|word| Json::Text(format!("{word:08X}"))).collect())
     }
+
+    /// An object with a warning behind its members, where there is one.
+    pub fn warned(mut self, warning: Option<&str>) -> Json {
+        if let (Json::Object(members), Some(warning)) = (&mut self, warning) {
+            members.push(("warning", warning.into()));
+        }
+        self
+    }
 }
 
 impl From<bool> for Json {

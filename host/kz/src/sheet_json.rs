@@ -39,16 +39,18 @@ fn window(window: Window) -> [(&'static str, Json); 2] {
 
 /// A plan by its sheets.
 pub fn plan(sheet: &Sheet, names: &Names) -> Json {
-    let rounds = sheet.rounds.iter().map(|vehicle| round(vehicle, names)).collect();
+    let sheets = sheet.rounds.iter().map(|vehicle| round(vehicle, names)).collect();
     let left_out = sheet.left_out.iter().map(|&stop| {
         Json::Object(vec![("number", stop.into()), ("name", names.stop(stop).into())])
     });
     Json::Object(vec![
         ("distance", sheet.distance().into()),
+        ("vehicles", sheet.rounds.len().into()),
         ("served", sheet.stops().into()),
+        ("left_out", sheet.left_out.len().into()),
         ("collected", sheet.collected().into()),
-        ("vehicles", Json::List(rounds)),
-        ("left_out", Json::List(left_out.collect())),
+        ("sheets", Json::List(sheets)),
+        ("stops_left_out", Json::List(left_out.collect())),
     ])
 }
 
@@ -57,13 +59,14 @@ pub fn round(round: &Round, names: &Names) -> Json {
     Json::Object(vec![
         ("vehicle", round.number.into()),
         ("distance", round.distance().into()),
-        ("stops", round.stops.into()),
+        ("served", round.stops.into()),
         ("collected", round.collected.into()),
-        ("words", Json::List(round.entries.iter().map(|entry| word(entry, names)).collect())),
+        ("entries", Json::List(round.entries.iter().map(|entry| line(entry, names)).collect())),
     ])
 }
 
-fn word(entry: &Entry, names: &Names) -> Json {
+/// One line of a sheet.
+fn line(entry: &Entry, names: &Names) -> Json {
     let (act, number) = match entry.act {
         Act::Leave => ("leave", None),
         Act::Stop(stop) => ("stop", Some(stop)),

@@ -49,8 +49,8 @@ fn what_a_plan_comes_to_and_leaves_out_is_said() {
 #[test]
 fn names_stand_in_the_tables() {
     let text = "day \"Tuesday's rounds\"\nload 9 kg\nload-a-day 9 kg\nstops-a-day 9\n\
-        depot 0-99 at 0 0\nrest 0-99 5 min\ntip \"North yard\" 0-99 1 min at 0 1\n\
-        stop \"Bakery in a lane whose name is too long to be written out in full\" 5-60 2 min 3 kg at 0 2\n\
+        depot 0-99 min at 0 0\nrest 0-99 min 5 min\ntip \"North yard\" 0-99 min 1 min at 0 1\n\
+        stop \"Bakery in a lane whose name is too long to be written out in full\" 5-60 min 2 min 3 kg at 0 2\n\
         legs by coordinates km 60 km/h detour 1\n";
     let named = parse(text).expect("a day");
     let (day, names) = (Day::of(&named.words), &named.names);

@@ -5,6 +5,7 @@ use crate::arguments::Call;
 use crate::catalogue::{Command, DAY, HEX, OUTPUT};
 use crate::inputs;
 use crate::json::Json;
+use crate::made_for::MadeFor;
 use crate::plans;
 use crate::refusals;
 
@@ -27,12 +28,15 @@ fn run(call: &Call) -> Result<Answer, Failure> {
     let day = inputs::day(call)?;
     let mut words = vec![0; 5 * day.stops];
     let planned = kazhuvendi::build(&day.words, &mut words)
-        .map_err(|refusal| refusals::of_plans(refusal, &day.words, &[]))?;
+        .map_err(|refusal| refusals::of_plans(refusal, &day, &[]))?;
     words.truncate(planned.words);
     let vehicles = plans::vehicles(&words);
     let report = format!(
-        "built: distance {}, vehicles {vehicles}, stops left out {}, words {}\n",
-        planned.distance, planned.left_out, planned.words
+        "built: {}: distance {}, vehicles {vehicles}, stops left out {}, words {}\n",
+        day.label(),
+        planned.distance,
+        planned.left_out,
+        planned.words
     );
     let json = Json::Object(vec![
         ("distance", planned.distance.into()),
@@ -40,5 +44,5 @@ fn run(call: &Call) -> Result<Answer, Failure> {
         ("left_out", planned.left_out.into()),
         ("plan", Json::words(&words)),
     ]);
-    Ok(Answer { report, json, product: Some(Product::Words(words)) })
+    Ok(Answer::made(report, json, Product::Plan(words, MadeFor::of(&day))))
 }

@@ -1,5 +1,7 @@
 //! `kz chart`: a plan as a picture.
 
+use kazhuvendi::Totals;
+
 use crate::answer::{Answer, Failure, Product};
 use crate::arguments::Call;
 use crate::catalogue::{Command, DAY, OUTPUT, PLAN};
@@ -26,12 +28,13 @@ fn run(call: &Call) -> Result<Answer, Failure> {
     let given = inputs::day(call)?;
     let (plan, totals) = inputs::lawful_plan(call, 1, &given)?;
     let day = Day::of(&given.words);
-    let svg = chart::svg(&day, &given.names, &Sheet::of(&day, &plan));
-    let report = format!("drawn: vehicles {}, distance {}\n", totals.vehicles, totals.distance);
+    let svg = chart::svg(&day, &given.names, &Sheet::of(&day, &plan.words));
+    let (label, Totals { vehicles, distance, .. }) = (given.label(), totals);
+    let report = format!("drawn: {label}: vehicles {vehicles}, distance {distance}\n");
     let json = Json::Object(vec![
-        ("vehicles", totals.vehicles.into()),
-        ("distance", totals.distance.into()),
+        ("vehicles", vehicles.into()),
+        ("distance", distance.into()),
         ("svg", svg.as_str().into()),
     ]);
-    Ok(Answer { report, json, product: Some(Product::Text(svg)) })
+    Ok(Answer::made(report, json, Product::Text(svg)).warned(plan.warning))
 }

@@ -13,8 +13,8 @@ pub const COMMAND: Command = Command {
     options: &[],
     about: &[
         "Of a lawful plan it gives the distance, the vehicles and the stops served. A plan that is \
-         not lawful is refused: the number and the place of the refusal are those of document 01, \
-         and the exit status is 1.",
+         not lawful is refused, with one of the numbers that FORMAT.md lists and the place of the \
+         first word at fault, and the exit status is 1.",
         "The plan may come from anywhere; the check knows nothing of how plans are made.",
     ],
     run,
@@ -22,11 +22,14 @@ pub const COMMAND: Command = Command {
 
 fn run(call: &Call) -> Result<Answer, Failure> {
     let day = inputs::day(call)?;
-    let (_, totals) = inputs::lawful_plan(call, 1, &day)?;
+    let (plan, totals) = inputs::lawful_plan(call, 1, &day)?;
     let left_out = day.stops - totals.served;
     let report = format!(
-        "lawful: distance {}, vehicles {}, stops served {}, left out {left_out}\n",
-        totals.distance, totals.vehicles, totals.served
+        "lawful: {}: distance {}, vehicles {}, stops served {}, left out {left_out}\n",
+        day.label(),
+        totals.distance,
+        totals.vehicles,
+        totals.served
     );
     let json = Json::Object(vec![
         ("lawful", true.into()),
@@ -35,5 +38,5 @@ fn run(call: &Call) -> Result<Answer, Failure> {
         ("served", totals.served.into()),
         ("left_out", left_out.into()),
     ]);
-    Ok(Answer::told(report, json))
+    Ok(Answer::told(report, json).warned(plan.warning))
 }

@@ -12,7 +12,7 @@ pub const COMMAND: Command = Command {
     operands: &[DAY],
     options: &[&OUTPUT, &HEX],
     about: &[
-        "docs/FORMAT.md describes the text form. What is wrong in a text is named with its line and \
+        "FORMAT.md describes the text form. What is wrong in a text is named with its line and \
          column, and the exit status is then 2. The words have no names; a plan of the packed day \
          is a plan of the text as well, so `kz show` and `kz chart` can be given the text.",
         "A day that is already words is accepted too, and written in the form asked for.",
@@ -25,9 +25,9 @@ fn run(call: &Call) -> Result<Answer, Failure> {
     let (stops, words) = (day.stops, day.words.len());
     let report = format!("packed: stops {stops}, tips {}, words {words}\n", day.tips);
     let json = Json::Object(vec![
-        ("stops", stops.into()),
-        ("tips", day.tips.into()),
+        ("stop_count", stops.into()),
+        ("tip_count", day.tips.into()),
         ("day", Json::words(&day.words)),
     ]);
-    Ok(Answer { report, json, product: Some(Product::Words(day.words)) })
+    Ok(Answer::made(report, json, Product::Words(day.words)))
 }

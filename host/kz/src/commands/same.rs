@@ -3,7 +3,7 @@
 use crate::answer::{Answer, Failure};
 use crate::arguments::Call;
 use crate::catalogue::{Command, Operand, DAY, PLAN};
-use crate::inputs;
+use crate::inputs::{self, GivenPlan};
 use crate::json::Json;
 use crate::refusals;
 
@@ -11,6 +11,7 @@ const SECOND: Operand = Operand {
     name: "SECOND",
     about: "another plan of the same day, in either form",
     optional: false,
+    file: true,
 };
 
 pub const COMMAND: Command = Command {
@@ -21,17 +22,19 @@ pub const COMMAND: Command = Command {
     about: &[
         "Rounds are the same where the vehicles, in order, visit the same stops in order. Tips and \
          rests do not count. Both answers have exit status 0.",
-        "Both plans have to be lawful. The first is judged before the second, whose places in a \
-         refusal count on from the first's length.",
+        "Both plans have to be lawful. The first is judged before the second. In JSON the \
+         places of the second count on from the first's length.",
     ],
     run,
 };
 
 fn run(call: &Call) -> Result<Answer, Failure> {
     let day = inputs::day(call)?;
-    let (first, second) = (inputs::plan(call, 1)?, inputs::plan(call, 2)?);
-    let same = kazhuvendi::same_rounds(&day.words, &first, &second)
-        .map_err(|refusal| refusals::of_plans(refusal, &day.words, &[&first, &second]))?;
+    let (first, second) = (inputs::plan(call, 1, &day)?, inputs::plan(call, 2, &day)?);
+    let plans = [&first, &second];
+    let same = kazhuvendi::same_rounds(&day.words, &first.words, &second.words)
+        .map_err(|refusal| refusals::of_plans(refusal, &day, &plans))?;
     let report = if same { "the same rounds\n" } else { "different rounds\n" };
-    Ok(Answer::told(report.to_string(), Json::Object(vec![("same", same.into())])))
+    let answer = Answer::told(report.to_string(), Json::Object(vec![("same", same.into())]));
+    Ok(answer.warned(GivenPlan::warning_of(&plans)))
 }

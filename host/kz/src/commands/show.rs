@@ -31,7 +31,7 @@ fn run(call: &Call) -> Result<Answer, Failure> {
         return Ok(Answer::told(table::day_table(&day, names), sheet_json::day(&day, names)));
     }
     let (plan, _) = inputs::lawful_plan(call, 1, &given)?;
-    let sheet = Sheet::of(&day, &plan);
+    let sheet = Sheet::of(&day, &plan.words);
     let json = sheet_json::plan(&sheet, names);
-    Ok(Answer::told(table::plan_table(&day, names, &sheet), json))
+    Ok(Answer::told(table::plan_table(&day, names, &sheet), json).warned(plan.warning))
 }

@@ -24,10 +24,10 @@ fn run(call: &Call) -> Result<Answer, Failure> {
     let day = inputs::day(call)?;
     let text = text::write(&day.words, &day.names);
     let json = Json::Object(vec![
-        ("stops", day.stops.into()),
-        ("tips", day.tips.into()),
+        ("stop_count", day.stops.into()),
+        ("tip_count", day.tips.into()),
         ("text", text.as_str().into()),
     ]);
     let report = format!("unpacked: stops {}, tips {}\n", day.stops, day.tips);
-    Ok(Answer { report, json, product: Some(Product::Text(text)) })
+    Ok(Answer::made(report, json, Product::Text(text)))
 }

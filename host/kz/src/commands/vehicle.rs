@@ -12,7 +12,7 @@ use crate::sheet_json;
 use crate::table;
 
 const NUMBER: Operand =
-    Operand { name: "N", about: "the vehicle, counted from 1", optional: false };
+    Operand { name: "N", about: "the vehicle, counted from 1", optional: false, file: false };
 
 pub const COMMAND: Command = Command {
     name: "vehicle",
@@ -32,21 +32,24 @@ pub const COMMAND: Command = Command {
 fn run(call: &Call) -> Result<Answer, Failure> {
     let number = call.number_operand(2)?;
     let given = inputs::day(call)?;
-    let plan = inputs::plan(call, 1)?;
-    let place = kazhuvendi::vehicle_place(&given.words, &plan, number)
-        .map_err(|refusal| refusals::of_plans(refusal, &given.words, &[&plan]))?;
+    let plan = inputs::plan(call, 1, &given)?;
+    let place = kazhuvendi::vehicle_place(&given.words, &plan.words, number)
+        .map_err(|refusal| refusals::of_plans(refusal, &given, &[&plan]))?;
     let (day, number) = (Day::of(&given.words), number as usize);
-    let sheet = Sheet::of(&day, &plan);
+    let sheet = Sheet::of(&day, &plan.words);
+    let words = &plan.words[place.clone()];
     let json = Json::Object(vec![
         ("vehicle", number.into()),
         ("place", place.start.into()),
-        ("words", Json::words(&plan[place.clone()])),
+        ("words", Json::words(words)),
         ("sheet", sheet_json::round(&sheet.rounds[number - 1], &given.names)),
     ]);
     if call.has(&HEX) || call.has(&OUTPUT) {
         let report =
             format!("vehicle {number}: {} words, from word {}\n", place.len(), place.start);
-        return Ok(Answer { report, json, product: Some(Product::Words(plan[place].to_vec())) });
+        let product = Product::Words(words.to_vec());
+        return Ok(Answer::made(report, json, product).warned(plan.warning));
     }
-    Ok(Answer::told(table::vehicle_table(&day, &given.names, &sheet, number), json))
+    let table = table::vehicle_table(&day, &given.names, &sheet, number);
+    Ok(Answer::told(table, json).warned(plan.warning))
 }

@@ -4,6 +4,7 @@ use std::ops::RangeInclusive;
 
 use kazhuvendi::Refusal;
 
+use crate::clock::counted;
 use crate::day::range;
 use crate::text::Names;
 
@@ -30,33 +31,30 @@ pub fn sentence(refusal: Refusal, day: &[u32]) -> Option<String> {
     let place = refusal.place as usize;
     match refusal.number {
         1 => Some(format!("the day has {} words, and no day has fewer than 7", day.len())),
-        2 => Some(wrong_bits(place, *day.get(place)?, field(day, place))),
+        2 => Some(wrong_bits(*day.get(place)?, field(day, place))),
         3 => Some(wrong_size(*day.first()?)),
         4 => Some(wrong_length(day)),
-        5 => Some(out_of_range(place, *day.get(place)?, field(day, place))),
+        5 => Some(out_of_range(*day.get(place)?, field(day, place))),
         _ => None,
     }
 }
 
-fn wrong_bits(place: usize, word: u32, field: Field) -> String {
-    let (given, kind) = (word >> 28, field.kind);
-    let begin = format!("word {place} of the day, {}, is {word:08X}", field.what);
-    if given == kind {
-        format!("{begin}, where bits are set that must be 0")
+fn wrong_bits(word: u32, field: Field) -> String {
+    let (what, kind) = (field.what, field.kind);
+    if word >> 28 == kind {
+        format!("{what} is {word:08X}, where bits are set that have to be 0")
     } else {
-        format!("{begin}, which is of kind {given:X} and has to be of kind {kind}")
+        format!("{what} is {word:08X}, and has to begin with {kind}")
     }
 }
 
 fn wrong_size(word: u32) -> String {
     let (tips, stops) = size(word);
     if range::STOPS.contains(&stops) {
-        format!("word 0 of the day says {tips} tips, and a day has at least one")
+        format!("the day says that it has {tips} tips, and a day has at least one")
     } else {
-        format!(
-            "word 0 of the day says {stops} stops, and a day has at most {}",
-            range::STOPS.end()
-        )
+        let most = range::STOPS.end();
+        format!("the day says that it has {stops} stops, and a day has at most {most}")
     }
 }
 
@@ -64,25 +62,27 @@ fn wrong_length(day: &[u32]) -> String {
     let (tips, stops) = size(day[0]);
     let places = 1 + tips + stops;
     let needed = 7 + 2 * tips + 3 * stops + places * places;
-    let given = day.len();
-    format!("the day has {given} words, and needs {needed}: word 0 says tips {tips}, stops {stops}")
+    let (given, tips, stops) = (day.len(), counted(tips, "tip"), counted(stops, "stop"));
+    format!("the day has {given} words, and one of {tips} and {stops} has {needed}")
 }
 
-fn out_of_range(place: usize, word: u32, field: Field) -> String {
-    let begin = format!("word {place} of the day, {},", field.what);
+fn out_of_range(word: u32, field: Field) -> String {
+    let what = field.what;
     let last = range::MINUTE.end();
     let (opening, closing) = (word >> 12 & 0xFFF, word & 0xFFF);
     match field.holds {
         Holds::Number(range) => {
             let (least, most) = range.into_inner();
-            format!("{begin} is {}, and has to be {least} to {most}", word & 0x7FF_FFFF)
+            format!("{what} is {}, and has to be {least} to {most}", word & 0x7FF_FFFF)
         }
         Holds::Window if opening > closing => {
-            format!("{begin} opens at minute {opening} and closes before that, at {closing}")
+            format!("{what} opens at minute {opening} and closes before that, at minute {closing}")
         }
-        Holds::Window => format!("{begin} closes at minute {closing}, behind the last, {last}"),
-        Holds::Leg => format!("{begin} takes {} minutes, more than {last}", word >> 16 & 0xFFF),
-        Holds::LegToItself => format!("{begin} is {word:08X}, and has to be 90000000"),
+        Holds::Window => {
+            format!("{what} closes at minute {closing}, and a day ends at minute {last}")
+        }
+        Holds::Leg => format!("{what} takes {} minutes, more than {last}", word >> 16 & 0xFFF),
+        Holds::LegToItself => format!("{what} is {word:08X}, and has to be 90000000"),
     }
 }
 
@@ -109,25 +109,26 @@ fn field(day: &[u32], place: usize) -> Field {
 
 fn head(place: usize) -> Field {
     let (what, holds) = match place {
-        0 => ("tips and stops", Holds::Number(0..=0xFFF)),
+        0 => ("the number of tips and stops", Holds::Number(0..=0xFFF)),
         1 => ("the load in kg", Holds::Number(range::LOAD)),
-        2 => ("the kg a day", Holds::Number(range::DAY_LOAD)),
-        3 => ("the stops a day", Holds::Number(range::DAY_STOPS)),
+        2 => ("the load a day in kg", Holds::Number(range::DAY_LOAD)),
+        3 => ("the number of stops a day", Holds::Number(range::DAY_STOPS)),
         4 => ("the depot's window", Holds::Window),
         5 => ("the rest window", Holds::Window),
-        _ => ("the minutes of a rest", Holds::Number(range::SERVICE)),
+        _ => ("the rest in minutes", Holds::Number(range::SERVICE)),
     };
     Field { what: what.to_string(), kind: place as u32 + 1, holds }
 }
 
 /// A word of a tip or stop, which is counted from 0 here.
 fn visit(what: &str, index: usize, word: usize) -> Field {
-    let (part, kind, holds) = match word {
-        0 => ("window", 5, Holds::Window),
-        1 => ("minutes", 7, Holds::Number(range::SERVICE)),
-        _ => ("quantity in kg", 8, Holds::Number(range::QUANTITY)),
+    let place = format!("{what} {}", index + 1);
+    let (what, kind, holds) = match word {
+        0 => (format!("the window of {place}"), 5, Holds::Window),
+        1 => (format!("the service of {place} in minutes"), 7, Holds::Number(range::SERVICE)),
+        _ => (format!("the quantity of {place} in kg"), 8, Holds::Number(range::QUANTITY)),
     };
-    Field { what: format!("the {part} of {what} {}", index + 1), kind, holds }
+    Field { what, kind, holds }
 }
 
 fn leg(tips: usize, stops: usize, index: usize) -> Field {

@@ -1,10 +1,13 @@
 //! Day M through every command, in plain words and as JSON.
 
+use std::collections::{BTreeMap, BTreeSet};
+
 use kz::commands::COMMANDS;
 use reference::worked::DAY_M as DAY_WORDS;
 use reference::worked_plans::{PLAN_M as PLAN_WORDS, TWO_VEHICLES};
 
 use crate::json::Json;
+use crate::page::read;
 use crate::run::kz;
 use crate::scratch::{Scratch, DAY_M, PLAN_M};
 use crate::svg;
@@ -24,8 +27,8 @@ fn words(list: &Json) -> Vec<u32> {
 
 #[test]
 fn check() {
-    let lawful = "lawful: distance 35, vehicles 1, stops served 2, left out 0\n";
-    assert_eq!(kz(&["check", DAY_M, PLAN_M]).answer(), lawful);
+    let lawful = "distance 35, vehicles 1, stops served 2, left out 0";
+    assert_eq!(kz(&["check", DAY_M, PLAN_M]).answer(), format!("lawful: {DAY_M}: {lawful}\n"));
     let answer = json(&["check", DAY_M, PLAN_M]);
     assert_eq!(answer.at("lawful"), &Json::Truth(true));
     let numbers =
@@ -37,7 +40,8 @@ fn check() {
 fn build() {
     let ran = kz(&["build", DAY_M, "--hex"]);
     assert_eq!(ran.answer().lines().count(), 7);
-    assert_eq!(ran.err, "built: distance 35, vehicles 1, stops left out 0, words 7\n");
+    let built = "distance 35, vehicles 1, stops left out 0, words 7";
+    assert_eq!(ran.err, format!("built: {DAY_M}: {built}\n"));
     let answer = json(&["build", DAY_M]);
     assert_eq!(answer.at("distance").number(), 35);
     assert_eq!(words(answer.at("plan")), PLAN_WORDS);
@@ -68,7 +72,7 @@ fn vehicle() {
     let answer = json(&["vehicle", DAY_M, &two, "2"]);
     assert_eq!(answer.at("place").number(), 4);
     assert_eq!(words(answer.at("words")), TWO_VEHICLES[4..]);
-    assert_eq!(answer.at("sheet").at("words").list().len(), 4);
+    assert_eq!(answer.at("sheet").at("entries").list().len(), 4);
 }
 
 #[test]
@@ -100,15 +104,16 @@ fn show() {
 #[test]
 fn show_with_a_plan_gives_the_earliest_minutes() {
     let answer = json(&["show", DAY_M, PLAN_M]);
-    let vehicle = &answer.at("vehicles").list()[0];
+    let sheet = &answer.at("sheets").list()[0];
     let minutes = |name| -> Vec<u64> {
-        vehicle.at("words").list().iter().map(|word| word.at(name).number()).collect()
+        sheet.at("entries").list().iter().map(|entry| entry.at(name).number()).collect()
     };
     assert_eq!(minutes("start"), [0, 10, 25, 30, 50, 65, 80]);
     assert_eq!(minutes("end"), [0, 15, 30, 40, 55, 70, 80]);
     assert_eq!(minutes("load"), [0, 60, 0, 0, 50, 0, 0]);
     assert_eq!(minutes("distance"), [0, 7, 14, 14, 21, 28, 35]);
-    assert_eq!(answer.at("left_out").list().len(), 0);
+    assert_eq!(answer.at("left_out").number(), 0);
+    assert_eq!(answer.at("stops_left_out").list().len(), 0);
 }
 
 #[test]
@@ -117,7 +122,9 @@ fn stops_left_out_are_shown() {
     let plan = scratch.words("plan", &[0xF000_0001, 0xF000_0002]);
     let shown = kz(&["show", DAY_M, &plan]);
     assert!(shown.answer().contains("left out"), "{}", shown.text());
-    let left_out = json(&["show", DAY_M, &plan]).at("left_out").list().to_vec();
+    let answer = json(&["show", DAY_M, &plan]);
+    assert_eq!((answer.at("vehicles").number(), answer.at("left_out").number()), (0, 2));
+    let left_out = answer.at("stops_left_out").list();
     let numbers: Vec<u64> = left_out.iter().map(|stop| stop.at("number").number()).collect();
     assert_eq!(numbers, [1, 2]);
 }
@@ -159,7 +166,7 @@ fn pack_and_unpack() {
     let scratch = Scratch::new();
     let again = json(&["pack", &scratch.file("day.txt", text.as_bytes())]);
     assert_eq!(words(again.at("day")), DAY_WORDS);
-    assert_eq!((again.at("stops").number(), again.at("tips").number()), (2, 1));
+    assert_eq!((again.at("stop_count").number(), again.at("tip_count").number()), (2, 1));
 }
 
 #[test]
@@ -187,6 +194,111 @@ fn the_sample_day_of_the_demo_is_the_committed_one() {
     for name in ["distance", "greedy_distance", "trials", "plan"] {
         assert_eq!(planned.at(name), demo.at(name), "{name}");
     }
+}
+
+/// The day's name is said, or its file where it has none.
+#[test]
+fn what_is_said_of_a_plan_names_the_day() {
+    let scratch = Scratch::new();
+    let text = kz(&["unpack", DAY_M]).answer().replacen("day\n", "day \"Day M\"\n", 1);
+    let (named, svg) = (scratch.file("day.txt", text.as_bytes()), scratch.name("day.svg"));
+    let planned = "distance 35 (greedy 35), vehicles 1, stops left out 0, words 7";
+    for (day, label) in [(DAY_M, DAY_M), (&named, "Day M")] {
+        let said = |arguments: &[&str]| {
+            let ran = kz(arguments);
+            assert_eq!(ran.status, 0, "{ran:?}");
+            if ran.err.is_empty() {
+                ran.text().to_string()
+            } else {
+                ran.err
+            }
+        };
+        let lawful = "distance 35, vehicles 1, stops served 2, left out 0";
+        assert_eq!(said(&["check", day, PLAN_M]), format!("lawful: {label}: {lawful}\n"));
+        let trials = "6 trials, settled";
+        assert_eq!(
+            said(&["plan", day, "--k", "5"]),
+            format!("planned: {label}: {planned}; {trials}\n")
+        );
+        let built = "distance 35, vehicles 1, stops left out 0, words 7";
+        assert_eq!(said(&["build", day]), format!("built: {label}: {built}\n"));
+        let drawn = "vehicles 1, distance 35";
+        assert_eq!(said(&["chart", day, PLAN_M, "-o", &svg]), format!("drawn: {label}: {drawn}\n"));
+    }
+}
+
+/// Notes what kind of value each name has, in this value and all within it.
+fn note_kinds(value: &Json, kinds: &mut BTreeMap<String, BTreeSet<&'static str>>) {
+    match value {
+        Json::List(items) => items.iter().for_each(|item| note_kinds(item, kinds)),
+        Json::Object(members) => {
+            for (name, member) in members {
+                let kind = match member {
+                    Json::Truth(_) => "truth",
+                    Json::Number(_) => "number",
+                    Json::Text(_) => "text",
+                    Json::List(_) => "list",
+                    Json::Object(_) => "object",
+                };
+                kinds.entry(name.clone()).or_default().insert(kind);
+                note_kinds(member, kinds);
+            }
+        }
+        _ => {}
+    }
+}
+
+/// The names of the table of members on the page for developers, with the kind of their values.
+fn listed_kinds() -> BTreeMap<String, BTreeSet<&'static str>> {
+    let page = read("docs/INTEGRATE.md");
+    let mut kinds = BTreeMap::new();
+    for row in page.lines().filter(|row| row.starts_with("| `")) {
+        let cells: Vec<&str> = row.split(" | ").collect();
+        let Some(kind) = ["truth", "number", "text", "list", "object"]
+            .into_iter()
+            .find(|kind| *kind == cells[1])
+        else {
+            continue;
+        };
+        for name in cells[0].split('`').skip(1).step_by(2) {
+            assert_eq!(kinds.insert(name.to_string(), BTreeSet::from([kind])), None, "{name}");
+        }
+    }
+    kinds
+}
+
+#[test]
+fn every_name_in_json_has_values_of_one_kind_and_the_page_lists_it() {
+    let scratch = Scratch::new();
+    let plan = scratch.words("plan", &[0xF000_0001, 0xF000_0002]);
+    let text = scratch.file("day.txt", kz(&["unpack", DAY_M]).answer().as_bytes());
+    let unlawful = scratch.file("plan.hex", b"B0000001\n");
+    let broken = scratch.file("broken.txt", b"day\nload many kg\n");
+    let swapped = scratch.words("other", &reference::worked::with_words(&[(11, 0x8000_0032)]));
+    let noted = scratch.name("noted");
+    kz(&["build", DAY_M, "-o", &noted]).answer();
+    let mut kinds = BTreeMap::new();
+    for arguments in [
+        &["check", DAY_M, PLAN_M][..],
+        &["build", DAY_M],
+        &["plan", DAY_M],
+        &["vehicle", DAY_M, PLAN_M, "1"],
+        &["same", DAY_M, PLAN_M, &plan],
+        &["show", DAY_M],
+        &["show", DAY_M, PLAN_M],
+        &["show", DAY_M, &plan],
+        &["chart", DAY_M, PLAN_M],
+        &["pack", DAY_M],
+        &["unpack", DAY_M],
+        &["demo"],
+        &["check", &text, &unlawful],
+        &["check", &swapped, &noted],
+        &["chek"],
+        &["show", &broken],
+    ] {
+        note_kinds(&kz(&[arguments, &["--json"]].concat()).json(), &mut kinds);
+    }
+    assert_eq!(kinds, listed_kinds());
 }
 
 #[test]
