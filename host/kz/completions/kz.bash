@@ -20,7 +20,7 @@ _kz() {
         pack) options='-o --output --hex --json -h --help' ;;
         unpack) options='-o --output --json -h --help' ;;
         demo) options='-o --output --json -h --help' ;;
-        help) options='check build plan vehicle same show chart pack unpack demo' ;;
+        help) [ "$COMP_CWORD" -gt 2 ] || options='check build plan vehicle same show chart pack unpack demo' ;;
     esac
     if [[ $word == -* || ${COMP_WORDS[1]} == help ]]; then
         mapfile -t COMPREPLY < <(compgen -W "$options" -- "$word")

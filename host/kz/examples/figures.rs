@@ -91,12 +91,16 @@ impl Bench {
     }
 
     fn trials(&self, day: &Path) -> io::Result<u64> {
-        let told = self.plan(Command::new(&self.program), day).stdout(Stdio::piped()).output()?;
-        let told = String::from_utf8_lossy(&told.stdout).into_owned();
-        let trials =
-            told.strip_suffix(" trials, settled\n").and_then(|told| told.rsplit(' ').next());
-        let trials = trials.and_then(|digits| digits.parse().ok());
-        trials.ok_or_else(|| Error::other(format!("not settled: {told}")))
+        let mut plan = self.plan(Command::new(&self.program), day);
+        let told = plan.arg("--json").stdout(Stdio::piped()).output()?.stdout;
+        let told = String::from_utf8_lossy(&told);
+        let trials = told.split_once("\"trials\": ").and_then(|(_, rest)| rest.split_once(", "));
+        match trials {
+            Some((digits, rest)) if rest.starts_with("\"settled\": true") => {
+                digits.parse().map_err(|_| Error::other(format!("no number of trials: {told}")))
+            }
+            _ => Err(Error::other(format!("not settled: {told}"))),
+        }
     }
 
     /// The call that plans a day until it is settled.

@@ -30,6 +30,12 @@ impl Call {
         self.operands.get(index).map(OsString::as_os_str)
     }
 
+    /// The files that it reads.
+    pub fn inputs(&self) -> impl Iterator<Item = &OsStr> {
+        let given = self.command.operands.iter().zip(&self.operands);
+        given.filter(|(operand, _)| operand.file).map(|(_, name)| name.as_os_str())
+    }
+
     /// Whether an option was given.
     pub fn has(&self, flag: &Flag) -> bool {
         self.value(flag).is_some()

@@ -53,6 +53,8 @@ pub struct Operand {
     pub about: &'static str,
     /// Whether it may be left away.
     pub optional: bool,
+    /// Whether it names a file that is read.
+    pub file: bool,
 }
 
 /// An option.
@@ -123,6 +125,7 @@ pub const DAY: Operand = Operand {
     about:
         "a day: its words as raw bytes or hexadecimal lines, or its text form; - is standard input",
     optional: false,
+    file: true,
 };
 
 /// The plan that a command is about.
@@ -130,4 +133,5 @@ pub const PLAN: Operand = Operand {
     name: "PLAN",
     about: "a plan: its words as raw bytes or hexadecimal lines; - is standard input",
     optional: false,
+    file: true,
 };

@@ -26,7 +26,7 @@ _kz() {{
         {numbers}) COMPREPLY=(); return ;;
     esac
     case ${{COMP_WORDS[1]}} in
-{options}        help) options='{names}' ;;
+{options}        help) [ \"$COMP_CWORD\" -gt 2 ] || options='{names}' ;;
     esac
     if [[ $word == -* || ${{COMP_WORDS[1]}} == help ]]; then
         mapfile -t COMPREPLY < <(compgen -W \"$options\" -- \"$word\")
@@ -78,9 +78,9 @@ pub fn zsh() -> String {
 _kz() {{
     local -a commands
     commands=(
-{commands}        'help:print the help of a command'
-    )
+{commands}    )
     if (( CURRENT == 2 )); then
+        commands+=('help:print the help of a command')
         _describe command commands
         compadd -- --help --version
         return
@@ -88,7 +88,7 @@ _kz() {{
     shift words
     (( CURRENT-- ))
     case $words[1] in
-{options}        help) _describe command commands ;;
+{options}        help) (( CURRENT > 2 )) || _describe command commands ;;
     esac
 }}
 _kz \"$@\"
@@ -116,21 +116,36 @@ fn zsh_options(command: &Command) -> String {
 
 /// For fish.
 pub fn fish() -> String {
-    let mut text = format!("# Completion of kz for fish. {MADE}\ncomplete -c kz -f\n");
-    for command in COMMANDS {
-        let about = quoted(command.summary, "\\'");
-        let name = command.name;
-        text += &format!("complete -c kz -n __fish_use_subcommand -a {name} -d {about}\n");
-    }
+    let mut text = format!("# Completion of kz for fish. {MADE}\n{FISH_COMMAND}");
+    text += "complete -c kz -f\n";
+    text += &fish_commands("__fish_use_subcommand");
     text += "complete -c kz -n __fish_use_subcommand -a help -d 'print the help of a command'\n";
     text += "complete -c kz -n __fish_use_subcommand -l help -d 'print the help'\n";
     text += "complete -c kz -n __fish_use_subcommand -l version -d 'print the version'\n";
+    text += &fish_commands("'__kz_command_is help; and test (count (commandline -opc)) -eq 2'");
     COMMANDS.iter().for_each(|command| text += &fish_options(command));
     text
 }
 
+/// Tells by the word behind `kz` alone: behind `kz help` the name of a command is no command.
+const FISH_COMMAND: &str = "\
+function __kz_command_is
+    set -l words (commandline -opc)
+    test (count $words) -ge 2; and test $words[2] = $argv[1]
+end
+";
+
+/// The names of the commands, where this holds.
+fn fish_commands(condition: &str) -> String {
+    let line = |command: &Command| {
+        let about = quoted(command.summary, "\\'");
+        format!("complete -c kz -n {condition} -a {} -d {about}\n", command.name)
+    };
+    COMMANDS.iter().map(line).collect()
+}
+
 fn fish_options(command: &Command) -> String {
-    let begin = format!("complete -c kz -n '__fish_seen_subcommand_from {}'", command.name);
+    let begin = format!("complete -c kz -n '__kz_command_is {}'", command.name);
     let mut text = String::new();
     if !command.operands.is_empty() {
         text += &format!("{begin} -F\n");

@@ -17,18 +17,30 @@ pub const COMMON: &[(&str, &[&str])] = &[
             "DAY and PLAN name files, and - stands for standard input. A file has its words as raw \
              bytes, low byte first, or as hexadecimal lines, one word a line; a DAY may also be in \
              text form, which begins with `day`. Which it is shows in its content. \
-             docs/FORMAT.md describes all of them.",
+             FORMAT.md describes all of them.",
             "A file that is written is there whole or not at all: it is written beside its place \
              and then renamed.",
+            "A plan has numbers and no names. So beside a plan that goes to FILE, FILE.made-for \
+             says which day it was made for, and every command that is given the plan with a day \
+             of other words warns on standard error. The answer and the exit status stay the same.",
         ],
     ),
     (
         "Exit status",
         &[
-            "0: there is an answer. 1: a day or plan is refused, which is said as number, place \
-             and one sentence. 2: the call is wrong, or a file can't be read or written.",
+            "0: there is an answer. 1: a day or plan is refused; one sentence says why, and behind \
+             it stand the refusal's number and the word at fault. 2: the call is wrong, or a file \
+             can't be read or written.",
             "With --json a refusal is an object with the member `refused`, anything else that is \
-             wrong one with the member `error`.",
+             wrong one with the member `error`. A warning is the member `warning`.",
+        ],
+    ),
+    (
+        "Documents",
+        &[
+            "Installed with kz, in share/doc/kazhuvendi beside the folder bin: GUIDE.md, a depot's \
+             day from text to chart; FORMAT.md, days, plans and what is refused; INTEGRATE.md, \
+             calling the library from C and Rust.",
         ],
     ),
 ];

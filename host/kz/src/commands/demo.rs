@@ -7,7 +7,7 @@ use crate::chart;
 use crate::clock::grouped;
 use crate::day::Day;
 use crate::depot;
-use crate::inputs::GivenDay;
+use crate::inputs::{GivenDay, Named};
 use crate::json::Json;
 use crate::planning::{self, Outcome, SETTLE, USUAL_NEIGHBOURS};
 use crate::sheet::Sheet;
@@ -20,16 +20,18 @@ pub const COMMAND: Command = Command {
     operands: &[],
     options: &[&OUTPUT],
     about: &[
-        "The day is that of examples/depot.txt, which is within the program. It is planned until it \
-         is settled. Printed are the distances of the greedy and the settled plan, and the sheet of \
-         vehicle 1; the chart of the settled plan goes to FILE where -o is given.",
+        "The day is made up, and within the program: 60 stops of a small town, 3 tips and a lunch. \
+         It is planned as `kz plan` does it without options. Printed are the distances of the \
+         greedy and the settled plan, and the sheet of vehicle 1; the chart of the settled plan \
+         goes to FILE where -o is given.",
     ],
     run,
 };
 
 fn run(call: &Call) -> Result<Answer, Failure> {
     let sample = depot::sample();
-    let given = GivenDay::of(sample.words, Some(sample.names))?;
+    let file = Named { name: "the sample day".into(), bytes: vec![] };
+    let given = GivenDay::of(sample.words, Some(sample.names), &file)?;
     let outcome = planning::run(&given, USUAL_NEIGHBOURS, SETTLE, |_| {})?;
     let day = Day::of(&given.words);
     let sheet = Sheet::of(&day, &outcome.best.words);
@@ -37,8 +39,8 @@ fn run(call: &Call) -> Result<Answer, Failure> {
     let vehicle = table::vehicle_table(&day, &given.names, &sheet, 1);
     let report = format!("{}\n{vehicle}{}", distances(&given, &outcome), chart_place(call));
     let json = Json::Object(vec![
-        ("stops", given.stops.into()),
-        ("tips", given.tips.into()),
+        ("stop_count", given.stops.into()),
+        ("tip_count", given.tips.into()),
         ("greedy_distance", outcome.greedy.into()),
         ("distance", outcome.best.planned.distance.into()),
         ("trials", outcome.best.planned.trials.into()),
@@ -46,7 +48,7 @@ fn run(call: &Call) -> Result<Answer, Failure> {
         ("plan", Json::words(&outcome.best.words)),
         ("sheet", sheet_json::round(&sheet.rounds[0], &given.names)),
     ]);
-    Ok(Answer { report, json, product })
+    Ok(Answer { product, ..Answer::told(report, json) })
 }
 
 fn distances(given: &GivenDay, outcome: &Outcome) -> String {

@@ -98,19 +98,9 @@ fn lines_that_are_no_words_are_named() {
     let scratch = Scratch::new();
     let plan = scratch.file("plan.hex", b"A0000001\nB000000G\n");
     let ran = kz(&["check", DAY_M, &plan]);
-    assert!(ran.failure(2).contains("line 2: 'B000000G' is no word"), "{ran:?}");
+    assert!(ran.failure(2).contains("line 2, column 1: \"B000000G\" is no word"), "{ran:?}");
     let ran = kz(&["check", &plan, PLAN_M]);
-    assert!(ran.failure(2).contains("line 2: 'B000000G' is no word"), "{ran:?}");
-}
-
-#[test]
-fn faults_of_a_text_are_named_by_line_and_column() {
-    let scratch = Scratch::new();
-    let day = scratch.file("day.txt", b"day\nload 100 kg\nload-a-day many kg\n");
-    for arguments in [vec!["pack", &day], vec!["show", &day], vec!["plan", &day]] {
-        let ran = kz(&arguments);
-        assert!(ran.failure(2).contains("day.txt can't be read: line 3, column 12: "), "{ran:?}");
-    }
+    assert!(ran.failure(2).contains("line 2, column 1: \"B000000G\" is no word"), "{ran:?}");
 }
 
 #[test]

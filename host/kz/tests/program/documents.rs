@@ -23,25 +23,41 @@ fn no_path_below_crates_leads_nowhere() {
             paths += 1;
         }
     }
-    assert!(paths > 100, "{paths}");
+    assert!(paths > 50, "{paths}");
+}
+
+/// The names of the edits in a crate's folder of wrong programs, sorted.
+fn edits(folder: &Path) -> Vec<String> {
+    let files = std::fs::read_dir(folder).into_iter().flatten();
+    let paths = files.map(|file| file.expect("a file of the folder").path());
+    let mut names: Vec<String> =
+        paths.filter_map(|path| Some(path.file_stem()?.to_str()?.to_string())).collect();
+    names.sort();
+    names
 }
 
 #[test]
-fn the_wrong_programs_that_the_promises_name_are_tried() {
-    let mut edits = 0;
-    for row in read("docs/PROMISES.md").split(['|', ';']) {
-        let Some((names, folder)) = row.split_once(" in crates/") else { continue };
-        let Some((name, _)) = folder.split_once("/must-fail") else { continue };
-        for label in names.split(',').map(str::trim) {
-            let label = label.rsplit(' ').next().unwrap_or_default();
-            let edit = format!("crates/{name}/must-fail/{label}.edit");
-            if label.contains('_') {
-                assert!(Path::new(ROOT).join(&edit).exists(), "{edit}");
-                edits += 1;
-            }
+fn every_wrong_program_is_listed_beside_its_crate() {
+    let page = read("docs/WRONG-PROGRAMS.md");
+    let cells = |row: &str| row.split('|').map(|cell| cell.trim().to_string()).collect::<Vec<_>>();
+    let rows: Vec<Vec<String>> = page.lines().filter(|l| l.starts_with('|')).map(cells).collect();
+    let listed: std::collections::BTreeMap<String, Vec<String>> = rows
+        .iter()
+        .filter(|cells| cells.len() == 5 && cells[3].contains('_'))
+        .map(|cells| (cells[2].clone(), cells[3].split(", ").map(String::from).collect()))
+        .collect();
+    let crates = std::fs::read_dir(Path::new(ROOT).join("crates")).expect("the crates");
+    let mut tried = std::collections::BTreeMap::new();
+    for folder in crates.map(|entry| entry.expect("a crate").path()) {
+        let names = edits(&folder.join("must-fail"));
+        if !names.is_empty() {
+            let name = folder.file_name().and_then(|name| name.to_str()).expect("a plain name");
+            tried.insert(name.to_string(), names);
         }
     }
-    assert!(edits > 30, "{edits}");
+    assert_eq!(listed, tried);
+    let count: usize = tried.values().map(Vec::len).sum();
+    assert!(page.contains(&format!("There are {count}.")), "{count}");
 }
 
 #[test]
@@ -57,4 +73,53 @@ fn the_promises_list_the_chapters_of_the_rules_in_order_with_their_lines() {
         rows.map(|row| row.split(" |").take(2).collect::<Vec<_>>().join(" |") + " |").collect();
     assert_eq!(listed, counted);
     assert!(counted.len() > 25, "{counted:?}");
+}
+
+#[test]
+fn the_files_to_read_for_each_demand_have_the_lines_that_the_promises_say() {
+    let mut files = 0;
+    for row in read("docs/PROMISES.md").lines() {
+        let cells: Vec<&str> = row.split('|').map(str::trim).collect();
+        if cells.len() == 6 && cells[2].starts_with("crates/") {
+            assert_eq!(cells[3], read(cells[2]).lines().count().to_string(), "{}", cells[2]);
+            files += 1;
+        }
+    }
+    assert!(files > 10, "{files}");
+}
+
+/// The names in backquotes of a text.
+fn quoted(text: &str) -> impl Iterator<Item = &str> {
+    text.split('`').skip(1).step_by(2)
+}
+
+#[test]
+fn every_promise_is_a_statement_of_the_crate_of_promises() {
+    let page = read("docs/PROMISES.md");
+    let folder = Path::new(ROOT).join("crates/promises/proofs");
+    let files = std::fs::read_dir(folder).expect("the statements");
+    let paths = files.map(|file| file.expect("a file of the folder").path());
+    let texts: Vec<String> = paths
+        .filter(|path| path.is_file())
+        .map(|path| std::fs::read_to_string(path).expect("a text"))
+        .chain(["lib", "calls"].map(|name| read(&format!("crates/promises/src/{name}.rt"))))
+        .collect();
+    let said = |name: &str| {
+        let (law, client) = (format!("pub {name} :"), format!("pub fn {name}("));
+        texts.iter().any(|text| text.contains(&law) || text.contains(&client))
+    };
+    let mut rows = 0;
+    for table in page.split("| Sentence | Statement |").skip(1) {
+        for row in table.lines().skip(2).take_while(|row| row.starts_with('|')) {
+            let statement = row.split('|').nth(2).expect("a statement");
+            let names = quoted(statement).filter(|name| name.contains(['-', '_']) || said(name));
+            let names: Vec<&str> = names.collect();
+            assert!(!names.is_empty(), "{row}");
+            for name in names {
+                assert!(said(name), "{name}: {row}");
+            }
+            rows += 1;
+        }
+    }
+    assert!(rows > 35, "{rows}");
 }

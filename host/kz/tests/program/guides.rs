@@ -8,7 +8,7 @@ use std::process::{Command, Stdio};
 use crate::page::{blocks, links, read, Block, ROOT};
 use crate::scratch::Scratch;
 
-pub const PAGES: [&str; 10] = [
+pub const PAGES: [&str; 12] = [
     "CONTRIBUTING.md",
     "README.md",
     "docs/DECISIONS.md",
@@ -17,6 +17,8 @@ pub const PAGES: [&str; 10] = [
     "docs/INTEGRATE.md",
     "docs/NEXT.md",
     "docs/PROMISES.md",
+    "docs/WRONG-PROGRAMS.md",
+    "docs/changes/promises.md",
     "docs/changes/rules.md",
     "examples/README.md",
 ];

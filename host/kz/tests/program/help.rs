@@ -1,12 +1,14 @@
 //! The help, the manual page and the completions name all that the program has.
 
 use std::fs;
+use std::path::{Path, PathBuf};
 use std::process::Command;
 
 use kz::catalogue::Flag;
 use kz::commands::COMMANDS;
 use kz::{completion, manual};
 
+use crate::page::ROOT;
 use crate::run::kz;
 
 const PACKAGE: &str = env!("CARGO_MANIFEST_DIR");
@@ -53,6 +55,77 @@ fn the_help_of_plan_says_why_an_interrupt_is_sound() {
     assert!(help.contains("the exit status is 0"), "{help}");
 }
 
+/// The lines of a text as one line, with single blanks between its words.
+fn joined(text: &str) -> String {
+    text.split_whitespace().collect::<Vec<_>>().join(" ")
+}
+
+#[test]
+fn the_help_of_plan_and_the_manual_page_say_what_k_and_trials_do() {
+    let help = joined(kz(&["help", "plan"]).answer());
+    let page = joined(&committed("man/kz.1")).replace("\\-", "-");
+    for said in [
+        "--k K try each stop beside its K nearest stops, 1 to 50; 50 where nothing is said",
+        "--trials N stop after N trials, though more might still make the plan shorter",
+        "K says how many nearest stops each stop is tried beside: those with the shortest drive \
+         from it, of all whose windows let a vehicle go on to them. A larger K means more trials, \
+         most often a shorter plan, and more time. With K 50, the most, a day of 60 stops settles \
+         within a tenth of a second, one of 240 within two seconds.",
+        "--trials is for a plan that is wanted sooner: planning ends after N trials at the latest. \
+         The plan is lawful, and never longer than with a smaller N. It is called `not settled` \
+         where more trials might still make it shorter.",
+    ] {
+        assert!(help.contains(said), "{said}\n{help}");
+        assert!(page.contains(said), "{said}\n{page}");
+    }
+}
+
+/// The names of documents in a text, sorted.
+fn documents(text: &str) -> Vec<&str> {
+    let words = text.split(|c: char| !c.is_ascii_alphanumeric() && !"./-".contains(c));
+    let named = words.map(|word| word.trim_end_matches('.')).filter(|word| word.ends_with(".md"));
+    let mut names: Vec<&str> = named.collect();
+    names.sort_unstable();
+    names.dedup();
+    names
+}
+
+#[test]
+fn the_manual_page_and_the_help_name_the_documents_that_are_installed() {
+    let installed = ["FORMAT.md", "GUIDE.md", "INTEGRATE.md"];
+    let page = committed("man/kz.1");
+    assert_eq!(documents(&page), installed);
+    assert_eq!(documents(kz(&["help"]).answer()), installed);
+    let place = "Installed with kz, in share/doc/kazhuvendi beside the folder bin: ";
+    assert!(page.contains(&format!(".SH DOCUMENTS\n.PP\n{place}")), "{page}");
+    assert!(joined(kz(&["help"]).text()).contains(&format!("Documents: {place}")));
+    for name in installed {
+        assert!(Path::new(ROOT).join("docs").join(name).exists(), "{name}");
+    }
+}
+
+/// The source files below a folder.
+fn sources(folder: &Path) -> Vec<PathBuf> {
+    let entries = fs::read_dir(folder).expect("the folder is there");
+    let paths = entries.map(|entry| entry.expect("the folder is read").path());
+    let below = |path: PathBuf| if path.is_dir() { sources(&path) } else { vec![path] };
+    paths.flat_map(below).collect()
+}
+
+#[test]
+fn nothing_that_is_printed_cites_what_users_do_not_have() {
+    let files = sources(&Path::new(PACKAGE).join("src"));
+    for file in &files {
+        let text = fs::read_to_string(file).expect("a source is UTF-8");
+        for line in text.lines().filter(|line| !line.trim_start().starts_with("//")) {
+            for cited in ["document 0", "docs/", "examples/", "crates/", "host/", "PROMISES.md"] {
+                assert!(!line.contains(cited), "{}: {line}", file.display());
+            }
+        }
+    }
+    assert!(files.len() > 30, "{files:?}");
+}
+
 #[test]
 fn the_version_is_told() {
     assert_eq!(kz(&["--version"]).answer(), format!("kz {}\n", env!("CARGO_PKG_VERSION")));
@@ -96,7 +169,7 @@ fn the_completions_name_every_command_and_option() {
         assert!(bash.contains(&format!(" {name}")) || bash.contains(&format!("'{name}")), "{name}");
         assert!(zsh.contains(&format!("        {command}) _arguments")), "{command}");
         assert!(zsh.contains(&format!("'{name}[")), "{name}");
-        let in_fish = format!("_from {command}'");
+        let in_fish = format!("'__kz_command_is {command}'");
         let named = format!("-l {} ", name.trim_start_matches('-'));
         assert!(
             fish.lines().any(|line| line.contains(&in_fish) && line.contains(&named)),
@@ -127,7 +200,27 @@ fn bash_completes_commands_options_and_files() {
     assert_eq!(offered(&["kz", "build", "-o", "k"]), ["kz.1"]);
     assert_eq!(offered(&["kz", "plan", "--k", ""]), [""; 0]);
     assert_eq!(offered(&["kz", "help", "un"]), ["unpack"]);
+    assert_eq!(offered(&["kz", "help", "plan", ""]), [""; 0]);
     for (command, option) in options() {
         assert_eq!(offered(&["kz", command, option.name])[0], option.name);
     }
+}
+
+#[test]
+fn every_shell_completes_help_with_the_commands_once() {
+    let names: Vec<&str> = COMMANDS.iter().map(|command| command.name).collect();
+    assert_eq!(offered(&["kz", "help", ""]), names);
+    let fish = committed("completions/kz.fish");
+    let behind_help =
+        "complete -c kz -n '__kz_command_is help; and test (count (commandline -opc)) -eq 2' -a ";
+    let offers = fish.lines().filter_map(|line| line.strip_prefix(behind_help));
+    let offers: Vec<&str> = offers.map(|rest| rest.split(' ').next().unwrap_or_default()).collect();
+    assert_eq!(offers, names);
+    let zsh = committed("completions/_kz");
+    let (_, list) = zsh.split_once("    commands=(\n").expect("there is a list");
+    let (list, _) = list.split_once("    )\n").expect("the list ends");
+    let listed = list.lines().map(|line| line.trim_start_matches([' ', '\'']));
+    let listed: Vec<&str> = listed.map(|line| line.split(':').next().unwrap_or_default()).collect();
+    assert_eq!(listed, names);
+    assert!(zsh.contains("\n        help) (( CURRENT > 2 )) || _describe command commands ;;\n"));
 }
