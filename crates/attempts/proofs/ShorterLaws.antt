@@ -14,8 +14,7 @@ use Rattle.rules.specs.Plan.{Round}
 use Rattle.rules.specs.Lawful.{distanceFrom}
 use Rattle.rules.specs.Build.{greedyLefts}
 use Rattle.rules.specs.Edits.{Trial, touches, changed}
-use Rattle.rules.specs.WalkedAgain.{walkedAgain}
-use Rattle.rules.specs.Attempts.{retried, tried, distanceOf, keptIf, attempt}
+use Rattle.rules.specs.Attempts.{walkedAgain, retried, tried, distanceOf, keptIf, attempt}
 use Rattle.laws.proofs.Decided.{known}
 use Rattle.day.proofs.Ranges.{accepted-ranges}
 use Rattle.walks.specs.Rewalks.{AgainAs}

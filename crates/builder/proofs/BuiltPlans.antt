@@ -10,15 +10,14 @@ use lib.ListN.{length, take, drop, replicate, getD, length-append, length-replic
 use lib.Seq.{drop-drop, take-at}
 use borrow.Author.Tests.{lt-ltb, le-ltb}
 use Rattle.rules.specs.Answers.{given, refused, isGiven}
-use Rattle.rules.specs.Lists.{total}
-use Rattle.rules.specs.Buffer.{over}
+use Rattle.rules.specs.Lists.{total, over}
 use Rattle.rules.specs.DayFile.{judgeDay}
 use Rattle.rules.specs.Fields.{stops, IsAccepted}
 use Rattle.rules.specs.Lawful.{distanceFrom, totals}
 use Rattle.rules.specs.Check.{checkWords, checkPlan}
 use Rattle.rules.specs.Build.{greedyRounds, greedyLefts, greedyPlan, routed}
 use Rattle.rules.specs.AnswerValues.{dayValues, answerValues}
-use Rattle.rules.specs.Built.{planned, builtAnswer, builtBuffer, buildAnswer, buildBuffer}
+use Rattle.rules.specs.Planned.{planned, builtAnswer, builtBuffer, buildAnswer, buildBuffer}
 use Rattle.rules.specs.declared.answers.Answer.{Answer}
 use Rattle.rules.specs.declared.answers.Answer.the-variants as Answers
 use Rattle.rules.specs.declared.answers.DayAnswer.{DayAnswer}

@@ -5,7 +5,7 @@ ghost use lib.ListN.{length};
 ghost use Rattle.rules.specs.Fields.{IsAccepted};
 ghost use Rattle.rules.specs.Build.{greedyLefts, greedyPlan};
 ghost use Rattle.rules.specs.AnswerValues.{planValues};
-ghost use Rattle.rules.specs.Built.{planned, builtAnswer, builtBuffer};
+ghost use Rattle.rules.specs.Planned.{planned, builtAnswer, builtBuffer};
 ghost use Rattle.day.specs.Layout.{LayoutOf};
 use crate::fleet::write_vehicles;
 use crate::lefts::fill_zeros;

@@ -11,7 +11,7 @@ use borrow.Author.Tests.{eq-eqb, ne-eqb}
 use Rattle.rules.specs.Tests.{if_then_else_}
 use Rattle.rules.specs.Plan.{Round}
 use Rattle.rules.specs.Edits.{Edit, changed}
-use Rattle.rules.specs.WalkedAgain.{walkedAgain}
+use Rattle.rules.specs.Attempts.{walkedAgain}
 use Rattle.laws.specs.Buffer.{Wrote}
 use Rattle.laws.proofs.Buffer.{wrote-same}
 use Rattle.walks.specs.Rewalks.{Walkable, SomeWalkable, WalkedAs}

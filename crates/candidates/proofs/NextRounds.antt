@@ -12,8 +12,7 @@ use Rattle.rules.specs.Lists.{Every}
 use Rattle.rules.specs.Fields.{stops, IsAccepted}
 use Rattle.rules.specs.Plan.{Round, roundWords, stopsOn, stopsOnAll, Known}
 use Rattle.rules.specs.Edits.{Trial, touches, changed}
-use Rattle.rules.specs.WalkedAgain.{walkedAgain}
-use Rattle.rules.specs.Attempts.{retried}
+use Rattle.rules.specs.Attempts.{walkedAgain, retried}
 use Rattle.laws.proofs.Lists.{every-at}
 use Rattle.day.proofs.Ranges.{accepted-ranges}
 use Rattle.plan_laws.proofs.Theorems.{round-length}

@@ -10,7 +10,7 @@ ghost use Rattle.rules.specs.Tests.{if_then_else_};
 ghost use Rattle.rules.specs.Fields.{IsAccepted};
 ghost use Rattle.rules.specs.Plan.{Round};
 ghost use Rattle.rules.specs.Edits.{changed};
-ghost use Rattle.rules.specs.WalkedAgain.{walkedAgain};
+ghost use Rattle.rules.specs.Attempts.{walkedAgain};
 ghost use Rattle.laws.specs.Buffer.{Wrote};
 ghost use Rattle.day.specs.Layout.{LayoutOf};
 ghost use Rattle.edits.specs.EditWords.{editOf, EditKnown, EditSmall, trialOf};

@@ -7,7 +7,7 @@ use native.Mathlib.Omega.{arith}
 use lib.ListN.{length, set}
 use borrow.Author.Tests.{ne-eqb}
 use Rattle.rules.specs.Answers.{given, refused}
-use Rattle.rules.specs.Buffer.{over}
+use Rattle.rules.specs.Lists.{over}
 use Rattle.rules.specs.Bytes.{byteWord, byteWords, readAnswer, readBuffer}
 use Rattle.laws.specs.Buffer.{Wrote}
 use Rattle.laws.proofs.Buffer.{wrote-none, wrote-put, wrote-same}

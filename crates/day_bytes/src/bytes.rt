@@ -2,7 +2,7 @@
 ghost use mathlib.Core.Path.{_≡_};
 ghost use Prim.Native.Nat.{_+_, _*_, _<_, _≤_};
 ghost use lib.ListN.{length};
-ghost use Rattle.rules.specs.Buffer.{over};
+ghost use Rattle.rules.specs.Lists.{over};
 ghost use Rattle.rules.specs.Bytes.{byteWord, byteWords};
 
 fn wide(x: u8) -> u32

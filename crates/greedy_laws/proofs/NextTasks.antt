@@ -8,13 +8,12 @@ use mathlib.Core.Option.{none, some, Option·some-injective, Option·none-ne-som
 use native.Mathlib.Omega.{arith}
 use lib.Dec.{ltb, leb, eqb}
 use borrow.Author.Tests.{eqb-true, eqb-false, ltb-true, ltb-false, leb-true, not-true}
-use Rattle.rules.specs.Tests.{if_then_else_}
+use Rattle.rules.specs.Tests.{if_then_else_, least}
 use Rattle.rules.specs.Lists.{mem}
-use Rattle.rules.specs.Least.{least}
 use Rattle.laws.specs.Least.{IsLeast}
 use Rattle.rules.specs.Fields.{stops, tips, opening, closing, legMinutes}
 use Rattle.rules.specs.Plan.{Task, serve, empty}
-use Rattle.rules.specs.Tips.{openTip, nearestTip}
+use Rattle.rules.specs.Home.{openTip, nearestTip}
 use Rattle.rules.specs.Choice.{takeable, waitable, nearKey, openKey, nearestStop, earliestStop, nearCapacity, farther, chosenStop}
 use Rattle.rules.specs.Build.{Truck, serving, emptying, nextTask}
 use Rattle.rules.specs.declared.walk.Cargo.{Cargo}

@@ -15,8 +15,7 @@ use Rattle.rules.specs.Plan.{Task, serve, empty, lunch, Round, wordFor}
 use Rattle.rules.specs.Cargo.{overLimits, cargoFault, cargoAfter}
 use Rattle.rules.specs.Cargo as Carried
 use Rattle.rules.specs.Trip.{leaving, arrival, visitStart, visited, visitFault, tripFault}
-use Rattle.rules.specs.Tips.{nearestTip}
-use Rattle.rules.specs.Home.{due, wayHome}
+use Rattle.rules.specs.Home.{nearestTip, due, wayHome}
 use Rattle.rules.specs.Choice.{taking, suits, takeable, waitable}
 use Rattle.rules.specs.Build.{Truck, fresh, doing, resting, oneVehicle}
 use Rattle.rules.specs.declared.walk.Cargo.{Cargo}

@@ -10,8 +10,7 @@ use borrow.Author.Tests.{leb-true, eqb-false, not-true, le-ltb, ne-eqb}
 use Rattle.rules.specs.Tests.{if_then_else_}
 use Rattle.rules.specs.Fields.{closing, restOpening, restClosing}
 use Rattle.rules.specs.Trip.{arrival, visited, restStart, restedAt, restFault, backFault}
-use Rattle.rules.specs.Tips.{nearestTip}
-use Rattle.rules.specs.Home.{due, restIfDue, homeDirect, homeByTip, homeLoaded, wayHome}
+use Rattle.rules.specs.Home.{nearestTip, due, restIfDue, homeDirect, homeByTip, homeLoaded, wayHome}
 use Rattle.rules.specs.declared.walk.Trip.{Trip}
 use Rattle.laws.proofs.Tests.{both-true, only-second}
 

@@ -9,7 +9,7 @@ use lib.ListN.{length, take, drop, set, getD, replicate, length-set, length-appe
 use lib.ListN.{drop-of-length-le, take-append-drop, replicate-append-replicate}
 use lib.Seq.{set-at, drop-cons, take-at, drop-at, drop-drop, take-all, length-take-le}
 use borrow.Rule.Slice.PartMut.{putMid, same-len-mid}
-use Rattle.rules.specs.Buffer.{over}
+use Rattle.rules.specs.Lists.{over}
 use Rattle.laws.specs.Buffer.{Wrote, zeros}
 
 module _ {A : Type 0} where

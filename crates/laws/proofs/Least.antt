@@ -9,8 +9,7 @@ use native.Mathlib.Numerals.{add-one}
 use native.Mathlib.Omega.{arith}
 use lib.Dec.{ltb, eqb}
 use borrow.Author.Tests.{ltb-true, ltb-false, eqb-true, eqb-false, lt-ltb, le-ltb, ne-eqb}
-use Rattle.rules.specs.Tests.{if_then_else_}
-use Rattle.rules.specs.Least.{wins, better, least}
+use Rattle.rules.specs.Tests.{if_then_else_, wins, better, least}
 use Rattle.laws.specs.Least.{IsLeast}
 
 -- the four ways of a choice between k and the best so far, b

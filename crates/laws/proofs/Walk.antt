@@ -9,8 +9,7 @@ use native.Mathlib.Omega.{arith}
 use lib.ListN.{getD}
 use lib.Dec.{eqb}
 use borrow.Author.Tests.{ne-eqb, eq-eqb}
-use Rattle.rules.specs.Tests.{if_then_else_}
-use Rattle.rules.specs.Least.{better, least}
+use Rattle.rules.specs.Tests.{if_then_else_, better, least}
 use Rattle.laws.specs.Bits.{bit, LowestBit}
 use Rattle.laws.specs.Marks.{both, marked, upTo}
 use Rattle.laws.specs.Walk.{leastBelow, bestOf, WordWalk}

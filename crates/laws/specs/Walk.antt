@@ -4,8 +4,7 @@ use Prim.Native.Nat.{ℕ, zero, suc, _+_, _-_, _≤_, _<_, min}
 use mathlib.Core.Path.{_≡_}
 use mathlib.Core.Bool.{Bool}
 use lib.Dec.{eqb}
-use Rattle.rules.specs.Tests.{if_then_else_}
-use Rattle.rules.specs.Least.{better, least}
+use Rattle.rules.specs.Tests.{if_then_else_, better, least}
 use Rattle.laws.specs.Bits.{bit}
 
 -- the least of the numbers of 1..n that are below `at`

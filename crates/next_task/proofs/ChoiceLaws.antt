@@ -8,8 +8,7 @@ use native.Mathlib.Decide.{decLt}
 use native.Mathlib.Omega.{arith}
 use lib.Dec.{ltb, leb}
 use borrow.Author.Tests.{le-leb, lt-leb, le-ltb, lt-ltb, leb-true, ltb-true, not-true}
-use Rattle.rules.specs.Tests.{if_then_else_}
-use Rattle.rules.specs.Least.{better, wins}
+use Rattle.rules.specs.Tests.{if_then_else_, better, wins}
 use Rattle.rules.specs.Fields.{stopPlace, opening, closing, quantity, legMinutes}
 use Rattle.rules.specs.Cargo.{loaded, overLimits}
 use Rattle.rules.specs.Trip.{arrival, visited}

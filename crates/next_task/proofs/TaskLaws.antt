@@ -8,11 +8,11 @@ use mathlib.Core.Option.{Option, none, some}
 use native.Mathlib.Omega.{arith}
 use lib.Dec.{ltb}
 use borrow.Author.Tests.{lt-ltb, le-ltb, eq-eqb, ne-eqb}
+use Rattle.rules.specs.Tests.{least}
 use Rattle.rules.specs.Lists.{mem}
-use Rattle.rules.specs.Least.{least}
 use Rattle.rules.specs.Fields.{stops, loadLimit, dayLimit, stopLimit}
 use Rattle.rules.specs.Plan.{Task, serve, empty}
-use Rattle.rules.specs.Tips.{nearestTip}
+use Rattle.rules.specs.Home.{nearestTip}
 use Rattle.rules.specs.Choice.{takeable, waitable, nearKey, openKey, nearestStop, earliestStop, nearCapacity, farther, chosenStop}
 use Rattle.rules.specs.Build.{Truck, serving, emptying, nextTask}
 use Rattle.rules.specs.declared.walk.Cargo.{Cargo}

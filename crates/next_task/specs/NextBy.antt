@@ -6,7 +6,7 @@ use mathlib.Core.Option.{Option, none, some}
 use lib.Dec.{ltb}
 use Rattle.rules.specs.Tests.{if_then_else_}
 use Rattle.rules.specs.Plan.{Task, serve, empty}
-use Rattle.rules.specs.Tips.{nearestTip}
+use Rattle.rules.specs.Home.{nearestTip}
 use Rattle.rules.specs.Choice.{chosenStop}
 use Rattle.rules.specs.Build.{serving, emptying}
 use Rattle.rules.specs.declared.walk.Cargo.{Cargo}

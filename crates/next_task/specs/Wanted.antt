@@ -5,7 +5,7 @@ use mathlib.Core.Path.{_≡_}
 use mathlib.Core.Bool.{Bool, true, false, not, _&&_}
 use mathlib.Core.List.{List}
 use lib.Dec.{ltb, leb}
-use Rattle.rules.specs.Least.{better, least}
+use Rattle.rules.specs.Tests.{better, least}
 use Rattle.rules.specs.Fields.{stops, stopPlace, opening, closing}
 use Rattle.rules.specs.Cargo.{overLimits}
 use Rattle.rules.specs.Trip.{arrival}

@@ -1,7 +1,7 @@
 // What a vehicle does next: steps 3, 4 and 5.
 ghost use mathlib.Core.Path.{_≡_};
 ghost use Prim.Native.Nat.{_<_, _≤_};
-ghost use Rattle.rules.specs.Tips.{nearestTip};
+ghost use Rattle.rules.specs.Home.{nearestTip};
 ghost use Rattle.rules.specs.Choice.{nearCapacity, farther, chosenStop};
 ghost use Rattle.rules.specs.Build.{emptying};
 ghost use Rattle.laws.specs.Marks.{marked};

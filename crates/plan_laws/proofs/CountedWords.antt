@@ -10,61 +10,43 @@ use lib.Dec.{eqb}
 use borrow.Author.Tests.{eq-eqb, eqb-true}
 use Rattle.rules.specs.Tests.{if_then_else_}
 use Rattle.rules.specs.Lists.{Every}
-use Rattle.rules.specs.PlanWords.{Word, vehicle, stop, tip, rest, back, left, stray, kindOf, numberOf, vehicleKind, stopKind, tipKind, leftKind, restWord, backWord}
-use Rattle.rules.specs.PlanWords.{wordOf, readPlan, sameWord}
+use Rattle.rules.specs.PlanWords.{Word, vehicle, stop, tip, rest, back, left, stray, kindOf, numberOf, vehicleWord, stopWord, tipWord, restWord, backWord, leftWord, wordOf, readPlan, sameWord}
 use Rattle.rules.specs.Plan.{Task, serve, empty, lunch, Round, wordFor}
 use Rattle.rules.specs.Lawful.{Lawful}
 use Rattle.rules.specs.SameRounds.{those, counts, counted, sameWords}
 use Rattle.laws.proofs.Tests.{only-first, both-true}
 use Rattle.plan_words.specs.Said.{says}
-use Rattle.plan_words.proofs.WordForms.{Apart, isVehicle, isStop, isTip, isRest, isBack, isLeft, isStray, apart, vehicle-read, stop-read, tip-read, left-read, kinds-agree}
+use Rattle.plan_words.proofs.WordForms.{Apart, isVehicle, isStop, isTip, isRest, isBack, isLeft, isStray, apart, vehicle-read, stop-read, tip-read, left-read}
 use Rattle.plan_laws.proofs.PlanTold.{NoTask, no-task, tasks-told, formed-says}
 
--- the kind and the number of a word that says it
-abbrev kindSaid : Word → ℕ
-kindSaid (vehicle k) = vehicleKind
-kindSaid (stop k) = stopKind
-kindSaid (tip k) = tipKind
-kindSaid rest = kindOf restWord
-kindSaid back = kindOf backWord
-kindSaid (left k) = leftKind
-kindSaid stray = 0
-
-abbrev numberSaid : Word → ℕ
-numberSaid (vehicle k) = k
-numberSaid (stop k) = k
-numberSaid (tip k) = k
-numberSaid rest = numberOf restWord
-numberSaid back = numberOf backWord
-numberSaid (left k) = k
-numberSaid stray = 0
+-- the word that says it; a stray one may be any
+abbrev wordSaying : Word → ℕ
+wordSaying (vehicle k) = vehicleWord k
+wordSaying (stop k) = stopWord k
+wordSaying (tip k) = tipWord k
+wordSaying rest = restWord
+wordSaying back = backWord
+wordSaying (left k) = leftWord k
+wordSaying stray = 0
 
 module _ (test : Task → Bool) where
-  -- words that count and say the same are of one kind and number
-  kind-said : (w : ℕ) {u : Word} → Apart w u → counts test u ≡ true → kindOf w ≡ kindSaid u
-  kind-said w (isVehicle k h d x) c = d
-  kind-said w (isStop k h d x) c = d
-  kind-said w (isTip k h d x) c = d
-  kind-said w (isRest d x) c = ap kindOf d
-  kind-said w (isBack d x) c = ap kindOf d
-  kind-said w (isLeft k h d x) c = d
-  kind-said w (isStray x) c = absurd (false≢true c)
+  -- a word that counts is told by what it says
+  word-saying : (w : ℕ) {u : Word} → Apart w u → counts test u ≡ true → w ≡ wordSaying u
+  word-saying w (isVehicle k h d x) c = omega (arith, ap wordSaying (sym (vehicle-read w d) ∙ x))
+  word-saying w (isStop k h d x) c = omega (arith, ap wordSaying (sym (stop-read w d) ∙ x))
+  word-saying w (isTip k h d x) c = omega (arith, ap wordSaying (sym (tip-read w d) ∙ x))
+  word-saying w (isRest d x) c = d
+  word-saying w (isBack d x) c = d
+  word-saying w (isLeft k h d x) c = omega (arith, ap wordSaying (sym (left-read w d) ∙ x))
+  word-saying w (isStray x) c = absurd (false≢true c)
 
-  number-said : (w : ℕ) {u : Word} → Apart w u → counts test u ≡ true → numberOf w ≡ numberSaid u
-  number-said w (isVehicle k h d x) c = ap numberSaid (sym (vehicle-read w d) ∙ x)
-  number-said w (isStop k h d x) c = ap numberSaid (sym (stop-read w d) ∙ x)
-  number-said w (isTip k h d x) c = ap numberSaid (sym (tip-read w d) ∙ x)
-  number-said w (isRest d x) c = ap numberOf d
-  number-said w (isBack d x) c = ap numberOf d
-  number-said w (isLeft k h d x) c = ap numberSaid (sym (left-read w d) ∙ x)
-  number-said w (isStray x) c = absurd (false≢true c)
-
+  -- so words that count and say the same are of one kind and number
   word-same : (v w : ℕ) → counts test (wordOf v) ≡ true → wordOf v ≡ wordOf w → sameWord v w ≡ true
+  unfolding sameWord
   word-same v w c e =
       let d = sym (ap (counts test) e) ∙ c in
-      let kinds = kind-said v (apart v) c ∙ ap kindSaid e ∙ sym (kind-said w (apart w) d) in
-      let numbers = number-said v (apart v) c ∙ ap numberSaid e ∙ sym (number-said w (apart w) d) in
-      sym (kinds-agree v w kinds) ∙ eq-eqb (numberOf v) (numberOf w) numbers
+      let whole : v ≡ w = word-saying v (apart v) c ∙ ap wordSaying e ∙ sym (word-saying w (apart w) d) in
+      rw (eq-eqb _ _ (ap kindOf whole), eq-eqb _ _ (ap numberOf whole))
 
 -- words of one kind and number say the same
 same-word : (v w : ℕ) → sameWord v w ≡ true → wordOf v ≡ wordOf w

@@ -1,94 +1,55 @@
--- A timetable of a vehicle is one of its calls. So its earliest minutes are a timetable where they are in time, no timetable is sooner,
--- and the earliest timetable exists exactly where there is one. Assumes nothing.
-use Prim.Native.Nat.{ℕ, _+_, _≤_}
-use mathlib.Core.Path.{_≡_, refl}
-use mathlib.Core.Bool.{Bool, true, false, true≢false}
+-- The earliest minutes of calls are a timetable where they are in time, and no timetable is sooner; the same of the first calls alone. So the
+-- earliest timetable of a vehicle exists exactly where there is one. Assumes nothing.
+use Prim.Native.Nat.{ℕ, zero, suc, _+_, _≤_}
+use mathlib.Core.Path.{_≡_, refl, ap}
+use mathlib.Core.Bool.{false}
 use mathlib.Core.List.{List, [], _∷_}
 use mathlib.Core.Logic.{_↔_}
 use native.Mathlib.Omega.{arith}
-use Rattle.rules.specs.Fields.{stopPlace, opening, restMinutes, service}
-use Rattle.rules.specs.Plan.{serve, empty, lunch, Round}
-use Rattle.rules.specs.Lawful.{Visits, Rests, Returns, Timetable, Timed}
-use Rattle.rules.specs.Calls.{Meets, Keeps, InTime, NoLater}
-use Rattle.rules.specs.EarliestMinutes.{visitTo, restThere, returnFrom, calls, earliestMinutes, IsTimetable, IsEarliest}
-use Rattle.plan_laws.proofs.CallLaws.{starts-keep, starts-first, keeps-in-time}
+use lib.ListN.{take}
+use Rattle.rules.specs.Fields.{opening}
+use Rattle.rules.specs.Plan.{Round}
+use Rattle.rules.specs.Timetable.{Call, calls, Keeps, NoLater, IsEarliest, callStart, callEnd, starts, InTime, earliestMinutes}
+use Rattle.rules.specs.Lawful.{Timed}
 
--- a visit, a rest and the return are calls
-visit-call : (day : List ℕ) (from free place m : ℕ) → Visits day from free place m ↔ Meets free (visitTo day from place) m
-visit-call day from free place m = (
-  λ v. record { reached = v .reached; opened = v .opened; notClosed = omega arith },
-  λ c. record { reached = c .reached; opened = c .opened; notClosed = omega arith },
-)
+-- where they are in time, the earliest minutes are a timetable
+pub starts-keep : (free : ℕ) (cs : List Call) → InTime free cs → Keeps free cs (starts free cs)
+unfolding InTime Keeps starts
+starts-keep free [] x = tt
+starts-keep free (c ∷ cs) x =
+    (record { reached = omega arith; opened = omega arith; notClosed = x .0 }, starts-keep (callEnd free c) cs (x .1))
 
-rest-call : (day : List ℕ) (free m : ℕ) → Rests day free m ↔ Meets free (restThere day) m
-rest-call day free m = (
-  λ r. record { reached = omega arith; opened = r .opened; notClosed = omega arith },
-  λ c. record { reached = omega arith; opened = c .opened; notClosed = omega arith },
-)
+-- a timetable of a vehicle that is free no sooner is at no call sooner
+pub starts-first : (free later : ℕ) (cs : List Call) (ms : List ℕ) → free ≤ later → Keeps later cs ms → NoLater (starts free cs) ms
+unfolding Keeps starts NoLater
+starts-first free later [] [] h x = tt
+starts-first free later [] (m ∷ ms) h x = absurd x
+starts-first free later (c ∷ cs) [] h x = absurd x
+starts-first free later (c ∷ cs) (m ∷ ms) h x =
+    (omega (arith, x .0), starts-first (callEnd free c) (m + c .lasts) cs ms (omega (arith, x .0)) (x .1))
 
-return-call : (day : List ℕ) (from free : ℕ) (rested : Bool) (m : ℕ) → Returns day from free rested m ↔ Meets free (returnFrom day from rested) m
-return-call day from free true m = (
-  λ r. record { reached = r .reached; opened = omega arith; notClosed = omega arith },
-  λ c. record { reached = c .reached; notClosed = omega arith; fed = λ e. absurd (true≢false e) },
-)
-return-call day from free false m = (
-  λ r. record { reached = r .reached; opened = omega arith; notClosed = omega (arith, r .fed refl) },
-  λ c. record { reached = c .reached; notClosed = omega arith; fed = λ e. omega arith },
-)
+-- and where there is one, the earliest minutes are in time
+pub keeps-in-time : (free later : ℕ) (cs : List Call) (ms : List ℕ) → free ≤ later → Keeps later cs ms → InTime free cs
+unfolding Keeps InTime
+keeps-in-time free later [] ms h x = tt
+keeps-in-time free later (c ∷ cs) [] h x = absurd x
+keeps-in-time free later (c ∷ cs) (m ∷ ms) h x =
+    (omega (arith, x .0), keeps-in-time (callEnd free c) (m + c .lasts) cs ms (omega (arith, x .0)) (x .1))
 
--- one part after the other
-both : {A B C D : Type 0} → A ↔ B → C ↔ D → (A × C) ↔ (B × D)
-both f g = (λ x. (f .0 (x .0), g .0 (x .1)), λ y. (f .1 (y .0), g .1 (y .1)))
+-- the first calls have the first minutes
+pub starts-take : (n free : ℕ) (cs : List Call) → starts free (take n cs) ≡ take n (starts free cs)
+unfolding starts
+starts-take zero free cs = refl
+starts-take (suc n) free [] = refl
+starts-take (suc n) free (c ∷ cs) = ap (λ (ms : List ℕ). callStart free c ∷ ms) (starts-take n (callEnd free c) cs)
 
--- a timetable of the vehicle is one of its calls
-pub timetable-iff : (day : List ℕ) (from free : ℕ) (rested : Bool) (tasks : Round) (ms : List ℕ)
-    → Timetable day from free rested tasks ms ↔ Keeps free (calls day from rested tasks) ms
-unfolding Timetable Keeps calls
-timetable-iff day from free rested [] [] = (absurd, absurd)
-timetable-iff day from free rested [] (m ∷ []) =
-    let r = return-call day from free rested m in (λ x. (r .0 x, tt), λ y. r .1 (y .0))
-timetable-iff day from free rested [] (m ∷ l ∷ ms) = (absurd, λ y. y .1)
-timetable-iff day from free rested (serve k ∷ tasks) [] = (absurd, absurd)
-timetable-iff day from free rested (empty k ∷ tasks) [] = (absurd, absurd)
-timetable-iff day from free rested (lunch ∷ tasks) [] = (absurd, absurd)
-timetable-iff day from free rested (serve k ∷ tasks) (m ∷ ms) =
-    let place = stopPlace day k in
-    both (visit-call day from free place m) (timetable-iff day place (m + service day place) rested tasks ms)
-timetable-iff day from free rested (empty k ∷ tasks) (m ∷ ms) =
-    both (visit-call day from free k m) (timetable-iff day k (m + service day k) rested tasks ms)
-timetable-iff day from free rested (lunch ∷ tasks) (m ∷ ms) =
-    both (rest-call day free m) (timetable-iff day from (m + restMinutes day) true tasks ms)
+-- so where the first calls are in time, their earliest minutes are a timetable of them, whatever comes after
+pub prefix-kept : (n free : ℕ) (cs : List Call) → InTime free (take n cs) → Keeps free (take n cs) (take n (starts free cs))
+prefix-kept n free cs x = rw (← starts-take n free cs) (starts-keep free (take n cs) x)
 
--- a vehicle that is free at a place from any minute on
-module _ (day : List ℕ) (from free : ℕ) (rested : Bool) (tasks : Round) where
-  -- where it is in time, its earliest minutes are a timetable
-  pub earliest-kept : InTime free (calls day from rested tasks) → Timetable day from free rested tasks (earliestMinutes day from free rested tasks)
-  earliest-kept x = timetable-iff day from free rested tasks _ .1 (starts-keep free (calls day from rested tasks) x)
-
-  -- a timetable from the same or a later minute on is at no word sooner
-  pub earliest-first : (later : ℕ) (ms : List ℕ) → free ≤ later → Timetable day from later rested tasks ms → NoLater (earliestMinutes day from free rested tasks) ms
-  earliest-first later ms h x = starts-first free later (calls day from rested tasks) ms h (timetable-iff day from later rested tasks ms .0 x)
-
-  -- and where there is one, it is in time
-  pub timetable-in-time : (later : ℕ) (ms : List ℕ) → free ≤ later → Timetable day from later rested tasks ms → InTime free (calls day from rested tasks)
-  timetable-in-time later ms h x = keeps-in-time free later (calls day from rested tasks) ms h (timetable-iff day from later rested tasks ms .0 x)
-
--- a vehicle has a timetable exactly where it is in time when it leaves at E0
-pub timed-iff : (day : List ℕ) (tasks : Round) → Timed day tasks ↔ InTime (opening day 0) (calls day 0 false tasks)
-timed-iff day tasks = (
-  λ t. timetable-in-time day 0 (opening day 0) false tasks (t .leaves) (t .minutes) (t .opened) (t .kept),
-  λ x. record {
-    leaves = opening day 0;
-    opened = omega arith;
-    minutes = earliestMinutes day 0 (opening day 0) false tasks;
-    kept = earliest-kept day 0 (opening day 0) false tasks x;
-  },
-)
-
--- a vehicle that leaves at any minute from E0 on and is in time then has its earliest minutes for a timetable
-pub leaving-kept : (day : List ℕ) (tasks : Round) (leaves : ℕ) → opening day 0 ≤ leaves → InTime leaves (calls day 0 false tasks)
-    → IsTimetable day tasks (earliestMinutes day 0 leaves false tasks)
-leaving-kept day tasks leaves h x = record { leaves = leaves; opened = h; kept = earliest-kept day 0 leaves false tasks x }
+-- and no timetable of them is sooner
+pub prefix-first : (n free later : ℕ) (cs : List Call) (ms : List ℕ) → free ≤ later → Keeps later (take n cs) ms → NoLater (take n (starts free cs)) ms
+prefix-first n free later cs ms h x = rw (← starts-take n free cs) (starts-first free later (take n cs) ms h x)
 
 -- minutes of which neither are later are the same
 no-later-both : (xs ys : List ℕ) → NoLater xs ys → NoLater ys xs → xs ≡ ys
@@ -104,20 +65,22 @@ no-later-both (x ∷ xs) (y ∷ ys) a b =
 pub earliest-only : (day : List ℕ) (tasks : Round) (xs ys : List ℕ) → IsEarliest day tasks xs → IsEarliest day tasks ys → xs ≡ ys
 earliest-only day tasks xs ys a b = no-later-both xs ys (a .first ys (b .kept)) (b .first xs (a .kept))
 
--- where there is a timetable, the earliest minutes from E0 are the earliest one
-pub earliest-is : (day : List ℕ) (tasks : Round) → Timed day tasks → IsEarliest day tasks (earliestMinutes day 0 (opening day 0) false tasks)
-earliest-is day tasks timed =
+-- a vehicle that is in time when it leaves at E0 has its earliest minutes then for its earliest timetable
+in-time-earliest : (day : List ℕ) (tasks : Round) → InTime (opening day 0) (calls day 0 false tasks)
+    → IsEarliest day tasks (earliestMinutes day (opening day 0) tasks)
+in-time-earliest day tasks x =
     record {
-      kept = leaving-kept day tasks (opening day 0) (omega arith) (timed-iff day tasks .0 timed);
-      first = λ others t. earliest-first day 0 (opening day 0) false tasks (t .leaves) others (t .opened) (t .kept);
+      kept = record { leaves = opening day 0; opened = omega arith; kept = starts-keep (opening day 0) (calls day 0 false tasks) x };
+      first = λ others t. starts-first (opening day 0) (t .leaves) (calls day 0 false tasks) others (t .opened) (t .kept);
     }
 
--- so minutes are the earliest timetable exactly where there is one and they are the earliest minutes from E0
-pub earliest-iff : (day : List ℕ) (tasks : Round) (minutes : List ℕ)
-    → IsEarliest day tasks minutes ↔ (Timed day tasks × (minutes ≡ earliestMinutes day 0 (opening day 0) false tasks))
-earliest-iff day tasks minutes = (
-  λ e.
-      let timed : Timed day tasks = record { leaves = e .kept .leaves; opened = e .kept .opened; minutes = minutes; kept = e .kept .kept } in
-      (timed, earliest-only day tasks minutes _ e (earliest-is day tasks timed)),
-  λ x. rw (x .1) (earliest-is day tasks (x .0)),
+-- a vehicle has a timetable exactly where it is in time then
+pub timed-iff : (day : List ℕ) (tasks : Round) → Timed day tasks ↔ InTime (opening day 0) (calls day 0 false tasks)
+timed-iff day tasks = (
+  λ t. keeps-in-time (opening day 0) (t .kept .leaves) (calls day 0 false tasks) (t .minutes) (t .kept .opened) (t .kept .kept),
+  λ x. record { minutes = _; kept = in-time-earliest day tasks x .kept },
 )
+
+-- so where there is a timetable, the earliest minutes from E0 are the earliest one
+pub earliest-is : (day : List ℕ) (tasks : Round) → Timed day tasks → IsEarliest day tasks (earliestMinutes day (opening day 0) tasks)
+earliest-is day tasks timed = in-time-earliest day tasks (timed-iff day tasks .0 timed)

@@ -20,7 +20,7 @@ use Rattle.rules.specs.Lawful.{Loads, Timed, Lawful, totals, distanceFrom}
 use Rattle.rules.specs.Trip.{leaving}
 use Rattle.rules.specs.Check.{Walk, start, faultAt, walkAfter, finished, checkFrom, checkWords, checkPlan}
 use Rattle.laws.proofs.Answering.{Answering, values, refusal, answering-if, answering-fault}
-use Rattle.laws.proofs.Fresh.{fresh-once}
+use Rattle.laws.proofs.Fresh.{fresh-once, every-weaker}
 use Rattle.laws.proofs.Tests.{only-second}
 use Rattle.day.proofs.Answered.{judged-accepted}
 use Rattle.plan_laws.specs.Vehicles.{Clear, tripHome}
@@ -49,21 +49,11 @@ unfolding checkWords
 words-checked day plan =
     answering-if (ltb 4096 (length plan)) (refusal 6 4096 (omega arith) (omega arith)) (checked-from (length plan + 4096) day plan 0 (start day) (omega arith))
 
--- each vehicle of a lawful plan is clear by itself, and the other way round
+-- each vehicle of a lawful plan is clear by itself
 clear-all : (day : List ℕ) (rounds : List Round) → Every (Loads day) rounds → Every (Timed day) rounds → Every (Clear day) rounds
 unfolding Every
 clear-all day [] h g = tt
 clear-all day (tasks ∷ rounds) h g = (timed-clear day tasks (h .0) (g .0), clear-all day rounds (h .1) (g .1))
-
-loads-all : (day : List ℕ) (rounds : List Round) → Every (Clear day) rounds → Every (Loads day) rounds
-unfolding Every
-loads-all day [] h = tt
-loads-all day (tasks ∷ rounds) h = (clear-loads day tasks (h .0), loads-all day rounds (h .1))
-
-timed-all : (day : List ℕ) (rounds : List Round) → Every (Clear day) rounds → Every (Timed day) rounds
-unfolding Every
-timed-all day [] h = tt
-timed-all day (tasks ∷ rounds) h = (clear-timed day tasks (h .0), timed-all day rounds (h .1))
 
 -- the distance that the walk adds up is the sum over the legs
 distance-all : (day : List ℕ) (rounds : List Round) → total (λ tasks. tripHome day (leaving day) tasks .distance) rounds ≡ total (distanceFrom day 0) rounds
@@ -103,8 +93,8 @@ words-lawful day plan a b c e =
         once = fresh-once (stops day) (stopsOnAll (r .rounds) ++ r .lefts) (r .fresh) (r .missing);
         others = r .others;
       };
-      loads = loads-all day (r .rounds) (r .clear);
-      timed = timed-all day (r .rounds) (r .clear);
+      loads = every-weaker (Clear day) (Loads day) (clear-loads day) (r .rounds) (r .clear);
+      timed = every-weaker (Clear day) (Timed day) (clear-timed day) (r .rounds) (r .clear);
     }
 
 -- an answer is given, or not

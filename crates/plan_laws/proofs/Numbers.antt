@@ -9,18 +9,17 @@ use borrow.Author.Tests.{eqb-true}
 use Rattle.rules.specs.Tests.{if_then_else_, neb}
 use Rattle.rules.specs.Answers.{given, refused, isGiven}
 use Rattle.rules.specs.Lists.{mem, unmet}
-use Rattle.rules.specs.Bytes.{readAnswer}
 use Rattle.rules.specs.DayFile.{Form, tipsIn, stopsIn, wordsOf, formAt, kindRight, valueRight, faultOf, judgeFrom, judgeSized, judgeDay}
 use Rattle.rules.specs.Fields.{stops, stopPlace, quantity, closing, restClosing}
 use Rattle.rules.specs.PlanWords.{Word, vehicle, stop, tip, rest, back, left, stray, wordOf}
 use Rattle.rules.specs.Cargo.{loaded, overLimits, cargoFault}
 use Rattle.rules.specs.Trip.{arrival, visitStart, restStart, visitFault, restFault, backFault, tripFault}
 use Rattle.rules.specs.Check.{Walk, start, wellFormed, metAgain, faultAt, walkAfter, finished, checkFrom, checkWords, checkPlan}
+use Rattle.rules.specs.Search.{searched}
+use Rattle.rules.specs.Bytes.{readAnswer}
 use Rattle.rules.specs.VehiclePlace.{isVehicle, wordsToBack, placeFrom, vehiclePlace}
 use Rattle.rules.specs.SameRounds.{behind, secondAnswer, sameRounds}
-use Rattle.rules.specs.Planning.{searched}
-use Rattle.rules.specs.Built.{builtAnswer, buildAnswer}
-use Rattle.rules.specs.Planned.{fewNeighbours, longEnough, resultValues, plannedAnswer, planAnswer}
+use Rattle.rules.specs.Planned.{builtAnswer, buildAnswer, fewNeighbours, longEnough, resultValues, plannedAnswer, planAnswer}
 use Rattle.rules.specs.Demands.{AnswersBy, answer, refusal}
 use Rattle.rules.specs.declared.walk.Cargo.{Cargo}
 use Rattle.rules.specs.declared.walk.Trip.{Trip}
@@ -69,7 +68,7 @@ module _ {numbers : List ℕ} where
   by-fault place (fault number m) a = by-if (eqb number 0) a (refusal number place m)
 
   -- a refusal's number is one of them
-  refused-by : {answered : List ℕ} → AnswersBy numbers answered → isGiven answered ≡ false → mem (getD answered 0 0) numbers ≡ true
+  pub refused-by : {answered : List ℕ} → AnswersBy numbers answered → isGiven answered ≡ false → mem (getD answered 0 0) numbers ≡ true
   refused-by (answer values) e = absurd (false≢true (sym e))
   refused-by (refusal number place m) e = m
 

@@ -13,14 +13,14 @@ use Rattle.rules.specs.Answers.{given, refused}
 use Rattle.rules.specs.Lists.{Every, unmet, Rising}
 use Rattle.rules.specs.Fields.{tips, stops}
 use Rattle.rules.specs.PlanWords.{Word, stop, tip, rest, back, left, backWord, leftWord, wordOf, readPlan}
-use Rattle.rules.specs.Plan.{serve, empty, lunch, Round, taskWord, stopsOn, Known}
-use Rattle.rules.specs.Cargo.{cargoAfter}
+use Rattle.rules.specs.Plan.{Task, serve, empty, lunch, Round, taskWord, stopsOn, Known, wordFor}
 use Rattle.rules.specs.Check.{within, wellFormed, metAgain, metAfter, tallyAfter, Walk, walkAfter, finished, checkFrom}
 use Rattle.laws.specs.Lists.{collect, Fresh}
 use Rattle.laws.proofs.Tests.{both-true}
 use Rattle.plan_laws.specs.Vehicles.{CargoClear, TripClear, walkTasks}
-use Rattle.plan_words.proofs.WordForms.{stop-form, tip-form, rest-form, back-form, left-form, Apart, isVehicle, isStop, isTip, isRest, isBack, isLeft, isStray, apart}
+use Rattle.plan_words.proofs.WordForms.{back-form, left-form, Apart, isVehicle, isStop, isTip, isRest, isBack, isLeft, isStray, apart}
 use Rattle.plan_laws.proofs.Passing.{Passes, answer-passes, given-not-refused, within-both}
+use Rattle.plan_laws.proofs.RoundChecks.{task-form, task-new, task-visits}
 
 -- what a test of a vehicle's word needs
 pub inside-needed : (b t : Bool) → b ≡ false → (b && t) ≡ true → ⊥
@@ -46,54 +46,37 @@ module _ (day : List ℕ) (a b c : ℕ) where
   abbrev answer : List ℕ
   answer = given (a ∷ b ∷ c ∷ [])
 
+  -- a task, and the rest of the vehicle's words behind it
+  task-first : (w : ℕ) (ws : List ℕ) (s : Walk) (task : Task) → wordOf w ≡ wordFor task → Known day task → Passes day s (wordFor task)
+      → InRound day (walkAfter day s (wordFor task)) ws answer → InRound day s (w ∷ ws) answer
+  unfolding Every CargoClear TripClear walkTasks
+  task-first w ws s task x known p r =
+      record {
+        tasks = task ∷ r .tasks;
+        behind = r .behind;
+        text = ap₂ (λ (v : Word) (l : List Word). v ∷ l) (x ∙ sym (task-form day task known)) (r .text);
+        known = (known, r .known);
+        fresh = task-new (s .met) task (r .tasks) .1 (p .new, r .fresh);
+        cargo = (p .cargo, r .cargo);
+        trip = (p .trip, r .trip);
+        busy = omega (arith, r .busy, task-visits day s task (r .tasks));
+        at = r .at;
+        answered = r .answered;
+      }
+
   -- one word inside a vehicle
   inside-word : (w : ℕ) (ws : List ℕ) (i : ℕ) (s : Walk) {u : Word} → Apart w u → s .tally .inside ≡ true → Passes day s u
       → checkFrom day ws (suc i) (walkAfter day s u) ≡ answer
       → ((t : Walk) → t .tally .inside ≡ true → checkFrom day ws (suc i) t ≡ answer → InRound day t ws answer) → InRound day s (w ∷ ws) answer
-  unfolding wellFormed metAgain metAfter tallyAfter cargoAfter Every Known Fresh stopsOn CargoClear TripClear walkTasks taskWord
+  unfolding wellFormed tallyAfter Every Known Fresh stopsOn CargoClear TripClear walkTasks
   inside-word w ws i s (isVehicle k h d x) e p q next = absurd (outside-needed (s .tally .inside) _ e (both-true _ _ (p .formed) .0))
   inside-word w ws i s (isStop k h d x) e p q next =
-      let r = next (walkAfter day s (stop k)) e q in
-      record {
-        tasks = serve k ∷ r .tasks;
-        behind = r .behind;
-        text = ap₂ (λ (v : Word) (l : List Word). v ∷ l) (x ∙ sym (stop-form k h)) (r .text);
-        known = (within-both (stops day) k (both-true (s .tally .inside) (within (stops day) k) (p .formed) .1), r .known);
-        fresh = (p .new, r .fresh);
-        cargo = (p .cargo, r .cargo);
-        trip = (p .trip, r .trip);
-        busy = omega (arith, r .busy);
-        at = r .at;
-        answered = r .answered;
-      }
+      let known = within-both (stops day) k (both-true (s .tally .inside) (within (stops day) k) (p .formed) .1) in
+      task-first w ws s (serve k) x known p (next (walkAfter day s (stop k)) e q)
   inside-word w ws i s (isTip k h d x) e p q next =
-      let r = next (walkAfter day s (tip k)) e q in
-      record {
-        tasks = empty k ∷ r .tasks;
-        behind = r .behind;
-        text = ap₂ (λ (v : Word) (l : List Word). v ∷ l) (x ∙ sym (tip-form k h)) (r .text);
-        known = (within-both (tips day) k (both-true (s .tally .inside) (within (tips day) k) (p .formed) .1), r .known);
-        fresh = r .fresh;
-        cargo = (p .cargo, r .cargo);
-        trip = (p .trip, r .trip);
-        busy = r .busy;
-        at = r .at;
-        answered = r .answered;
-      }
-  inside-word w ws i s (isRest d x) e p q next =
-      let r = next (walkAfter day s rest) e q in
-      record {
-        tasks = lunch ∷ r .tasks;
-        behind = r .behind;
-        text = ap₂ (λ (v : Word) (l : List Word). v ∷ l) (x ∙ sym rest-form) (r .text);
-        known = (tt, r .known);
-        fresh = r .fresh;
-        cargo = (p .cargo, r .cargo);
-        trip = (p .trip, r .trip);
-        busy = r .busy;
-        at = r .at;
-        answered = r .answered;
-      }
+      let known = within-both (tips day) k (both-true (s .tally .inside) (within (tips day) k) (p .formed) .1) in
+      task-first w ws s (empty k) x known p (next (walkAfter day s (tip k)) e q)
+  inside-word w ws i s (isRest d x) e p q next = task-first w ws s lunch x tt p (next (walkAfter day s rest) e q)
   inside-word w ws i s (isBack d x) e p q next =
       record {
         tasks = [];

@@ -100,10 +100,6 @@ pub formed-only : (day plan : List ℕ) (rounds others : List Round) (lefts away
 formed-only day plan rounds others lefts away f g =
     rounds-told 0 rounds others lefts away (sym (formed-says day plan rounds lefts f) ∙ formed-says day plan others away g)
 
--- a lawful plan has one list of rounds, and one of stops left out
-pub lawful-only : (day plan : List ℕ) (a b : Lawful day plan) → (a .rounds ≡ b .rounds) × (a .lefts ≡ b .lefts)
-lawful-only day plan a b = formed-only day plan (a .rounds) (b .rounds) (a .lefts) (b .lefts) (a .formed) (b .formed)
-
 module _ (day : List ℕ) where
   -- vehicles whose words the check calls lawful: they have the form, loads and timetables, and the check answers with their totals
   module _ (accepted : IsAccepted day) (rounds : List Round) (lefts : List ℕ)

@@ -1,56 +1,16 @@
--- What a refusal leaves: "each refusal changes no buffer". And where 0 is none of a call's numbers, `isGiven` tells refusals from answers.
--- Assumes nothing.
+-- What a refusal leaves: "each refusal changes no buffer". Assumes nothing.
 use Prim.Native.Nat.{ℕ, _*_}
-use mathlib.Core.Path.{_≡_, refl, sym, ap, subst, _∙_}
+use mathlib.Core.Path.{_≡_, refl, sym}
 use mathlib.Core.Bool.{Bool, true, false, _&&_, false≢true}
 use mathlib.Core.List.{List}
-use mathlib.Core.Logic.{_↔_}
 use lib.Dec.{ltb}
 use lib.ListN.{length}
-use borrow.Author.Tests.{ne-eqb}
 use Rattle.rules.specs.Tests.{if_then_else_}
 use Rattle.rules.specs.Answers.{given, refused, isGiven}
-use Rattle.rules.specs.Lists.{mem}
-use Rattle.rules.specs.Bytes.{readAnswer, readBuffer}
 use Rattle.rules.specs.DayFile.{judgeDay}
 use Rattle.rules.specs.Fields.{stops}
-use Rattle.rules.specs.Built.{builtAnswer, buildAnswer, builtBuffer, buildBuffer}
-use Rattle.rules.specs.Planned.{fewNeighbours, longEnough, plannedAnswer, plannedBuffer, planAnswer, planBuffer}
-use Rattle.rules.specs.Demands.{AnswersBy, answer, refusal}
-
--- a refusal by one of the numbers
-pub record IsRefused (numbers answered : List ℕ) : Type 0 where
-  pub number : ℕ
-  pub place : ℕ
-  pub listed : mem number numbers ≡ true
-  pub said : answered ≡ refused number place
-
--- an answer
-pub record IsAnswer (answered : List ℕ) : Type 0 where
-  pub values : List ℕ
-  pub said : answered ≡ given values
-
--- a call none of whose numbers is 0: `isGiven` says yes exactly of an answer, and no exactly of a refusal by one of them
-module _ (numbers : List ℕ) (none : mem 0 numbers ≡ false) where
-  -- a refusal by one of them is no answer
-  not-zero : (number place : ℕ) → mem number numbers ≡ true → isGiven (refused number place) ≡ false
-  not-zero number place m = ne-eqb number 0 (λ z. false≢true (sym none ∙ subst (λ (k : ℕ). mem k numbers ≡ true) z m))
-
-  -- yes, of an answer
-  pub given-exactly : {answered : List ℕ} → AnswersBy numbers answered → (isGiven answered ≡ true) ↔ IsAnswer answered
-  given-exactly by = (there by, λ a. ap isGiven (a .said))
-    where
-      there : {answered : List ℕ} → AnswersBy numbers answered → isGiven answered ≡ true → IsAnswer answered
-      there (answer values) e = record { values = values; said = refl }
-      there (refusal number place m) e = absurd (false≢true (sym (not-zero number place m) ∙ e))
-
-  -- no, of a refusal
-  pub refused-exactly : {answered : List ℕ} → AnswersBy numbers answered → (isGiven answered ≡ false) ↔ IsRefused numbers answered
-  refused-exactly by = (there by, λ r. ap isGiven (r .said) ∙ not-zero (r .number) (r .place) (r .listed))
-    where
-      there : {answered : List ℕ} → AnswersBy numbers answered → isGiven answered ≡ false → IsRefused numbers answered
-      there (answer values) e = absurd (false≢true (sym e))
-      there (refusal number place m) e = record { number = number; place = place; listed = m; said = refl }
+use Rattle.rules.specs.Bytes.{readAnswer, readBuffer}
+use Rattle.rules.specs.Planned.{builtAnswer, buildAnswer, builtBuffer, buildBuffer, fewNeighbours, longEnough, plannedAnswer, plannedBuffer, planAnswer, planBuffer}
 
 -- answer and buffer that one test decides: the buffer is kept if it is in both outcomes
 kept-if : (t : Bool) (first second after other before : List ℕ) → (isGiven first ≡ false → after ≡ before) → (isGiven second ≡ false → other ≡ before)

@@ -5,6 +5,7 @@ use Prim.Native.Nat.{ℕ, suc, _+_, _≤_, _<_}
 use mathlib.Core.Path.{_≡_, refl, ap, ap₂, _∙_}
 use mathlib.Core.Bool.{true, false}
 use mathlib.Core.List.{List, [], _∷_, _++_, map, append-assoc}
+use mathlib.Core.Logic.{_↔_}
 use native.Mathlib.Omega.{arith}
 use lib.ListN.{length, length-append, length-map}
 use borrow.Author.Tests.{le-leb, lt-ltb, eq-eqb}
@@ -42,16 +43,16 @@ task-passes day s (empty k) e h m c t =
     record { formed = rw (e, within-true (tips day) k (h .0) (h .1)); new = m; cargo = c; trip = t }
 task-passes day s lunch e h m c t = record { formed = e; new = m; cargo = c; trip = t }
 
--- a task's stop is new, and the stops behind it
-task-new : (met : List ℕ) (task : Task) (tasks : Round) → Fresh met (stopsOn (task ∷ tasks))
-    → (metAgain met (wordFor task) ≡ false) × Fresh (metAfter met (wordFor task)) (stopsOn tasks)
+-- the stops of a task and of those behind it are new exactly where its own is and then theirs
+pub task-new : (met : List ℕ) (task : Task) (tasks : Round)
+    → Fresh met (stopsOn (task ∷ tasks)) ↔ ((metAgain met (wordFor task) ≡ false) × Fresh (metAfter met (wordFor task)) (stopsOn tasks))
 unfolding Fresh stopsOn metAgain metAfter
-task-new met (serve k) tasks f = f
-task-new met (empty k) tasks f = (refl, f)
-task-new met lunch tasks f = (refl, f)
+task-new met (serve k) tasks = (λ f. f, λ x. x)
+task-new met (empty k) tasks = (λ f. (refl, f), λ x. x .1)
+task-new met lunch tasks = (λ f. (refl, f), λ x. x .1)
 
 -- the stops served on the way add up
-task-visits : (day : List ℕ) (s : Walk) (task : Task) (tasks : Round)
+pub task-visits : (day : List ℕ) (s : Walk) (task : Task) (tasks : Round)
     → walkAfter day s (wordFor task) .cargo .visits + length (stopsOn tasks) ≡ s .cargo .visits + length (stopsOn (task ∷ tasks))
 unfolding cargoAfter stopsOn
 task-visits day s (serve k) tasks = omega arith
@@ -75,7 +76,7 @@ tasks-check day s [] behind i e h f c t b =
     word-passes day backWord behind i s back back-form (record { formed = rw (e, lt-ltb 0 (s .cargo .visits) busy); new = refl; cargo = c; trip = t })
     ∙ ap (λ (j : ℕ). checkFrom day behind j (walkAfter day s back)) at
 tasks-check day s (task ∷ tasks) behind i e h f c t b =
-    let n = task-new (s .met) task tasks f in
+    let n = task-new (s .met) task tasks .0 f in
     let at : suc i + length tasks + 1 ≡ i + length (task ∷ tasks) + 1 = omega arith in
     word-passes day (taskWord task) (map taskWord tasks ++ (backWord ∷ behind)) i s (wordFor task) (task-form day task (h .0))
     (task-passes day s task e (h .0) (n .0) (c .0) (t .0))

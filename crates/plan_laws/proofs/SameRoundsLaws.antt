@@ -1,38 +1,23 @@
 -- Same rounds: the call answers 1 exactly on two lawful plans whose vehicles visit the same stops in order, and 0 exactly on two other
 -- lawful plans. Assumes nothing.
-use Prim.Native.Nat.{ℕ, _<_}
-use mathlib.Core.Path.{_≡_, refl, sym, ap, ap₂, _∙_}
-use mathlib.Core.Bool.{Bool, true, false, true≢false, false≢true}
-use mathlib.Core.List.{List, [], _∷_, map}
+use Prim.Native.Nat.{ℕ}
+use mathlib.Core.Path.{_≡_, refl, sym, ap, _∙_}
+use mathlib.Core.Bool.{Bool, true, false, false≢true}
+use mathlib.Core.List.{List, [], _∷_}
 use mathlib.Core.Logic.{_↔_}
 use native.Mathlib.Omega.{arith}
 use lib.ListN.{length, getD}
 use Rattle.rules.specs.Tests.{if_then_else_}
 use Rattle.rules.specs.Answers.{given, isGiven}
-use Rattle.rules.specs.DayFile.{judgeDay}
+use Rattle.rules.specs.Lists.{mem}
 use Rattle.rules.specs.Fields.{IsAccepted}
-use Rattle.rules.specs.Plan.{Task, Round}
 use Rattle.rules.specs.Lawful.{Lawful}
-use Rattle.rules.specs.Check.{checkWords, checkPlan}
-use Rattle.rules.specs.SameRounds.{isVisit, those, SameBy, counted, sameWords, behind, secondAnswer, sameRounds}
-use Rattle.laws.proofs.Answering.{Answering, values, refusal}
+use Rattle.rules.specs.Check.{checkPlan}
+use Rattle.rules.specs.SameRounds.{isVisit, SameBy, counted, sameWords, behind, secondAnswer, sameRounds}
 use Rattle.laws.proofs.Tests.{only-first, only-second}
-use Rattle.day.proofs.Answered.{day-judged}
 use Rattle.plan_laws.proofs.CountedWords.{same-counted}
-use Rattle.plan_laws.proofs.LawfulIff.{words-checked, lawful-iff}
-
--- an answer that is not given has a number
-numbered : {Values : List ℕ → Type 0} {most : ℕ} {answer : List ℕ} → Answering Values most answer → isGiven answer ≡ false → 0 < getD answer 0 0
-numbered (values vs v l) e = absurd (true≢false e)
-numbered (refusal number place h l) e = h
-
-refusal-numbered : (day plan : List ℕ) → isGiven (checkPlan day plan) ≡ false → 0 < getD (checkPlan day plan) 0 0
-unfolding checkPlan
-refusal-numbered day plan e = go (isGiven (judgeDay day)) e
-  where
-    go : (b : Bool) → isGiven (if b then checkWords day plan else judgeDay day) ≡ false → 0 < getD (if b then checkWords day plan else judgeDay day) 0 0
-    go true x = numbered (words-checked day plan) x
-    go false x = numbered (day-judged day) x
+use Rattle.plan_laws.proofs.LawfulIff.{lawful-iff}
+use Rattle.plan_laws.proofs.Numbers.{refused-by, check-numbers}
 
 -- the call on two plans
 module _ (day first second : List ℕ) where
@@ -46,7 +31,7 @@ module _ (day first second : List ℕ) where
   both-answered a one two = rw (lawful-iff day first .1 (a, one), lawful-iff day second .1 (a, two))
 
   second-given : (v : ℕ) → secondAnswer day first second ≡ given (v ∷ []) → (isGiven (checkPlan day second) ≡ true) × (verdict ≡ v)
-  unfolding secondAnswer
+  unfolding secondAnswer mem
   second-given v e = go (isGiven (checkPlan day second)) refl e
     where
       go : (b : Bool) → isGiven (checkPlan day second) ≡ b → (if b then given (verdict ∷ []) else behind (length first) (checkPlan day second)) ≡ given (v ∷ [])
@@ -54,7 +39,7 @@ module _ (day first second : List ℕ) where
       go true x q = (x, ap (λ (xs : List ℕ). getD xs 1 0) q)
       go false x q =
           let none : getD (checkPlan day second) 0 0 ≡ 0 = ap (λ (xs : List ℕ). getD xs 0 0) q in
-          absurd (omega (arith, refusal-numbered day second x))
+          absurd (false≢true (rw none at (refused-by (check-numbers day second) x)))
 
   first-given : (v : ℕ) → sameRounds day first second ≡ given (v ∷ []) → (isGiven (checkPlan day first) ≡ true) × (secondAnswer day first second ≡ given (v ∷ []))
   unfolding sameRounds
@@ -105,30 +90,3 @@ module _ (day first second : List ℕ) where
           → given ((if b then 1 else 0) ∷ []) ≡ given (0 ∷ [])
       go true x one two n = absurd (n (record { one = one; two = two; same = same-counted isVisit day first second one two .0 x }))
       go false x one two n = refl
-
--- a test that counts less: what it counts of what a finer one counts is what it counts of all
-module _ (fine coarse : Task → Bool) (finer : (task : Task) → coarse task ≡ true → fine task ≡ true) where
-  those-coarser : (tasks : Round) → those coarse (those fine tasks) ≡ those coarse tasks
-  unfolding those
-  those-coarser [] = refl
-  those-coarser (task ∷ tasks) = go (fine task) (coarse task) refl refl (those-coarser tasks)
-    where
-      go : (f c : Bool) → fine task ≡ f → coarse task ≡ c → those coarse (those fine tasks) ≡ those coarse tasks
-          → those coarse (if f then task ∷ those fine tasks else those fine tasks) ≡ (if c then task ∷ those coarse tasks else those coarse tasks)
-      go true true x y e = rw y (ap (λ (ts : Round). task ∷ ts) e)
-      go true false x y e = rw y e
-      go false true x y e = absurd (false≢true (sym x ∙ finer task y))
-      go false false x y e = e
-
-  rounds-coarser : (rounds : List Round) → map (those coarse) (map (those fine) rounds) ≡ map (those coarse) rounds
-  rounds-coarser [] = refl
-  rounds-coarser (tasks ∷ rounds) = ap₂ (λ (t : Round) (ts : List Round). t ∷ ts) (those-coarser tasks) (rounds-coarser rounds)
-
-  -- so plans that have the same rounds by the finer test have them by the coarser
-  pub same-coarser : (day first second : List ℕ) → SameBy fine day first second → SameBy coarse day first second
-  same-coarser day first second s =
-      record {
-        one = s .one;
-        two = s .two;
-        same = sym (rounds-coarser (s .one .rounds)) ∙ ap (map (those coarse)) (s .same) ∙ rounds-coarser (s .two .rounds);
-      }

@@ -13,12 +13,9 @@ pub use Rattle.plan_laws.proofs.PlanChecks.{known-all, busy-rounds}
 -- the words of a vehicle, how many they are, and what they say
 pub use Rattle.plan_laws.proofs.VehicleRounds.{round-length, rounds-append, around}
 pub use Rattle.plan_laws.proofs.RoundChecks.{task-form}
--- a vehicle's earliest minutes are a timetable where it is in time, no timetable from the same or a later minute on is sooner, and so
--- they are the earliest timetable exactly where there is one
-pub use Rattle.plan_laws.proofs.EarliestLaws.{earliest-kept, earliest-first, timetable-in-time, timed-iff, leaving-kept, earliest-only, earliest-is, earliest-iff}
--- the same of its first words alone, as calls: in time as far as they go, their earliest minutes are a timetable, and none is sooner
-pub use Rattle.plan_laws.proofs.CallLaws.{starts-take, prefix-kept, prefix-first, prefix-in-time}
--- a lawful plan has one list of rounds; two have the same rounds exactly where the call says so, and by a coarser test where by a finer
-pub use Rattle.plan_laws.proofs.PlanTold.{formed-only, lawful-only}
-pub use Rattle.plan_laws.proofs.CountedWords.{same-counted}
-pub use Rattle.plan_laws.proofs.SameRoundsLaws.{same-iff, different-iff, same-coarser}
+-- earliest minutes are a timetable where they are in time, no timetable from the same or a later minute on is sooner, and the same of the
+-- first words alone; so a vehicle's earliest minutes from E0 are its earliest timetable where it has one
+pub use Rattle.plan_laws.proofs.EarliestLaws.{starts-keep, starts-first, prefix-kept, prefix-first, earliest-only, earliest-is}
+-- a plan of the form has one list of rounds; two lawful plans have the same rounds exactly where the call says so
+pub use Rattle.plan_laws.proofs.PlanTold.{formed-only}
+pub use Rattle.plan_laws.proofs.SameRoundsLaws.{same-iff, different-iff}

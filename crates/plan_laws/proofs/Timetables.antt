@@ -13,10 +13,9 @@ use borrow.Author.Tests.{ltb-false, le-ltb}
 use Rattle.rules.specs.Tests.{if_then_else_}
 use Rattle.rules.specs.Fields.{stopPlace, closing, restClosing}
 use Rattle.rules.specs.Plan.{serve, empty, lunch, Round}
+use Rattle.rules.specs.Timetable.{InTime, calls}
 use Rattle.rules.specs.Lawful.{restsIn, distanceFrom}
 use Rattle.rules.specs.Trip.{leaving, arrival, visitStart, restStart, visited, restedAt, visitFault, restFault, backFault}
-use Rattle.rules.specs.Calls.{InTime}
-use Rattle.rules.specs.EarliestMinutes.{calls}
 use Rattle.rules.specs.declared.walk.Trip.{Trip}
 use Rattle.laws.proofs.Tests.{only-second}
 use Rattle.plan_laws.specs.Vehicles.{TripClear, tripHome}

@@ -10,7 +10,7 @@ use Rattle.rules.specs.Tests.{if_then_else_}
 use Rattle.rules.specs.Answers.{given, refused, isGiven}
 use Rattle.rules.specs.DayFile.{judgeDay}
 use Rattle.rules.specs.Fields.{stops, IsAccepted}
-use Rattle.rules.specs.Planning.{searched}
+use Rattle.rules.specs.Search.{searched}
 use Rattle.rules.specs.Planned.{fewNeighbours, longEnough, resultValues, plannedAnswer, planAnswer, planBuffer}
 use Rattle.day.proofs.Answered.{judged-accepted}
 use Rattle.day.proofs.Ranges.{accepted-ranges}

@@ -10,9 +10,9 @@ use lib.Seq.{length-take-le}
 use borrow.Author.Tests.{ne-eqb, lt-ltb, le-ltb, ltb-false}
 use Rattle.rules.specs.Tests.{if_then_else_, neb}
 use Rattle.rules.specs.Answers.{given, refused, isGiven}
-use Rattle.rules.specs.AnswerValues.{wordsValues, WordsNumbered}
-use Rattle.rules.specs.Buffer.{over}
+use Rattle.rules.specs.Lists.{over}
 use Rattle.rules.specs.Bytes.{byteWord, byteWords, readAnswer, readBuffer}
+use Rattle.rules.specs.AnswerValues.{wordsValues, WordsNumbered}
 use Rattle.rules.specs.declared.answers.WordsAnswer.{WordsAnswer}
 use Rattle.rules.specs.declared.answers.WordsAnswer.the-variants as Reads
 use Rattle.laws.proofs.Buffer.{over-front}

@@ -4,7 +4,7 @@ mod planned;
 ghost use mathlib.Core.Path.{_≡_};
 ghost use Prim.Native.Nat.{_≤_};
 ghost use lib.ListN.{length, take};
-ghost use Rattle.rules.specs.Buffer.{over};
+ghost use Rattle.rules.specs.Lists.{over};
 ghost use Rattle.plan_text.specs.Printed.{dayText, bytesText, printed};
 ghost use Rattle.text.specs.Put.{Put};
 use crate::planned::empty_plan;

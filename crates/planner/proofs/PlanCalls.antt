@@ -11,17 +11,15 @@ use lib.Seq.{take-at, drop-at}
 use borrow.Author.Tests.{le-leb, lt-leb, le-ltb, leb-true}
 use Rattle.rules.specs.Tests.{if_then_else_}
 use Rattle.rules.specs.Answers.{given, refused}
-use Rattle.rules.specs.Buffer.{over}
+use Rattle.rules.specs.Lists.{over}
 use Rattle.rules.specs.DayFile.{judgeDay}
 use Rattle.rules.specs.Fields.{stops, IsAccepted}
 use Rattle.rules.specs.Plan.{Round, planWords}
 use Rattle.rules.specs.Build.{greedyRounds, greedyLefts, greedyPlan}
 use Rattle.rules.specs.Attempts.{distanceOf}
-use Rattle.rules.specs.Search.{Result}
-use Rattle.rules.specs.Planning.{searched}
+use Rattle.rules.specs.Search.{Result, searched}
 use Rattle.rules.specs.AnswerValues.{dayValues, planValues}
-use Rattle.rules.specs.Built.{builtAnswer, planned, builtBuffer}
-use Rattle.rules.specs.Planned.{fewNeighbours, longEnough, resultValues, plannedAnswer, plannedBuffer, planAnswer, planBuffer, SpareKept}
+use Rattle.rules.specs.Planned.{builtAnswer, planned, builtBuffer, fewNeighbours, longEnough, resultValues, plannedAnswer, plannedBuffer, planAnswer, planBuffer, SpareKept}
 use Rattle.rules.specs.declared.answers.DayAnswer.{DayAnswer}
 use Rattle.rules.specs.declared.answers.DayAnswer.the-variants as Days
 use Rattle.rules.specs.declared.answers.PlanAnswer.{PlanAnswer}

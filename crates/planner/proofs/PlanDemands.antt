@@ -9,17 +9,15 @@ use lib.ListN.{length, take, drop, replicate, length-append, length-replicate}
 use lib.Seq.{take-at}
 use borrow.Author.Tests.{le-leb}
 use Rattle.rules.specs.Answers.{given}
-use Rattle.rules.specs.Buffer.{over}
-use Rattle.rules.specs.Lists.{Every}
+use Rattle.rules.specs.Lists.{over, Every}
 use Rattle.rules.specs.Fields.{stops, IsAccepted}
 use Rattle.rules.specs.Plan.{Round, planWords, Formed}
 use Rattle.rules.specs.Lawful.{Loads, Timed, Lawful}
 use Rattle.rules.specs.Build.{greedyLefts}
 use Rattle.rules.specs.TrialList.{trialList}
 use Rattle.rules.specs.Attempts.{distanceOf}
-use Rattle.rules.specs.Planning.{searched}
-use Rattle.rules.specs.Built.{planned}
-use Rattle.rules.specs.Planned.{fewNeighbours, longEnough, resultValues, plannedAnswer, plannedBuffer, planAnswer, planBuffer}
+use Rattle.rules.specs.Search.{searched}
+use Rattle.rules.specs.Planned.{planned, fewNeighbours, longEnough, resultValues, plannedAnswer, plannedBuffer, planAnswer, planBuffer}
 use Rattle.rules.specs.Demands.{PlannedBy}
 use Rattle.laws.proofs.Buffer.{length-over}
 use Rattle.search_laws.proofs.NoneShorter.{none-shorter}

@@ -5,9 +5,8 @@ use mathlib.Core.List.{List}
 use Rattle.rules.specs.Answers.{given}
 use Rattle.rules.specs.Plan.{planWords}
 use Rattle.rules.specs.Build.{greedyLefts}
-use Rattle.rules.specs.Planning.{searched}
-use Rattle.rules.specs.Built.{planned}
-use Rattle.rules.specs.Planned.{resultValues}
+use Rattle.rules.specs.Search.{searched}
+use Rattle.rules.specs.Planned.{planned, resultValues}
 
 -- the answer and the buffer of a plan that was worked over
 pub record WorkedOver (day : List ℕ) (K budget : ℕ) (plan now answer : List ℕ) : Type 0 where

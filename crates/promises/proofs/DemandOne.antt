@@ -7,13 +7,12 @@ use mathlib.Core.Bool.{false}
 use mathlib.Core.List.{List, [], _∷_}
 use lib.ListN.{length}
 use Rattle.rules.specs.Answers.{isGiven}
-use Rattle.rules.specs.Bytes.{readAnswer, readBuffer}
 use Rattle.rules.specs.DayFile.{judgeDay}
 use Rattle.rules.specs.Check.{checkPlan}
+use Rattle.rules.specs.Bytes.{readAnswer, readBuffer}
 use Rattle.rules.specs.VehiclePlace.{vehiclePlace}
 use Rattle.rules.specs.SameRounds.{sameRounds}
-use Rattle.rules.specs.Built.{buildAnswer, buildBuffer}
-use Rattle.rules.specs.Planned.{planAnswer, planBuffer, SpareKept}
+use Rattle.rules.specs.Planned.{buildAnswer, buildBuffer, planAnswer, planBuffer, SpareKept}
 use Rattle.rules.specs.Demands.{AnswersBy}
 use Rattle.plan_laws.proofs.Numbers.{read-numbers, judge-numbers, check-numbers, vehicle-numbers, same-numbers, build-numbers, plan-numbers}
 use Rattle.plan_laws.proofs.Refused.{read-kept, build-kept, plan-kept}

@@ -19,8 +19,7 @@ use Rattle.rules.specs.Build.{greedyRounds, greedyLefts, couldTakeFirst}
 use Rattle.rules.specs.Edits.{Trial}
 use Rattle.rules.specs.TrialList.{trialList}
 use Rattle.rules.specs.Attempts.{tried, distanceOf, attempt}
-use Rattle.rules.specs.Search.{Held}
-use Rattle.rules.specs.Planning.{searched}
+use Rattle.rules.specs.Search.{Held, searched}
 use Rattle.rules.specs.Planned.{planAnswer, planBuffer}
 use Rattle.rules.specs.Demands.{NoneShorter, PlannedBy, DemandThree}
 use Rattle.plan_laws.proofs.Theorems.{lawful-totals}

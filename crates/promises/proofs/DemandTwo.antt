@@ -9,13 +9,12 @@ use lib.ListN.{take}
 use Rattle.rules.specs.Lists.{Every}
 use Rattle.rules.specs.Fields.{opening}
 use Rattle.rules.specs.Plan.{Round}
-use Rattle.rules.specs.Lawful.{Timed, Lawful, Timetable}
-use Rattle.rules.specs.Calls.{starts, InTime, Keeps, NoLater}
-use Rattle.rules.specs.EarliestMinutes.{calls, earliestMinutes, IsTimetable, IsEarliest}
+use Rattle.rules.specs.Timetable.{calls, Keeps, IsTimetable, NoLater, IsEarliest, InTime, earliestMinutes}
+use Rattle.rules.specs.Lawful.{Timed, Lawful}
 use Rattle.rules.specs.Check.{checkPlan}
 use Rattle.rules.specs.SameRounds.{sameRounds}
 use Rattle.laws.proofs.Fresh.{every-weaker}
-use Rattle.plan_laws.proofs.Theorems.{lawful-iff, lawful-totals, earliest-is, earliest-iff, earliest-first, leaving-kept, prefix-kept, prefix-first, same-iff, different-iff}
+use Rattle.plan_laws.proofs.Theorems.{lawful-iff, lawful-totals, earliest-only, earliest-is, starts-keep, starts-first, prefix-kept, prefix-first, same-iff, different-iff}
 use Rattle.promises.specs.Exactly.{DemandTwo, SaysSame}
 
 -- "called lawful exactly when", and "distance and counts are those of document 01"
@@ -25,31 +24,34 @@ check-exactly day plan answer e =
 
 -- the earliest minutes of each vehicle of a lawful plan are a timetable of it, at each word no later than any other
 pub lawful-earliest : (day plan : List ℕ) (l : Lawful day plan)
-    → Every (λ tasks. IsEarliest day tasks (earliestMinutes day 0 (opening day 0) false tasks)) (l .rounds)
+    → Every (λ tasks. IsEarliest day tasks (earliestMinutes day (opening day 0) tasks)) (l .rounds)
 lawful-earliest day plan l = every-weaker (Timed day) _ (earliest-is day) (l .rounds) (l .timed)
 
 -- minutes are the earliest timetable exactly where there is one and they are these
 pub earliest-exactly : (day : List ℕ) (tasks : Round) (minutes : List ℕ)
-    → IsEarliest day tasks minutes ↔ (Timed day tasks × (minutes ≡ earliestMinutes day 0 (opening day 0) false tasks))
-earliest-exactly = earliest-iff
+    → IsEarliest day tasks minutes ↔ (Timed day tasks × (minutes ≡ earliestMinutes day (opening day 0) tasks))
+earliest-exactly day tasks minutes = (
+  λ e. let timed : Timed day tasks = record { minutes = minutes; kept = e .kept } in (timed, earliest-only day tasks minutes _ e (earliest-is day tasks timed)),
+  λ x. rw (x .1) (earliest-is day tasks (x .0)),
+)
 
 -- the same of a vehicle that leaves at any minute from E0 on: in time, its earliest minutes are a timetable
 pub leaving-earliest : (day : List ℕ) (tasks : Round) (leaves : ℕ) → opening day 0 ≤ leaves → InTime leaves (calls day 0 false tasks)
-    → IsTimetable day tasks (earliestMinutes day 0 leaves false tasks)
-leaving-earliest = leaving-kept
+    → IsTimetable day tasks (earliestMinutes day leaves tasks)
+leaving-earliest day tasks leaves h x = record { leaves = leaves; opened = h; kept = starts-keep leaves (calls day 0 false tasks) x }
 
 -- and no timetable with the same or a later leaving is sooner
 pub leaving-no-sooner : (day : List ℕ) (tasks : Round) (leaves later : ℕ) (minutes : List ℕ) → leaves ≤ later
-    → Timetable day 0 later false tasks minutes → NoLater (earliestMinutes day 0 leaves false tasks) minutes
-leaving-no-sooner day tasks leaves later minutes h t = earliest-first day 0 leaves false tasks later minutes h t
+    → Keeps later (calls day 0 false tasks) minutes → NoLater (earliestMinutes day leaves tasks) minutes
+leaving-no-sooner day tasks leaves later minutes h x = starts-first leaves later (calls day 0 false tasks) minutes h x
 
 -- the same of the first words of a vehicle alone, as many as are in time
 pub prefix-earliest : (day : List ℕ) (tasks : Round) (leaves count : ℕ) → InTime leaves (take count (calls day 0 false tasks))
-    → Keeps leaves (take count (calls day 0 false tasks)) (take count (earliestMinutes day 0 leaves false tasks))
+    → Keeps leaves (take count (calls day 0 false tasks)) (take count (earliestMinutes day leaves tasks))
 prefix-earliest day tasks leaves count x = prefix-kept count leaves (calls day 0 false tasks) x
 
 pub prefix-no-sooner : (day : List ℕ) (tasks : Round) (leaves later count : ℕ) (minutes : List ℕ) → leaves ≤ later
-    → Keeps later (take count (calls day 0 false tasks)) minutes → NoLater (take count (earliestMinutes day 0 leaves false tasks)) minutes
+    → Keeps later (take count (calls day 0 false tasks)) minutes → NoLater (take count (earliestMinutes day leaves tasks)) minutes
 prefix-no-sooner day tasks leaves later count minutes h x = prefix-first count leaves later (calls day 0 false tasks) minutes h x
 
 -- same rounds are said exactly of "two lawful plans whose vehicles, in order, visit the same stops in order"

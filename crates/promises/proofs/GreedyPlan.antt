@@ -11,7 +11,7 @@ use Rattle.rules.specs.Fields.{stops, IsAccepted}
 use Rattle.rules.specs.Plan.{stopsOnAll}
 use Rattle.rules.specs.Lawful.{Lawful, totals}
 use Rattle.rules.specs.Check.{checkPlan}
-use Rattle.rules.specs.Tips.{nearestTip}
+use Rattle.rules.specs.Home.{nearestTip}
 use Rattle.rules.specs.Build.{Truck, resting, fleet, greedyRounds, greedyLefts, greedyPlan, couldTakeFirst}
 use Rattle.laws.proofs.Fresh.{unmet-most}
 use Rattle.greedy_laws.specs.Reached.{Reached}

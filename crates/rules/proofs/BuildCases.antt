@@ -1,10 +1,9 @@
 -- The greedy plan of day M, by computation. Assumes nothing.
 use mathlib.Core.Path.{_≡_, refl}
 use mathlib.Core.List.{[], _∷_}
-use Rattle.rules.specs.Least.{wins, better, least}
+use Rattle.rules.specs.Tests.{wins, better, least}
 use Rattle.rules.specs.Plan.{taskWord, roundWords, roundsWords, planWords}
-use Rattle.rules.specs.Tips.{openTip, nearestTip}
-use Rattle.rules.specs.Home.{due, restIfDue, homeDirect, homeByTip, homeLoaded, wayHome}
+use Rattle.rules.specs.Home.{openTip, nearestTip, due, restIfDue, homeDirect, homeByTip, homeLoaded, wayHome}
 use Rattle.rules.specs.Choice.{suits, takeable, waitable, nearestStop, earliestStop, nearCapacity, farther, chosenStop}
 use Rattle.rules.specs.Build.{resting, serving, emptying, nextTask, drive, oneVehicle, fleet, routed, remaining, greedyPlan, couldTakeFirst}
 use Rattle.rules.proofs.DayM.{dayM}

@@ -1,16 +1,14 @@
 -- The lettered cases of document 01, gathered into one theorem, by computation. Assumes nothing.
 use Prim.Native.Nat.{ℕ}
 use mathlib.Core.Path.{_≡_, refl}
-use mathlib.Core.Bool.{false}
 use mathlib.Core.List.{List, [], _∷_}
 use Rattle.rules.specs.Answers.{given, refused}
 use Rattle.rules.specs.Fields.{opening}
 use Rattle.rules.specs.Plan.{serve, empty, planWords}
-use Rattle.rules.specs.Calls.{starts}
-use Rattle.rules.specs.EarliestMinutes.{calls, earliestMinutes}
+use Rattle.rules.specs.Timetable.{starts, calls, earliestMinutes}
 use Rattle.rules.specs.Check.{checkPlan}
 use Rattle.rules.specs.Build.{greedyLefts}
-use Rattle.rules.specs.Planning.{searched}
+use Rattle.rules.specs.Search.{searched}
 use Rattle.rules.specs.Planned.{fewNeighbours, longEnough, resultValues, plannedAnswer, planAnswer}
 use Rattle.rules.proofs.DayM.{dayM, legTo, legBack, windowWord}
 use Rattle.rules.proofs.CheckCases.{computed, planH}
@@ -51,7 +49,7 @@ secondAlone = 0xA0000001 ∷ 0xB0000002 ∷ 0xC0000001 ∷ 0xD0000000 ∷ 0xE000
 
 -- the minutes of the vehicle A1 B1 C1 E, the last that of its return
 abbrev pub minutesH : List ℕ → List ℕ
-minutesH day = earliestMinutes day 0 (opening day 0) false (serve 1 ∷ empty 1 ∷ [])
+minutesH day = earliestMinutes day (opening day 0) (serve 1 ∷ empty 1 ∷ [])
 
 -- "(a) K 5, budget 6" to "(j) n = 0, budget 0: no words, settled"
 pub record Lettered : Type 0 where

@@ -12,8 +12,7 @@ use Rattle.rules.specs.Cargo.{cargoAfter}
 use Rattle.rules.specs.Cargo as Carried
 use Rattle.rules.specs.Trip.{leaving, tripAfter}
 use Rattle.rules.specs.Check.{metAfter}
-use Rattle.rules.specs.Tips.{nearestTip}
-use Rattle.rules.specs.Home.{due, restIfDue}
+use Rattle.rules.specs.Home.{nearestTip, due, restIfDue}
 use Rattle.rules.specs.Choice.{nearestStop, earliestStop, chosenStop, takeable, waitable}
 use Rattle.rules.specs.declared.walk.Cargo.{Cargo}
 use Rattle.rules.specs.declared.walk.Trip.{Trip}

@@ -5,7 +5,7 @@ use lib.ListN.{length, getD}
 use lib.Dec.{ltb}
 use Rattle.rules.specs.Tests.{if_then_else_, neb}
 use Rattle.rules.specs.Answers.{given, refused, isGiven}
-use Rattle.rules.specs.Buffer.{over}
+use Rattle.rules.specs.Lists.{over}
 
 -- "32-bit words, low byte first": the word of the four bytes from 4i on
 abbrev pub byteWord : List ℕ → ℕ → ℕ

@@ -3,14 +3,12 @@ use Prim.Native.Nat.{ℕ, _*_}
 use mathlib.Core.Bool.{Bool, false, not, _&&_, _||_}
 use mathlib.Core.List.{List}
 use lib.Dec.{ltb, leb, eqb}
-use Rattle.rules.specs.Tests.{if_then_else_}
+use Rattle.rules.specs.Tests.{if_then_else_, least}
 use Rattle.rules.specs.Lists.{mem}
-use Rattle.rules.specs.Least.{least}
 use Rattle.rules.specs.Fields.{stops, stopPlace, loadLimit, dayLimit, stopLimit, opening, closing, quantity, legMinutes}
 use Rattle.rules.specs.Cargo.{loaded, overLimits}
 use Rattle.rules.specs.Trip.{arrival, visited}
-use Rattle.rules.specs.Tips.{nearestTip}
-use Rattle.rules.specs.Home.{wayHome}
+use Rattle.rules.specs.Home.{nearestTip, wayHome}
 use Rattle.rules.specs.declared.walk.Cargo.{Cargo}
 use Rattle.rules.specs.declared.walk.Trip.{Trip}
 

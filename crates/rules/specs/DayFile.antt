@@ -1,6 +1,5 @@
 -- The day file: document 01, "Day file", and refusals 1 to 5 of "What can be refused". A day is any list of words; `judgeDay` says what is
--- answered on it, number and place. Numbers stand for powers of two where bits are taken apart: 134,217,728 is 2 to the 27,
--- 16,777,216 is 2 to the 24, 268,435,456 is 2 to the 28. Assumes nothing.
+-- answered on it, number and place. Assumes nothing.
 use Prim.Native.Nat.{ℕ, suc, _+_, _-_, _*_, _/_, _%_}
 use mathlib.Core.List.{List, [], _∷_}
 use mathlib.Core.Bool.{Bool, _&&_}

@@ -16,8 +16,7 @@ use Rattle.rules.specs.Build.{greedyRounds, greedyLefts, couldTakeFirst}
 use Rattle.rules.specs.Edits.{Trial}
 use Rattle.rules.specs.TrialList.{trialList}
 use Rattle.rules.specs.Attempts.{tried, distanceOf, attempt}
-use Rattle.rules.specs.Search.{Held}
-use Rattle.rules.specs.Planning.{searched}
+use Rattle.rules.specs.Search.{Held, searched}
 
 -- demand 1: "an answer or one of refusals"
 pub data AnswersBy (numbers : List ℕ) : List ℕ → Type 0 where

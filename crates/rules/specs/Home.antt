@@ -1,13 +1,21 @@
--- Rest if due, and the way home: document 01, "Greedy build". A trip is where and when a vehicle is. Assumes nothing.
-use Prim.Native.Nat.{ℕ}
+-- The nearest open tip, rest if due, and the way home: document 01, "Greedy build". A trip is where and when a vehicle is. Assumes nothing.
+use Prim.Native.Nat.{ℕ, _+_}
 use mathlib.Core.Bool.{Bool, false, not, _&&_, _||_}
 use mathlib.Core.List.{List}
 use lib.Dec.{leb, eqb}
-use Rattle.rules.specs.Tests.{if_then_else_}
-use Rattle.rules.specs.Fields.{closing, restOpening, restClosing}
+use Rattle.rules.specs.Tests.{if_then_else_, least}
+use Rattle.rules.specs.Fields.{tips, opening, closing, restOpening, restClosing, legMinutes}
 use Rattle.rules.specs.Trip.{arrival, visited, restedAt}
-use Rattle.rules.specs.Tips.{nearestTip}
 use Rattle.rules.specs.declared.walk.Trip.{Trip}
+
+-- "T + t in the tip's window"
+unfoldable pub openTip : List ℕ → ℕ → ℕ → ℕ → Bool
+openTip day place minute x =
+    leb (opening day x) (minute + legMinutes day place x) && leb (minute + legMinutes day place x) (closing day x)
+
+-- "nearest open tip n(p,T): least t from place p with T + t in the tip's window; ties, lowest number"; 0 where none is open
+unfoldable pub nearestTip : List ℕ → ℕ → ℕ → ℕ
+nearestTip day place minute = least (openTip day place minute) (legMinutes day place) (tips day)
 
 -- "not rested and R1 ≤ T ≤ R2"
 unfoldable pub due : List ℕ → Trip → Bool

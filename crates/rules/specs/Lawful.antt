@@ -2,12 +2,12 @@
 -- mentioned here. Assumes nothing.
 use Prim.Native.Nat.{ℕ, _+_, _≤_}
 use mathlib.Core.Path.{_≡_}
-use mathlib.Core.Bool.{Bool, true, false}
 use mathlib.Core.List.{List, [], _∷_}
 use lib.ListN.{length}
 use Rattle.rules.specs.Lists.{Every, total}
-use Rattle.rules.specs.Fields.{stopPlace, loadLimit, dayLimit, stopLimit, opening, closing, restOpening, restClosing, restMinutes, service, quantity, legMinutes, legDistance}
+use Rattle.rules.specs.Fields.{stopPlace, loadLimit, dayLimit, stopLimit, quantity, legDistance}
 use Rattle.rules.specs.Plan.{Task, serve, empty, lunch, Round, stopsOn, stopsOnAll, Formed}
+use Rattle.rules.specs.Timetable.{IsTimetable}
 
 -- "a vehicle starts empty; a B adds q, a C empties": the load after a task
 unfoldable pub loadThen : List ℕ → ℕ → Task → ℕ
@@ -38,43 +38,10 @@ pub record Loads (day : List ℕ) (tasks : Round) : Type 0 where
   pub visits : length (stopsOn tasks) ≤ stopLimit day
   pub rests : restsIn tasks ≤ 1
 
--- a visit to a place at a minute, by a vehicle that is free elsewhere from a minute on: "each visit no sooner than the previous end
--- plus t, starting within its window"
-pub record Visits (day : List ℕ) (from free place minute : ℕ) : Type 0 where
-  pub reached : free + legMinutes day from place ≤ minute
-  pub opened : opening day place ≤ minute
-  pub notClosed : minute ≤ closing day place
-
--- "a rest starting where the vehicle is, within R1..R2"
-pub record Rests (day : List ℕ) (free minute : ℕ) : Type 0 where
-  pub reached : free ≤ minute
-  pub opened : restOpening day ≤ minute
-  pub notClosed : minute ≤ restClosing day
-
--- "back by L0 (depot closing), and by R2 if it had no rest"
-pub record Returns (day : List ℕ) (from free : ℕ) (rested : Bool) (minute : ℕ) : Type 0 where
-  pub reached : free + legMinutes day from 0 ≤ minute
-  pub notClosed : minute ≤ closing day 0
-  pub fed : rested ≡ false → minute ≤ restClosing day
-
--- "a timetable gives each word a whole minute": the minutes of the tasks and of E, from a place where the vehicle is free from a minute on
-unfoldable pub Timetable : List ℕ → ℕ → ℕ → Bool → Round → List ℕ → Type 0
-Timetable day from free rested tasks [] = ⊥
-Timetable day from free rested [] (m ∷ []) = Returns day from free rested m
-Timetable day from free rested [] (m ∷ l ∷ ms) = ⊥
-Timetable day from free rested (serve k ∷ tasks) (m ∷ ms) =
-    Visits day from free (stopPlace day k) m × Timetable day (stopPlace day k) (m + service day (stopPlace day k)) rested tasks ms
-Timetable day from free rested (empty k ∷ tasks) (m ∷ ms) =
-    Visits day from free k m × Timetable day k (m + service day k) rested tasks ms
-Timetable day from free rested (lunch ∷ tasks) (m ∷ ms) =
-    Rests day free m × Timetable day from (m + restMinutes day) true tasks ms
-
--- a timetable of one vehicle exists: "leaving at E0 (depot opening) or later"
+-- a timetable of one vehicle exists
 pub record Timed (day : List ℕ) (tasks : Round) : Type 0 where
-  pub leaves : ℕ
-  pub opened : opening day 0 ≤ leaves
   pub minutes : List ℕ
-  pub kept : Timetable day 0 leaves false tasks minutes
+  pub kept : IsTimetable day tasks minutes
 
 -- "distance is the sum over the legs driven"
 unfoldable pub distanceFrom : List ℕ → ℕ → Round → ℕ

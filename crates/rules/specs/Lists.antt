@@ -1,8 +1,9 @@
--- What is said of the elements of a list. Assumes nothing.
+-- What is said of the elements of a list, and a list written over the front of another. Assumes nothing.
 use Prim.Native.Nat.{ℕ, zero, suc, _+_, _<_}
 use mathlib.Core.Bool.{Bool, false, _||_}
-use mathlib.Core.List.{List, [], _∷_}
+use mathlib.Core.List.{List, [], _∷_, _++_}
 use lib.Dec.{eqb}
+use lib.ListN.{length, drop}
 use Rattle.rules.specs.Tests.{if_then_else_}
 
 -- each element has a property
@@ -34,3 +35,7 @@ Rising from (x ∷ xs) = (from < x) × Rising x xs
 unfoldable pub total : {A : Type 0} → (A → ℕ) → List A → ℕ
 total f [] = 0
 total f (x ∷ xs) = f x + total f xs
+
+-- a buffer p with ws written over its front
+unfoldable pub over : {A : Type 0} → List A → List A → List A
+over ws p = ws ++ drop (length ws) p

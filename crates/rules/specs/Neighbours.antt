@@ -3,7 +3,7 @@ use Prim.Native.Nat.{ℕ, zero, suc, _+_, _*_}
 use mathlib.Core.Bool.{Bool, true, false, not, _&&_}
 use mathlib.Core.List.{List, [], _∷_}
 use lib.Dec.{leb, ltb, eqb}
-use Rattle.rules.specs.Least.{least}
+use Rattle.rules.specs.Tests.{least}
 use Rattle.rules.specs.Fields.{stops, stopPlace, opening, closing, service, legMinutes}
 
 -- t from i to j

@@ -1,21 +1,43 @@
--- What the call that plans with trials says, and what the plan's buffer then holds: document 01, "Trials" and "What can be refused".
--- Assumes nothing.
-use Prim.Native.Nat.{ℕ, _*_}
+-- What the calls that build and that plan with trials say, and what the plan's buffer then holds: document 01, "Trials" and "What can be
+-- refused". Assumes nothing.
+use Prim.Native.Nat.{ℕ, _-_, _*_}
 use mathlib.Core.Path.{_≡_}
 use mathlib.Core.Bool.{Bool, false, _&&_}
-use mathlib.Core.List.{List, [], _∷_}
-use lib.Dec.{leb}
-use lib.ListN.{length}
+use mathlib.Core.List.{List, [], _∷_, _++_}
+use lib.Dec.{ltb, leb}
+use lib.ListN.{length, replicate}
 use Rattle.rules.specs.Tests.{if_then_else_}
 use Rattle.rules.specs.Answers.{given, refused, isGiven}
+use Rattle.rules.specs.Lists.{total, over}
 use Rattle.rules.specs.DayFile.{judgeDay}
 use Rattle.rules.specs.Fields.{stops}
 use Rattle.rules.specs.Plan.{Round, planWords}
-use Rattle.rules.specs.Build.{greedyLefts}
+use Rattle.rules.specs.Lawful.{distanceFrom}
+use Rattle.rules.specs.Build.{greedyRounds, greedyLefts, greedyPlan}
 use Rattle.rules.specs.Attempts.{distanceOf}
-use Rattle.rules.specs.Search.{Result}
-use Rattle.rules.specs.Planning.{searched}
-use Rattle.rules.specs.Built.{planned}
+use Rattle.rules.specs.Search.{Result, searched}
+
+-- what the build answers on an accepted day: "14 lent buffer too short (place: words needed; planning needs 5n in the plan buffer)", else the
+-- values of the greedy plan
+unfoldable pub builtAnswer : List ℕ → ℕ → List ℕ
+builtAnswer day room =
+    if ltb room (5 * stops day) then refused 14 (5 * stops day)
+    else given (total (distanceFrom day 0) (greedyRounds day) ∷ 0 ∷ 0 ∷ length (greedyLefts day) ∷ length (greedyPlan day) ∷ [])
+
+-- "after success the plan buffer is zero from the plan's end to 5n, as before beyond"
+unfoldable pub planned : List ℕ → List ℕ → List ℕ → List ℕ
+planned day words plan = over (words ++ replicate (5 * stops day - length words) 0) plan
+
+unfoldable pub builtBuffer : List ℕ → List ℕ → List ℕ
+builtBuffer day plan = if ltb (length plan) (5 * stops day) then plan else planned day (greedyPlan day) plan
+
+-- and on any day: refusals 1 to 5 first
+unfoldable pub buildAnswer : List ℕ → ℕ → List ℕ
+buildAnswer day room = if isGiven (judgeDay day) then builtAnswer day room else judgeDay day
+
+-- "each refusal changes no buffer"
+unfoldable pub buildBuffer : List ℕ → List ℕ → List ℕ
+buildBuffer day plan = if isGiven (judgeDay day) then builtBuffer day plan else plan
 
 -- "13 K outside 1..50"
 unfoldable pub fewNeighbours : ℕ → Bool
@@ -30,7 +52,7 @@ unfoldable pub resultValues : List ℕ → Result (List Round) → List ℕ
 resultValues day r =
     distanceOf day (r .plan) ∷ r .trials ∷ (if r .settled then 1 else 0) ∷ length (greedyLefts day) ∷ length (planWords (r .plan) (greedyLefts day)) ∷ []
 
--- the answer on an accepted day: 13, then 14 ("place: words needed"), else what the search hands over
+-- what planning with trials answers on an accepted day: 13, then 14 ("place: words needed"), else what the search hands over
 unfoldable pub plannedAnswer : List ℕ → (K budget room spare : ℕ) → List ℕ
 plannedAnswer day K budget room spare =
     if fewNeighbours K
@@ -42,7 +64,7 @@ unfoldable pub plannedBuffer : List ℕ → (K budget spare : ℕ) → List ℕ 
 plannedBuffer day K budget spare plan =
     if fewNeighbours K && longEnough day (length plan) spare then planned day (planWords (searched day K budget .plan) (greedyLefts day)) plan else plan
 
--- the answer on any day: refusals 1 to 5 first
+-- and on any day: refusals 1 to 5 first
 unfoldable pub planAnswer : List ℕ → (K budget room spare : ℕ) → List ℕ
 planAnswer day K budget room spare = if isGiven (judgeDay day) then plannedAnswer day K budget room spare else judgeDay day
 

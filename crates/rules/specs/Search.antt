@@ -1,11 +1,15 @@
--- The budgeted search: document 01, "Trials", over any kind of plan and of trial. `list p` is the trial list of the plan p; `attempt p m`
--- is the lawful, shorter plan that the trial m of p gives, or none. Assumes nothing.
+-- The budgeted search: document 01, "Trials", over any kind of plan and of trial, and at the end from the greedy plan. `list p` is the trial
+-- list of the plan p; `attempt p m` is the lawful, shorter plan that the trial m of p gives, or none. Assumes nothing.
 use Prim.Native.Nat.{ℕ, zero, suc, _+_}
 use mathlib.Core.Path.{_≡_}
 use mathlib.Core.Bool.{Bool, true, false}
 use mathlib.Core.Option.{Option, none, some}
 use mathlib.Core.List.{List, [], _∷_, _++_, List·Memᴰ}
 use lib.ListN.{length}
+use Rattle.rules.specs.Plan.{Round}
+use Rattle.rules.specs.Build.{greedyRounds, greedyLefts}
+use Rattle.rules.specs.TrialList.{trialList}
+use Rattle.rules.specs.Attempts.{attempt}
 
 -- what the search hands over: the plan, the number of trials made, and whether the plan is settled
 pub record Result (P : Type 0) : Type 0 where
@@ -33,3 +37,7 @@ module _ {P M : Type 0} (list : P → List M) (attempt : P → M → Option P) w
     start : Held first first zero
     kept : {p q : P} {made : ℕ} (done : List M) (m : M) (rest : List M) → Held first p made → list p ≡ done ++ (m ∷ rest)
         → ((x : M) → List·Memᴰ x done → attempt p x ≡ none) → attempt p m ≡ some q → Held first q (made + length done + 1)
+
+-- "that plan", the greedy one, "is worked over", by trials with K neighbours
+unfoldable pub searched : List ℕ → (K budget : ℕ) → Result (List Round)
+searched day K budget = improve (trialList day K) (attempt day (greedyLefts day)) budget (greedyRounds day)

@@ -8,7 +8,7 @@ use lib.ListN.{take, drop}
 use Rattle.rules.specs.Build.{greedyRounds, greedyLefts}
 use Rattle.rules.specs.TrialList.{trialList}
 use Rattle.rules.specs.Attempts.{distanceOf, attempt}
-use Rattle.rules.specs.Planning.{searched}
+use Rattle.rules.specs.Search.{searched}
 use Rattle.trial_list.specs.TrialRest.{listStart}
 use Rattle.trial_list.specs.declared.listing.Cursor.{Cursor}
 use Rattle.trial_list.proofs.ListRests.{whole-list, start-fits, start-valid}

@@ -16,8 +16,7 @@ use Rattle.rules.specs.Build.{greedyRounds, greedyLefts, greedyPlan}
 use Rattle.rules.specs.Edits.{Trial}
 use Rattle.rules.specs.TrialList.{trialList}
 use Rattle.rules.specs.Attempts.{distanceOf, isLawful, attempt}
-use Rattle.rules.specs.Search.{improve}
-use Rattle.rules.specs.Planning.{searched}
+use Rattle.rules.specs.Search.{improve, searched}
 use Rattle.laws.proofs.Fresh.{every-append}
 use Rattle.greedy_laws.proofs.GreedyLawful.{greedy-answer}
 use Rattle.greedy_laws.proofs.LeftOut.{left-out-justified}

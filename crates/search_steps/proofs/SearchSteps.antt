@@ -13,7 +13,7 @@ use Rattle.rules.specs.Fields.{IsAccepted}
 use Rattle.rules.specs.Build.{greedyLefts}
 use Rattle.rules.specs.TrialList.{trialList}
 use Rattle.rules.specs.Attempts.{attempt}
-use Rattle.rules.specs.Planning.{searched}
+use Rattle.rules.specs.Search.{searched}
 use Rattle.day.specs.Layout.{LayoutOf}
 use Rattle.day.specs.declared.fields.Layout.{Layout}
 use Rattle.day.proofs.Ranges.{accepted-ranges}

@@ -5,7 +5,7 @@ use mathlib.Core.List.{List}
 use native.Mathlib.Omega.{arith}
 use lib.ListN.{length, take, drop}
 use lib.Seq.{length-take-le}
-use Rattle.rules.specs.Buffer.{over}
+use Rattle.rules.specs.Lists.{over}
 use Rattle.rules.specs.Fields.{stops, IsAccepted}
 use Rattle.rules.specs.Plan.{Round, planWords}
 use Rattle.rules.specs.Build.{greedyLefts}

@@ -10,8 +10,7 @@ use Rattle.rules.specs.Build.{greedyLefts}
 use Rattle.rules.specs.Edits.{Trial}
 use Rattle.rules.specs.TrialList.{trialList}
 use Rattle.rules.specs.Attempts.{distanceOf, attempt}
-use Rattle.rules.specs.Search.{run}
-use Rattle.rules.specs.Planning.{searched}
+use Rattle.rules.specs.Search.{run, searched}
 use Rattle.trial_list.specs.Listing.{CursorFits}
 use Rattle.trial_list.specs.Shapes.{Shaped, Valid}
 use Rattle.trial_list.specs.Survey.{Surveyed}

@@ -7,7 +7,7 @@ use native.Mathlib.Numerals.{add-one}
 use native.Mathlib.Omega.{arith}
 use lib.ListN.{length, take, drop, set, getD, length-append, length-set}
 use lib.Seq.{sets, sets-eq, take-suc, take-all}
-use Rattle.rules.specs.Buffer.{over}
+use Rattle.rules.specs.Lists.{over}
 use Rattle.text.specs.Put.{Put}
 
 pub put-none : (at : ℕ) (p : List ℕ) → at ≤ length p → Put [] p at p at

@@ -13,7 +13,7 @@ use Rattle.rules.specs.PlanWords.{vehicleWord, restWord}
 use Rattle.rules.specs.Plan.{Task, serve, empty, lunch, Round, taskWord, stopsOn, Known}
 use Rattle.rules.specs.Trip.{leaving}
 use Rattle.rules.specs.Build.{Truck, fresh}
-use Rattle.rules.specs.WalkedAgain.{walkOn}
+use Rattle.rules.specs.Attempts.{walkOn}
 use Rattle.rules.specs.declared.walk.Trip.{Trip}
 use Rattle.laws.specs.Buffer.{Wrote}
 use Rattle.laws.proofs.Plan.{stops-append}

@@ -15,7 +15,7 @@ use Rattle.rules.specs.Plan.{serve, empty, lunch, Round, taskWord, stopsOn}
 use Rattle.rules.specs.Lawful.{distanceFrom}
 use Rattle.rules.specs.Build.{Truck, fresh}
 use Rattle.rules.specs.Edits.{Edit, change, changed}
-use Rattle.rules.specs.WalkedAgain.{walkOn, walkHome}
+use Rattle.rules.specs.Attempts.{walkOn, walkHome}
 use Rattle.rules.specs.declared.walk.Trip.{Trip}
 use Rattle.laws.specs.Buffer.{Wrote}
 use Rattle.laws.proofs.Buffer.{wrote-same}

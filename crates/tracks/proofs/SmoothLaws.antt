@@ -14,7 +14,7 @@ use Rattle.rules.specs.Plan.{serve, empty, lunch, Round}
 use Rattle.rules.specs.Lawful.{distanceFrom}
 use Rattle.rules.specs.Cargo.{cargoAfter}
 use Rattle.rules.specs.Build.{Truck, doing, resting}
-use Rattle.rules.specs.WalkedAgain.{emptiedFirst, exceeds, servingThen, walkTask, walkNext, walkOn, walkHome}
+use Rattle.rules.specs.Attempts.{emptiedFirst, exceeds, servingThen, walkTask, walkNext, walkOn, walkHome}
 use Rattle.greedy_laws.proofs.Driving.{resting-keeps}
 use Rattle.edits.specs.Kept.{kept}
 use Rattle.onward.specs.Behind.{stopFirst, tipFirst, onwardOf}

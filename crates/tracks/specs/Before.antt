@@ -10,7 +10,7 @@ use lib.ListN.{length, getD, take, drop}
 use Rattle.rules.specs.Lists.{Every}
 use Rattle.rules.specs.Plan.{Task, Round, taskWord, stopsOn, Known}
 use Rattle.rules.specs.Build.{Truck, fresh}
-use Rattle.rules.specs.WalkedAgain.{walkOn}
+use Rattle.rules.specs.Attempts.{walkOn}
 use Rattle.edits.specs.Kept.{kept}
 use Rattle.walks.specs.Cabs.{Riding, Start, Stands}
 use Rattle.walks.specs.declared.cabs.Cab.{Cab}

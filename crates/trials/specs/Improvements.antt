@@ -7,7 +7,7 @@ use Rattle.rules.specs.Plan.{Round, planWords}
 use Rattle.rules.specs.Build.{greedyLefts}
 use Rattle.rules.specs.Edits.{Trial}
 use Rattle.rules.specs.Attempts.{distanceOf}
-use Rattle.rules.specs.Planning.{searched}
+use Rattle.rules.specs.Search.{searched}
 use Rattle.trial_list.specs.declared.listing.Cursor.{Cursor}
 use Rattle.attempts.specs.Tries.{TriedAs}
 use Rattle.attempts.specs.declared.tries.Tried.{Tried}

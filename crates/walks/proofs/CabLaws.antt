@@ -12,10 +12,9 @@ use Rattle.rules.specs.PlanWords.{vehicleWord, stopWord, tipWord, restWord}
 use Rattle.rules.specs.Plan.{Task, serve, empty, lunch, Round, taskWord, stopsOn}
 use Rattle.rules.specs.Cargo.{cargoAfter}
 use Rattle.rules.specs.Trip.{visited}
-use Rattle.rules.specs.Tips.{nearestTip}
-use Rattle.rules.specs.Home.{due, restIfDue}
+use Rattle.rules.specs.Home.{nearestTip, due, restIfDue}
 use Rattle.rules.specs.Build.{Truck, doing, resting}
-use Rattle.rules.specs.WalkedAgain.{inserting}
+use Rattle.rules.specs.Attempts.{inserting}
 use Rattle.rules.specs.declared.walk.Trip.{Trip}
 use Rattle.laws.proofs.Buffer.{wrote-put, wrote-same}
 use Rattle.laws.proofs.Decided.{bit-most}

@@ -13,7 +13,7 @@ use Rattle.rules.specs.Plan.{Round, taskWord, roundWords, stopsOn, Known}
 use Rattle.rules.specs.Lawful.{distanceFrom}
 use Rattle.rules.specs.Build.{Truck, fresh}
 use Rattle.rules.specs.Edits.{Edit, changed}
-use Rattle.rules.specs.WalkedAgain.{walkOn, walkHome, doneBy, walkedAgain}
+use Rattle.rules.specs.Attempts.{walkOn, walkHome, doneBy, walkedAgain}
 use Rattle.rules.specs.declared.walk.Trip.{Trip}
 use Rattle.laws.specs.Buffer.{Wrote}
 use Rattle.laws.proofs.Buffer.{wrote-put, wrote-same}

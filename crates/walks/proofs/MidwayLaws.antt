@@ -13,7 +13,7 @@ use Rattle.rules.specs.Plan.{lunch, Round, stopsOn, taskWord}
 use Rattle.rules.specs.Trip.{leaving}
 use Rattle.rules.specs.Build.{Truck, fresh}
 use Rattle.rules.specs.Edits.{Edit, changed}
-use Rattle.rules.specs.WalkedAgain.{walkOn}
+use Rattle.rules.specs.Attempts.{walkOn}
 use Rattle.laws.specs.Buffer.{Wrote}
 use Rattle.laws.proofs.Buffer.{wrote-same}
 use Rattle.laws.proofs.Lists.{get-map}

@@ -10,9 +10,9 @@ use lib.ListN.{length}
 use borrow.Author.Tests.{lt-ltb, le-ltb, ltb-true}
 use Rattle.rules.specs.Fields.{stopPlace, loadLimit, quantity}
 use Rattle.rules.specs.Plan.{serve, empty}
-use Rattle.rules.specs.Tips.{nearestTip}
+use Rattle.rules.specs.Home.{nearestTip}
 use Rattle.rules.specs.Build.{Truck, doing, resting}
-use Rattle.rules.specs.WalkedAgain.{inserting, emptiedFirst, exceeds, servingThen, walkTask, walkHome}
+use Rattle.rules.specs.Attempts.{inserting, emptiedFirst, exceeds, servingThen, walkTask, walkHome}
 use Rattle.laws.proofs.Tests.{both-true}
 use Rattle.walks.specs.Cabs.{Start, Standing, Stands, failed, onRoad, SomeStanding, Drives}
 use Rattle.walks.specs.declared.cabs.Cab.{Cab}

@@ -15,9 +15,9 @@ use Rattle.rules.specs.Lists.{Every}
 use Rattle.rules.specs.Fields.{stopPlace, legDistance, quantity, loadLimit}
 use Rattle.rules.specs.Plan.{Task, serve, empty, lunch, Round, stopsOn, Known}
 use Rattle.rules.specs.Lawful.{distanceFrom}
-use Rattle.rules.specs.Tips.{nearestTip}
+use Rattle.rules.specs.Home.{nearestTip}
 use Rattle.rules.specs.Build.{Truck, fresh, doing, resting}
-use Rattle.rules.specs.WalkedAgain.{inserting, emptiedFirst, exceeds, servingThen, walkTask, walkNext, walkOn, walkHome, doneBy, walkedAgain}
+use Rattle.rules.specs.Attempts.{inserting, emptiedFirst, exceeds, servingThen, walkTask, walkNext, walkOn, walkHome, doneBy, walkedAgain}
 use Rattle.laws.proofs.Fresh.{every-append}
 use Rattle.laws.proofs.Tests.{both-true, only-second}
 use Rattle.laws.proofs.Decided.{known, known-option}

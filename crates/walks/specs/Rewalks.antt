@@ -14,7 +14,7 @@ use Rattle.rules.specs.Plan.{lunch, Round, taskWord, roundWords, stopsOn, Known
 use Rattle.rules.specs.Lawful.{distanceFrom}
 use Rattle.rules.specs.Build.{Truck, fresh}
 use Rattle.rules.specs.Edits.{Edit, changed}
-use Rattle.rules.specs.WalkedAgain.{walkOn, walkHome, walkedAgain}
+use Rattle.rules.specs.Attempts.{walkOn, walkHome, walkedAgain}
 use Rattle.laws.specs.Buffer.{Wrote}
 use Rattle.edits.specs.declared.Edit as Code
 use Rattle.edits.specs.EditWords.{editOf, EditKnown, Means}

@@ -10,8 +10,7 @@ use borrow.Author.Tests.{le-leb, lt-leb, leb-true, eq-eqb, ne-eqb}
 use Rattle.rules.specs.Tests.{if_then_else_}
 use Rattle.rules.specs.Fields.{places, stopPlace, opening, closing, restOpening, restClosing, restMinutes}
 use Rattle.rules.specs.Trip.{visited, restedAt}
-use Rattle.rules.specs.Tips.{nearestTip}
-use Rattle.rules.specs.Home.{due, restIfDue, homeDirect, homeByTip, homeLoaded, wayHome}
+use Rattle.rules.specs.Home.{nearestTip, due, restIfDue, homeDirect, homeByTip, homeLoaded, wayHome}
 use Rattle.rules.specs.declared.walk.Trip.{Trip}
 use Rattle.laws.proofs.Tests.{both-true}
 use Rattle.day.specs.Layout.{LayoutOf, WindowOf, LegOf}

@@ -7,9 +7,9 @@ use mathlib.Core.List.{List}
 use native.Mathlib.Omega.{arith}
 use lib.Dec.{ltb, leb, eqb}
 use borrow.Author.Tests.{le-leb, lt-leb, le-ltb, lt-ltb}
-use Rattle.rules.specs.Least.{better, least}
+use Rattle.rules.specs.Tests.{better, least}
 use Rattle.rules.specs.Fields.{tips, opening, closing, legMinutes}
-use Rattle.rules.specs.Tips.{openTip, nearestTip}
+use Rattle.rules.specs.Home.{openTip, nearestTip}
 use Rattle.laws.proofs.Least.{better-fails, better-wins, better-loses, least-none, least-suc}
 use Rattle.day.specs.Layout.{LayoutOf, WindowOf, LegOf}
 use Rattle.day.specs.declared.fields.Layout.{Layout}

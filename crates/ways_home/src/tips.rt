@@ -1,9 +1,9 @@
 // The nearest open tip, in one pass over the tips.
 ghost use mathlib.Core.Path.{_≡_};
 ghost use Prim.Native.Nat.{_<_, _≤_};
-ghost use Rattle.rules.specs.Least.{better};
+ghost use Rattle.rules.specs.Tests.{better};
 ghost use Rattle.rules.specs.Fields.{legMinutes};
-ghost use Rattle.rules.specs.Tips.{openTip, nearestTip};
+ghost use Rattle.rules.specs.Home.{openTip, nearestTip};
 ghost use Rattle.day.specs.Layout.{LayoutOf};
 ghost use Rattle.ways_home.specs.Bests.{BestBy};
 use crate::best::Best;

@@ -3,7 +3,7 @@ use borrow.Author.Needs.{needs}
 use Prim.Native.Nat.{_*_, _-_, _≤_}
 use mathlib.Core.Path.{_≡_, ap, _∙_, refl}
 use native.Mathlib.Omega.{arith}
-use Rattle.rules.specs.Least.{least}
+use Rattle.rules.specs.Tests.{least}
 use Rattle.laws.specs.Marks.{marked, both}
 use Rattle.laws.specs.Walk.{leastBelow}
 use Rattle.laws.proofs.Walk.{below-none, below-all, word-next}

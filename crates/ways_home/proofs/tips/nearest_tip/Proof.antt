@@ -2,9 +2,9 @@
 use borrow.Author.Needs.{needs}
 use Prim.Native.Nat.{_≤_, _-_}
 use mathlib.Core.Path.{_≡_}
-use Rattle.rules.specs.Least.{least}
+use Rattle.rules.specs.Tests.{least}
 use Rattle.rules.specs.Fields.{legMinutes}
-use Rattle.rules.specs.Tips.{openTip}
+use Rattle.rules.specs.Home.{openTip}
 use Rattle.ways_home.specs.Bests.{BestBy}
 use Rattle.ways_home.proofs.BestLaws.{none-so-far}
 use Rattle.ways_home.proofs.TipLaws.{tips-none, tips-next, tips-all}
