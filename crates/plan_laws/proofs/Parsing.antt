@@ -8,15 +8,14 @@ use native.Mathlib.Omega.{arith}
 use lib.ListN.{length}
 use lib.Dec.{ltb, eqb}
 use borrow.Author.Tests.{ltb-true, ltb-false, eqb-true}
-use Rattle.rules.specs.Tests.{if_then_else_}
-use Rattle.rules.specs.Answers.{given, refused}
+use Rattle.rules.specs.Answers.{given}
 use Rattle.rules.specs.Lists.{Every, unmet, Rising}
 use Rattle.rules.specs.Fields.{tips, stops}
 use Rattle.rules.specs.PlanWords.{Word, stop, tip, rest, back, left, backWord, leftWord, wordOf, readPlan}
 use Rattle.rules.specs.Plan.{Task, serve, empty, lunch, Round, taskWord, stopsOn, Known, wordFor}
 use Rattle.rules.specs.Check.{within, wellFormed, metAgain, metAfter, tallyAfter, Walk, walkAfter, finished, checkFrom}
 use Rattle.laws.specs.Lists.{collect, Fresh}
-use Rattle.laws.proofs.Tests.{both-true}
+use Rattle.laws.proofs.Tests.{both-true, only-second}
 use Rattle.plan_laws.specs.Vehicles.{CargoClear, TripClear, walkTasks}
 use Rattle.plan_words.proofs.WordForms.{back-form, left-form, Apart, isVehicle, isStop, isTip, isRest, isBack, isLeft, isStray, apart}
 use Rattle.plan_laws.proofs.Passing.{Passes, answer-passes, given-not-refused, within-both}
@@ -112,12 +111,9 @@ module _ (day : List ℕ) (a b c : ℕ) where
   -- the end of the plan: no stop is missing
   pub none-missing : (i : ℕ) (s : Walk) → s .tally .inside ≡ false → finished day i s ≡ answer → unmet (stops day) (s .met) ≡ 0
   unfolding finished
-  none-missing i s e q = go (ltb 0 (unmet (stops day) (s .met))) refl (rw e at q)
-    where
-      go : (t : Bool) → ltb 0 (unmet (stops day) (s .met)) ≡ t
-          → (if t then refused 8 i else given (s .tally .distance ∷ s .tally .vehicles ∷ s .tally .served ∷ [])) ≡ answer → unmet (stops day) (s .met) ≡ 0
-      go true x y = absurd (given-not-refused y)
-      go false x y = omega (arith, ltb-false 0 (unmet (stops day) (s .met)) x)
+  none-missing i s e q =
+      let none = only-second (ltb 0 (unmet (stops day) (s .met))) given-not-refused (rw e at q) .0 in
+      omega (arith, ltb-false 0 (unmet (stops day) (s .met)) none)
 
   pub left-first : (w k : ℕ) (ws : List ℕ) (s : Walk) → wordOf w ≡ wordOf (leftWord k) → Passes day s (left k) → InLefts (walkAfter day s (left k)) ws → InLefts s (w ∷ ws)
   unfolding wellFormed metAgain metAfter tallyAfter Every Fresh Rising collect

@@ -14,7 +14,7 @@ use Rattle.rules.specs.PlanWords.{Word, wordOf}
 use Rattle.rules.specs.Cargo.{cargoFault}
 use Rattle.rules.specs.Trip.{tripFault}
 use Rattle.rules.specs.Check.{within, wellFormed, metAgain, Walk, faultAt, walkAfter, checkFrom}
-use Rattle.laws.proofs.Tests.{both-true}
+use Rattle.laws.proofs.Tests.{both-true, only-first}
 
 -- a number of 1 to the most
 pub within-both : (most k : ℕ) → within most k ≡ true → (0 < k) × (k ≤ most)
@@ -57,10 +57,6 @@ given-not-refused e = let z : _≡_ {A = ℕ} 2 4 = ap length e in omega arith
 pub answer-passes : (day : List ℕ) (w : ℕ) (ws : List ℕ) (i : ℕ) (s : Walk) {a b c : ℕ} → checkFrom day (w ∷ ws) i s ≡ given (a ∷ b ∷ c ∷ [])
     → Passes day s (wordOf w) × (checkFrom day ws (suc i) (walkAfter day s (wordOf w)) ≡ given (a ∷ b ∷ c ∷ []))
 unfolding checkFrom
-answer-passes day w ws i s {a} {b} {c} = go (eqb (faultAt day s (wordOf w)) 0) refl
-  where
-    go : (t : Bool) → eqb (faultAt day s (wordOf w)) 0 ≡ t
-        → (if t then checkFrom day ws (suc i) (walkAfter day s (wordOf w)) else refused (faultAt day s (wordOf w)) i) ≡ given (a ∷ b ∷ c ∷ [])
-        → Passes day s (wordOf w) × (checkFrom day ws (suc i) (walkAfter day s (wordOf w)) ≡ given (a ∷ b ∷ c ∷ []))
-    go true e q = (fault-passes day s (wordOf w) (eqb-true _ _ e), q)
-    go false e q = absurd (given-not-refused q)
+answer-passes day w ws i s e =
+    let p = only-first (eqb (faultAt day s (wordOf w)) 0) given-not-refused e in
+    (fault-passes day s (wordOf w) (eqb-true _ _ (p .0)), p .1)

@@ -3,8 +3,9 @@
 -- Assumes nothing.
 use Prim.Native.Nat.{ℕ, suc}
 use mathlib.Core.Path.{_≡_, refl, sym, ap, ap₂, _∙_, subst}
-use mathlib.Core.Bool.{Bool, true, false, false≢true}
+use mathlib.Core.Bool.{true}
 use mathlib.Core.List.{List, [], _∷_, _++_, map, nil≢cons, head-eq-of-cons-eq, tail-eq-of-cons-eq}
+use mathlib.Core.Option.{Option, none, some, Option·none-ne-some, Option·some-injective}
 use native.Mathlib.Omega.{arith}
 use Rattle.rules.specs.Answers.{given, isGiven}
 use Rattle.rules.specs.Lists.{Every}
@@ -18,42 +19,27 @@ use Rattle.plan_laws.proofs.LawfulIff.{lawful-iff, lawful-totals}
 use Rattle.plan_laws.proofs.PlanChecks.{few-rounds}
 use Rattle.plan_laws.proofs.PlanSays.{plan-says}
 
--- the task that a word says
-unfoldable taskFor : Word → Task
-taskFor (stop k) = serve k
-taskFor (tip k) = empty k
-taskFor rest = lunch
-taskFor back = lunch
-taskFor (vehicle k) = lunch
-taskFor (left k) = lunch
-taskFor stray = lunch
+-- the task that a word says, if it says one
+abbrev pub taskIn : Word → Option Task
+taskIn (stop k) = some (serve k)
+taskIn (tip k) = some (empty k)
+taskIn rest = some lunch
+taskIn back = none
+taskIn (vehicle k) = none
+taskIn (left k) = none
+taskIn stray = none
 
-for-task : (task : Task) → taskFor (wordFor task) ≡ task
-unfolding taskFor
-for-task (serve k) = refl
-for-task (empty k) = refl
-for-task lunch = refl
+task-in : (task : Task) → taskIn (wordFor task) ≡ some task
+task-in (serve k) = refl
+task-in (empty k) = refl
+task-in lunch = refl
 
 -- words that begin with no task
 abbrev pub NoTask : List Word → Type 0
 NoTask ws = (task : Task) (us : List Word) → ws ≡ wordFor task ∷ us → ⊥
 
-abbrev pub isTask : Word → Bool
-isTask (stop k) = true
-isTask (tip k) = true
-isTask rest = true
-isTask back = false
-isTask (vehicle k) = false
-isTask (left k) = false
-isTask stray = false
-
-task-is : (task : Task) → isTask (wordFor task) ≡ true
-task-is (serve k) = refl
-task-is (empty k) = refl
-task-is lunch = refl
-
-pub no-task : (u : Word) (ws : List Word) → isTask u ≡ false → NoTask (u ∷ ws)
-no-task u ws x task us e = false≢true (sym x ∙ ap isTask (head-eq-of-cons-eq e) ∙ task-is task)
+pub no-task : (u : Word) (ws : List Word) → taskIn u ≡ none → NoTask (u ∷ ws)
+no-task u ws x task us e = Option·none-ne-some task (sym x ∙ ap taskIn (head-eq-of-cons-eq e) ∙ task-in task)
 
 -- a vehicle's tasks end where no task comes
 pub tasks-told : (tasks others : Round) (ws us : List Word) → NoTask ws → NoTask us → map wordFor tasks ++ ws ≡ map wordFor others ++ us → (tasks ≡ others) × (ws ≡ us)
@@ -62,7 +48,7 @@ tasks-told [] (other ∷ others) ws us n m e = absurd (n other _ e)
 tasks-told (task ∷ tasks) [] ws us n m e = absurd (m task _ (sym e))
 tasks-told (task ∷ tasks) (other ∷ others) ws us n m e =
     let p = tasks-told tasks others ws us n m (tail-eq-of-cons-eq e) in
-    let same : task ≡ other = sym (for-task task) ∙ ap taskFor (head-eq-of-cons-eq e) ∙ for-task other in
+    let same : task ≡ other = Option·some-injective task other (sym (task-in task) ∙ ap taskIn (head-eq-of-cons-eq e) ∙ task-in other) in
     (ap₂ (λ (t : Task) (ts : Round). t ∷ ts) same (p .0), p .1)
 
 -- a stop left out begins no vehicle

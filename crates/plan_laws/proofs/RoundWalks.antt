@@ -9,7 +9,6 @@ use lib.ListN.{length, length-append}
 use Rattle.rules.specs.Lists.{total}
 use Rattle.rules.specs.PlanWords.{vehicle, back}
 use Rattle.rules.specs.Plan.{serve, empty, lunch, Round, stopsOn, stopsOnAll, wordFor}
-use Rattle.rules.specs.Cargo.{cargoAfter}
 use Rattle.rules.specs.Trip.{leaving, tripAfter}
 use Rattle.rules.specs.Check.{Walk, metAfter, tallyAfter, walkAfter}
 use Rattle.rules.specs.declared.walk.Trip.{Trip}
@@ -18,38 +17,26 @@ use Rattle.laws.proofs.Fresh.{collect-append}
 use Rattle.plan_laws.specs.Vehicles.{tripHome, walkTasks, walkRound, walkRounds}
 
 -- what changes on the way through a vehicle's tasks
-pub record AfterTasks (day : List ℕ) (s : Walk) (tasks : Round) (t : Walk) : Type 0 where
-  pub inside : t .tally .inside ≡ s .tally .inside
-  pub vehicles : t .tally .vehicles ≡ s .tally .vehicles
-  pub served : t .tally .served ≡ s .tally .served + length (stopsOn tasks)
-  pub last : t .tally .last ≡ s .tally .last
-  pub distance : t .tally .distance ≡ s .tally .distance
-  pub met : t .met ≡ collect (s .met) (stopsOn tasks)
-  pub visits : t .cargo .visits ≡ s .cargo .visits + length (stopsOn tasks)
-  pub home : tripAfter day (t .trip) back ≡ tripHome day (s .trip) tasks
+record AfterTasks (day : List ℕ) (s : Walk) (tasks : Round) (t : Walk) : Type 0 where
+  vehicles : t .tally .vehicles ≡ s .tally .vehicles
+  served : t .tally .served ≡ s .tally .served + length (stopsOn tasks)
+  last : t .tally .last ≡ s .tally .last
+  distance : t .tally .distance ≡ s .tally .distance
+  met : t .met ≡ collect (s .met) (stopsOn tasks)
+  home : tripAfter day (t .trip) back ≡ tripHome day (s .trip) tasks
 
-pub after-tasks : (day : List ℕ) (s : Walk) (tasks : Round) → AfterTasks day s tasks (walkTasks day s tasks)
-unfolding walkTasks stopsOn collect tripHome metAfter tallyAfter cargoAfter
-after-tasks day s [] =
-    record { inside = refl; vehicles = refl; served = omega arith; last = refl; distance = refl; met = refl; visits = omega arith; home = refl }
+after-tasks : (day : List ℕ) (s : Walk) (tasks : Round) → AfterTasks day s tasks (walkTasks day s tasks)
+unfolding walkTasks stopsOn collect tripHome metAfter tallyAfter
+after-tasks day s [] = record { vehicles = refl; served = omega arith; last = refl; distance = refl; met = refl; home = refl }
 after-tasks day s (serve k ∷ tasks) =
     let r = after-tasks day (walkAfter day s (wordFor (serve k))) tasks in
-    record {
-      inside = r .inside;
-      vehicles = r .vehicles;
-      served = omega (arith, r .served);
-      last = r .last;
-      distance = r .distance;
-      met = r .met;
-      visits = omega (arith, r .visits);
-      home = r .home;
-    }
+    record { vehicles = r .vehicles; served = omega (arith, r .served); last = r .last; distance = r .distance; met = r .met; home = r .home }
 after-tasks day s (empty k ∷ tasks) =
     let r = after-tasks day (walkAfter day s (wordFor (empty k))) tasks in
-    record { inside = r .inside; vehicles = r .vehicles; served = r .served; last = r .last; distance = r .distance; met = r .met; visits = r .visits; home = r .home }
+    record { vehicles = r .vehicles; served = r .served; last = r .last; distance = r .distance; met = r .met; home = r .home }
 after-tasks day s (lunch ∷ tasks) =
     let r = after-tasks day (walkAfter day s (wordFor lunch)) tasks in
-    record { inside = r .inside; vehicles = r .vehicles; served = r .served; last = r .last; distance = r .distance; met = r .met; visits = r .visits; home = r .home }
+    record { vehicles = r .vehicles; served = r .served; last = r .last; distance = r .distance; met = r .met; home = r .home }
 
 -- what changes by a vehicle that leaves and comes back
 pub record AfterRound (day : List ℕ) (s : Walk) (tasks : Round) (t : Walk) : Type 0 where

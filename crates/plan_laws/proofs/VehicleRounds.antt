@@ -23,22 +23,18 @@ use Rattle.plan_laws.proofs.SameReading.{read-take, read-drop, place-re
 use Rattle.plan_words.proofs.WordForms.{vehicle-form, back-form, left-form}
 
 -- a task's word is no A and no E
-task-no-vehicle : (day : List ℕ) (number : ℕ) (task : Task) → Known day task → isVehicle number (wordOf (taskWord task)) ≡ false
-task-no-vehicle day number (serve k) h = rw (task-form day (serve k) h)
-task-no-vehicle day number (empty k) h = rw (task-form day (empty k) h)
-task-no-vehicle day number lunch h = rw (task-form day lunch h)
-
-task-no-back : (day : List ℕ) (task : Task) → Known day task → isBack (wordOf (taskWord task)) ≡ false
-task-no-back day (serve k) h = rw (task-form day (serve k) h)
-task-no-back day (empty k) h = rw (task-form day (empty k) h)
-task-no-back day lunch h = rw (task-form day lunch h)
+task-neither : (day : List ℕ) (number : ℕ) (task : Task) → Known day task
+    → (isVehicle number (wordOf (taskWord task)) ≡ false) × (isBack (wordOf (taskWord task)) ≡ false)
+task-neither day number (serve k) h = rw (task-form day (serve k) h) (refl, refl)
+task-neither day number (empty k) h = rw (task-form day (empty k) h) (refl, refl)
+task-neither day number lunch h = rw (task-form day lunch h) (refl, refl)
 
 -- the words up to E of a vehicle are all its words
 tasks-to-back : (day : List ℕ) (tasks : Round) (behind : List ℕ) → Every (Known day) tasks → wordsToBack (map taskWord tasks ++ (backWord ∷ behind)) ≡ length tasks + 1
 unfolding wordsToBack Every
 tasks-to-back day [] behind h = rw back-form refl
 tasks-to-back day (task ∷ tasks) behind h =
-    rw (task-no-back day task (h .0)) (omega (arith, tasks-to-back day tasks behind (h .1)))
+    rw (task-neither day 0 task (h .0) .1) (omega (arith, tasks-to-back day tasks behind (h .1)))
 
 pub round-length : (number : ℕ) (tasks : Round) → length (roundWords number tasks) ≡ length tasks + 2
 unfolding roundWords
@@ -57,7 +53,7 @@ tasks-skip : (day : List ℕ) (number : ℕ) (tasks : Round) (behind : List ℕ)
 unfolding placeFrom Every
 tasks-skip day number [] behind i h = rw back-form (ap (placeFrom number behind) (omega arith))
 tasks-skip day number (task ∷ tasks) behind i h =
-    rw (task-no-vehicle day number task (h .0)) (tasks-skip day number tasks behind (suc i) (h .1) ∙ ap (placeFrom number behind) (omega arith))
+    rw (task-neither day number task (h .0) .0) (tasks-skip day number tasks behind (suc i) (h .1) ∙ ap (placeFrom number behind) (omega arith))
 
 round-skip : (day : List ℕ) (number other : ℕ) (tasks : Round) (behind : List ℕ) (i : ℕ) → other < 256 → (other ≡ number → ⊥) → Every (Known day) tasks
     → placeFrom number (roundWords other tasks ++ behind) i ≡ placeFrom number behind (i + length (roundWords other tasks))
