@@ -13,7 +13,7 @@ use borrow.Rule.Slice.PartMut.{putMid}
 use Rattle.rules.specs.Lists.{mem, unmet}
 use Rattle.rules.specs.Fields.{stops}
 use Rattle.rules.specs.PlanWords.{Word, back}
-use Rattle.rules.specs.Plan.{Round, stopsOn, wordFor}
+use Rattle.rules.specs.Plan.{Round, wordFor}
 use Rattle.rules.specs.Build.{oneVehicle, greedyRounds, routed}
 use Rattle.laws.specs.Marks.{marked, onesOf, upTo}
 use Rattle.laws.proofs.Buffer.{rest-whole}
@@ -24,7 +24,6 @@ use Rattle.plan_words.proofs.SaidLaws.{said-none, said-count, said-lend, said-s
 use Rattle.day.specs.Layout.{LayoutOf}
 use Rattle.day.specs.declared.fields.Layout.{Layout}
 use Rattle.vehicle_writer.specs.Going.{LeftOf, SomeLeft, VehicleWritten, WritesOne}
-use Rattle.greedy_laws.specs.Rooms.{Room}
 use Rattle.greedy_laws.specs.States.{unrouted}
 use Rattle.greedy_laws.proofs.Fleets.{fleetFrom, routedFrom, from-start, from-none, from-some, vehicle-unmet}
 use Rattle.greedy_laws.proofs.GreedyRoom.{vehicle-room}
@@ -50,10 +49,6 @@ none-routed : (n : ℕ) → unrouted n [] ≡ upTo n
 unfolding unrouted mem
 none-routed n = fun-ext (λ k. and-true (upTo n k))
 
-left-all : (day : List ℕ) (m : Marks) (n : ℕ) → n ≡ stops day → marked (m .words) ≡ upTo n → onesOf (m .words) ≡ n → LeftOf day [] m
-left-all day m n e a c =
-    record { are = a ∙ ap upTo e ∙ sym (none-routed (stops day)); count = c ∙ e ∙ sym (unmet-nil (stops day)) }
-
 pub underway-start : {day p : List ℕ} {layout : Layout} {words : ℕ} (m : Marks) → LayoutOf day layout → layout .stops ≤ 240
     → 5 * layout .stops ≤ length p → 0 < words → marked (m .words) ≡ upTo (layout .stops) → onesOf (m .words) ≡ layout .stops
     → Underway day p p m 0 0 words
@@ -65,7 +60,7 @@ underway-start {day} {p} {layout} m l most fits some are count =
       fits = omega arith;
       taken = [];
       said = [];
-      leftIs = left-all day m (layout .stops) same are count;
+      leftIs = record { are = are ∙ ap upTo same ∙ sym (none-routed (stops day)); count = count ∙ same ∙ sym none };
       text = said-none p;
       rounds = ap (λ (rs : List Round). says 0 rs []) (from-start day .0);
       routes = from-start day .1;
@@ -74,11 +69,6 @@ underway-start {day} {p} {layout} m l most fits some are count =
       ended = λ z. absurd (omega arith);
     }
 
--- no vehicles say nothing, whatever the number before them
-says-none : (said : List Word) (before after : ℕ) (rounds : List Round) → rounds ≡ [] → said ++ says after rounds [] ≡ said ++ says before rounds []
-unfolding says
-says-none said before after rounds e = rw e
-
 -- one vehicle and those behind it
 says-more : (said : List Word) (before : ℕ) (tasks : Round) (rounds : List Round)
     → (said ++ roundSaid (before + 1) tasks) ++ says (before + 1) rounds [] ≡ said ++ says before (tasks ∷ rounds) []
@@ -86,10 +76,6 @@ says-more said before tasks rounds =
     append-assoc said (roundSaid (before + 1) tasks) (says (before + 1) rounds [])
     ∙ ap (λ (k : ℕ). said ++ (roundSaid k tasks ++ says k rounds [])) (add-one before)
     ∙ ap (λ (ws : List Word). said ++ ws) (says-next before tasks rounds [])
-
--- how many words a vehicle has
-round-many : (number : ℕ) (tasks : Round) → Room tasks → length (roundSaid number tasks) ≤ 3 + 2 * length (stopsOn tasks)
-round-many number tasks r = omega (arith, r .size, length-append (map wordFor tasks) (back ∷ []), length-map tasks wordFor)
 
 module _ {day p part : List ℕ} {m : Marks} {at number words : ℕ} (u : Underway day p part m at number words) where
   -- the numbers of a vehicle that goes out are small
@@ -115,6 +101,7 @@ module _ {day p part : List ℕ} {m : Marks} {at number words : ℕ} (u : Underw
     -- the next vehicle takes no stop
     idle-next : {e : List ℕ} {r : Marks} (more : ℕ) → VehicleWritten day (u .taken) (number + 1) lent e r more → more ≡ 0
         → Underway day p (putMid at (length part - at) part e) r (at + more) (number + 1) more
+    unfolding says
     idle-next {e} more w z =
         let none = from-none day (u .taken) (w .none z) in
         let same : Said [] lent e more = rw (w .kept z, z) (said-none lent) in
@@ -125,7 +112,7 @@ module _ {day p part : List ℕ} {m : Marks} {at number words : ℕ} (u : Underw
           said = u .said;
           leftIs = w .left z;
           text = said-same (said-lend (u .text) same) (append-nil (u .said)) refl;
-          rounds = says-none (u .said) number (number + 1) (fleetFrom day (u .taken)) (none .0) ∙ u .rounds;
+          rounds = rw (none .0) (rw (none .0) at (u .rounds));
           routes = u .routes;
           room = omega (arith, u .room);
           few = λ l. absurd (omega arith);
@@ -141,7 +128,7 @@ module _ {day p part : List ℕ} {m : Marks} {at number words : ℕ} (u : Underw
         let some = from-some day (u .taken) (w .some l) in
         let less = vehicle-unmet day (u .taken) in
         let busy = w .some l in
-        let many = round-many (number + 1) (v .tasks) (vehicle-room day (u .taken)) in
+        let long = length-append (map wordFor (v .tasks)) (back ∷ []) in
         record {
           most = u .most;
           fits = u .fits;
@@ -154,7 +141,7 @@ module _ {day p part : List ℕ} {m : Marks} {at number words : ℕ} (u : Underw
               ∙ ap (λ (rs : List Round). u .said ++ says number rs []) (sym (some .0))
               ∙ u .rounds;
           routes = sym (some .1) ∙ u .routes;
-          room = omega (arith, u .room, said-count (d .text), many, vehicle-routes day (u .taken) .visits);
+          room = omega (arith, u .room, said-count (d .text), vehicle-room day (u .taken) .size, length-map (v .tasks) wordFor, vehicle-routes day (u .taken) .visits);
           few = λ k. omega (arith, u .few (omega (arith, h)));
           ended = λ z. absurd (omega arith);
         }

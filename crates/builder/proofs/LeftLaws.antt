@@ -6,7 +6,7 @@ use mathlib.Core.Bool.{Bool, true, false, true≢false}
 use mathlib.Core.List.{List, [], _∷_, _++_, map, map-append, append-assoc, append-nil}
 use mathlib.Core.Logic.{inl, inr}
 use native.Mathlib.Decide.{ℕ-discrete, decLt}
-use native.Mathlib.Nat.{eq-or-lt-of-le}
+use native.Mathlib.Nat.{eq-or-lt-of-le, eq-zero-or-pos}
 use native.Mathlib.Omega.{arith}
 use lib.ListN.{length, set, length-set}
 use Rattle.rules.specs.Lists.{mem}
@@ -61,24 +61,16 @@ listed-unrouted n taken k (suc r) l h =
       | inr e ↦ rw (is, e) (ap (λ (ks : List ℕ). k ∷ ks) others)
     ]
 
--- no number but 1 to n is to be routed
-unrouted-low : (n : ℕ) (taken : List ℕ) → unrouted n taken 0 ≡ false
-unfolding unrouted
-unrouted-low n taken = rw (upTo-low n) refl
-
-unrouted-high : (n : ℕ) (taken : List ℕ) (j : ℕ) → n < j → unrouted n taken j ≡ false
-unfolding unrouted
-unrouted-high n taken j l = rw (upTo-out n j l) refl
-
 -- none of the words is written yet
 leaving-none : (n : ℕ) (taken : List ℕ) {what : List Word} {p part : List ℕ} {at : ℕ} {m : Marks}
     → marked (m .words) ≡ unrouted n taken → Said what p part at → Leaving n what p (marked (m .words)) part at m
+unfolding unrouted
 leaving-none n taken {what} {p} {part} {at} {m} e s = record {
   written = [];
   text = said-same s (sym (append-nil what)) refl;
   whole = refl;
-  low = ap (λ (q : ℕ → Bool). q 0) e ∙ unrouted-low n taken;
-  high = λ j l. ap (λ (q : ℕ → Bool). q j) e ∙ unrouted-high n taken j l;
+  low = ap (λ (q : ℕ → Bool). q 0) e ∙ rw (upTo-low n) refl;
+  high = λ j l. ap (λ (q : ℕ → Bool). q j) e ∙ rw (upTo-out n j l) refl;
 }
 
 -- the word of the lowest marked stop is written, and its mark taken off
@@ -104,25 +96,20 @@ leaving-next {n} {what} {p} {part} {all} {at} {m} k word after g lowest few e sp
     on : marked (m .words) k ≡ true
     on = lowest .isMarked few
 
-    from : Dec (0 < k) → 0 < k
-    from (yes l) = l
-    from (no l) =
-        let z : k ≡ 0 = omega arith in
-        absurd (true≢false (sym on ∙ ap (marked (m .words)) z ∙ g .low))
+    from : 0 < k
+    from = elim (eq-zero-or-pos k) [ inl z ↦ absurd (true≢false (sym on ∙ ap (marked (m .words)) z ∙ g .low)) | inr l ↦ l ]
 
-    to : Dec (n < k) → k ≤ n
-    to (yes l) = absurd (true≢false (sym on ∙ g .high k l))
-    to (no l) = omega arith
+    to : k ≤ n
+    to = elim (decLt n k) [ yes l ↦ absurd (true≢false (sym on ∙ g .high k l)) | no l ↦ omega arith ]
 
     first : listed (marked (m .words)) 1 n ≡ k ∷ listed (without (marked (m .words)) k) 1 n
-    first = listed-lowest (marked (m .words)) k 1 n (from (decLt 0 k)) (omega (arith, to (decLt n k))) (lowest .below) on
-
-    other : (j : ℕ) → marked (m .words) j ≡ false → Dec (j ≡ k) → without (marked (m .words)) k j ≡ false
-    other j e (yes q) = without-same (marked (m .words)) k j q
-    other j e (no q) = without-other (marked (m .words)) k j q ∙ e
+    first = listed-lowest (marked (m .words)) k 1 n from (omega (arith, to)) (lowest .below) on
 
     off : (j : ℕ) → marked (m .words) j ≡ false → marked (after .words) j ≡ false
-    off j e = ap (λ (q : ℕ → Bool). q j) (u .marks) ∙ other j e (ℕ-discrete j k)
+    off j e = ap (λ (q : ℕ → Bool). q j) (u .marks) ∙ elim (ℕ-discrete j k) [
+      | yes q ↦ without-same (marked (m .words)) k j q
+      | no q ↦ without-other (marked (m .words)) k j q ∙ e
+    ]
 
 -- no mark is left, and the words of all stops that remain are written
 leaving-end : (n : ℕ) (taken : List ℕ) (first : Marks) {what : List Word} {p part : List ℕ} {at : ℕ} {m : Marks} (k : ℕ)

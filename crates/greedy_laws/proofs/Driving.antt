@@ -22,7 +22,7 @@ use Rattle.laws.proofs.Fresh.{unmet-most}
 use Rattle.laws.proofs.Lists.{unmet-less}
 use Rattle.greedy_laws.specs.Reached.{Reached, setOut, goesOn}
 use Rattle.laws.proofs.Decided.{known, known-option, bit-most}
-use Rattle.greedy_laws.proofs.NextTasks.{IsNext, takes, empties, waits, next-some}
+use Rattle.greedy_laws.proofs.NextTasks.{IsNext, serves, empties, next-some}
 
 -- the rest before the next task: what the vehicle carries and the stops routed stay, and it is not due again
 module _ (day : List ℕ) (v : Truck) where
@@ -60,9 +60,7 @@ resting-toDo day v = rw (resting-cargo day v, resting-taken day v)
 
 pub next-toDo : (day : List ℕ) (v : Truck) (task : Task) → IsNext day v task → toDo day (doing day v task) < toDo day v
 unfolding toDo metAfter cargoAfter
-next-toDo day v task (takes k c) =
-    omega (arith, unmet-less (stops day) k (v .taken) (c .first) (c .within) (c .new), bit-most (ltb 0 (doing day v task .cargo .load)))
-next-toDo day v task (waits k z c) =
+next-toDo day v task (serves k c s) =
     omega (arith, unmet-less (stops day) k (v .taken) (c .first) (c .within) (c .new), bit-most (ltb 0 (doing day v task .cargo .load)))
 next-toDo day v task (empties x l e o) = rw (lt-ltb 0 (v .cargo .load) l) (omega arith)
 
@@ -145,10 +143,6 @@ module _ (day taken : List ℕ) where
   unfolding toDo
   fresh-toDo = omega (arith, unmet-most (stops day) taken)
 
-  pub vehicle-more : (more : ℕ) → 2 * stops day + 2 ≤ more → drive day more (fresh day taken) ≡ oneVehicle day taken
-  unfolding oneVehicle
-  vehicle-more more = drive-more day (2 * stops day + 2) more (fresh day taken) fresh-toDo
-
   pub vehicle-ended : Ended day (oneVehicle day taken)
   unfolding oneVehicle
   vehicle-ended = drive-ended day (2 * stops day + 2) (fresh day taken) fresh-toDo
@@ -171,8 +165,6 @@ end-some day v task e =
 
 -- every vehicle that is reached is driven to the end of the one that set out
 pub reached-end : (day before : List ℕ) (v : Truck) → Reached day before v → toEnd day v ≡ oneVehicle day before
-unfolding toEnd
-reached-end day before v setOut =
-    sym (drive-more day (suc (toDo day v)) (2 * stops day + 2) v (omega arith) (omega (arith, fresh-toDo day before)))
-    ∙ vehicle-more day before (2 * stops day + 2) (omega arith)
+unfolding toEnd oneVehicle
+reached-end day before v setOut = sym (drive-more day (suc (toDo day v)) (2 * stops day + 2) v (omega arith) (omega (arith, fresh-toDo day before)))
 reached-end day before v (goesOn u task r e) = sym (end-some day u task e) ∙ reached-end day before u r

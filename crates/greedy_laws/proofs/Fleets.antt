@@ -41,28 +41,22 @@ module _ (day : List ℕ) (most : ℕ) (taken : List ℕ) where
   routed-some l = rw (ne-eqb (oneVehicle day taken .cargo .visits) 0 (λ e. omega arith), routed)
 
 -- more vehicles allowed than there can be change nothing
-pub fleet-more : (day : List ℕ) (most more : ℕ) (taken : List ℕ) → unmet (stops day) taken < most → most ≤ more
-    → fleet day more taken ≡ fleet day most taken
-fleet-more day zero more taken h g = absurd (omega arith)
-fleet-more day (suc most) zero taken h g = absurd (omega arith)
-fleet-more day (suc most) (suc more) taken h g = elim (eq-zero-or-pos (oneVehicle day taken .cargo .visits)) [
-  | inl z ↦ fleet-none day more taken z ∙ sym (fleet-none day most taken z)
-  | inr l ↦ fleet-some day more taken l
-      ∙ ap (λ (rounds : List Round). oneVehicle day taken .tasks ∷ rounds)
-      (fleet-more day most more (oneVehicle day taken .taken) (omega (arith, vehicle-unmet day taken)) (omega arith))
-      ∙ sym (fleet-some day most taken l)
+both-more : (day : List ℕ) (most more : ℕ) (taken : List ℕ) → unmet (stops day) taken < most → most ≤ more
+    → (fleet day more taken ≡ fleet day most taken) × (routed day more taken ≡ routed day most taken)
+both-more day zero more taken h g = absurd (omega arith)
+both-more day (suc most) zero taken h g = absurd (omega arith)
+both-more day (suc most) (suc more) taken h g = elim (eq-zero-or-pos (oneVehicle day taken .cargo .visits)) [
+  | inl z ↦ (fleet-none day more taken z ∙ sym (fleet-none day most taken z), routed-none day more taken z ∙ sym (routed-none day most taken z))
+  | inr l ↦
+      let others = both-more day most more (oneVehicle day taken .taken) (omega (arith, vehicle-unmet day taken)) (omega arith) in (
+        rw (fleet-some day more taken l, fleet-some day most taken l, others .0) refl,
+        rw (routed-some day more taken l, routed-some day most taken l, others .1) refl,
+      )
 ]
 
-pub routed-more : (day : List ℕ) (most more : ℕ) (taken : List ℕ) → unmet (stops day) taken < most → most ≤ more
-    → routed day more taken ≡ routed day most taken
-routed-more day zero more taken h g = absurd (omega arith)
-routed-more day (suc most) zero taken h g = absurd (omega arith)
-routed-more day (suc most) (suc more) taken h g = elim (eq-zero-or-pos (oneVehicle day taken .cargo .visits)) [
-  | inl z ↦ routed-none day more taken z ∙ sym (routed-none day most taken z)
-  | inr l ↦ routed-some day more taken l
-      ∙ routed-more day most more (oneVehicle day taken .taken) (omega (arith, vehicle-unmet day taken)) (omega arith)
-      ∙ sym (routed-some day most taken l)
-]
+pub fleet-more : (day : List ℕ) (most more : ℕ) (taken : List ℕ) → unmet (stops day) taken < most → most ≤ more
+    → fleet day more taken ≡ fleet day most taken
+fleet-more day most more taken h g = both-more day most more taken h g .0
 
 -- the vehicles that still go out when some stops are routed, and the stops routed then, with no number of vehicles to count down
 unfoldable pub fleetFrom : List ℕ → List ℕ → List Round
@@ -83,20 +77,16 @@ module _ (day taken : List ℕ) where
   from-some l =
       let most = unmet (stops day) taken in
       let next = oneVehicle day taken .taken in
-      let less = vehicle-unmet day taken in (
-        fleet-some day most taken l
-            ∙ ap (λ (rounds : List Round). oneVehicle day taken .tasks ∷ rounds)
-            (fleet-more day (suc (unmet (stops day) next)) most next (omega arith) (omega arith)),
-        routed-some day most taken l ∙ routed-more day (suc (unmet (stops day) next)) most next (omega arith) (omega arith),
-      )
+      let less = vehicle-unmet day taken in
+      let others = both-more day (suc (unmet (stops day) next)) most next (omega arith) (omega arith) in
+      (rw (fleet-some day most taken l, others .0) refl, routed-some day most taken l ∙ others .1)
 
 pub from-start : (day : List ℕ) → (fleetFrom day [] ≡ greedyRounds day) × (routedFrom day [] ≡ routed day (stops day + 1) [])
 unfolding fleetFrom routedFrom
 from-start day =
-    let most = unmet-most (stops day) [] in (
-      sym (fleet-more day (suc (unmet (stops day) [])) (stops day + 1) [] (omega arith) (omega arith)),
-      sym (routed-more day (suc (unmet (stops day) [])) (stops day + 1) [] (omega arith) (omega arith)),
-    )
+    let most = unmet-most (stops day) [] in
+    let all = both-more day (suc (unmet (stops day) [])) (stops day + 1) [] (omega arith) (omega arith) in
+    (sym (all .0), sym (all .1))
 
 -- the build ends where a fresh vehicle takes none
 pub routed-idle : (day : List ℕ) (most : ℕ) (taken : List ℕ) → unmet (stops day) taken < most

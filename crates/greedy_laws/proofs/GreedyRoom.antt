@@ -27,7 +27,7 @@ use Rattle.laws.proofs.Decided.{bit-most}
 use Rattle.greedy_laws.proofs.Driving.{reached-keeps, vehicle-keeps, resting-keeps}
 use Rattle.greedy_laws.proofs.Fleets.{fleet-every}
 use Rattle.greedy_laws.proofs.GreedyForm.{greedy-busy, greedy-named}
-use Rattle.greedy_laws.proofs.NextTasks.{IsNext, takes, empties, waits}
+use Rattle.greedy_laws.proofs.NextTasks.{IsNext, serves, empties}
 use Rattle.greedy_laws.proofs.VehicleStops.{reached-routes, vehicle-routes, rested-routes}
 use Rattle.greedy_laws.proofs.WaysHome.{due-true}
 
@@ -80,8 +80,7 @@ module _ (day : List ℕ) where
       }
 
   paid-next : (v : Truck) (task : Task) → due day (v .trip) ≡ false → IsNext day v task → Paid v → Paid (doing day v task)
-  paid-next v task e (takes k c) p = paid-serve v k p
-  paid-next v task e (waits k z c) p = paid-serve v k p
+  paid-next v task e (serves k c s) p = paid-serve v k p
   paid-next v task e (empties x l q o) p = paid-empty v x l p
 
   pub paid-fresh : (before : List ℕ) → Paid (fresh day before)
@@ -117,11 +116,7 @@ module _ (day before : List ℕ) where
   pub vehicle-room : Room (oneVehicle day before .tasks)
   vehicle-room = paid-room (oneVehicle day before) (vehicle-routes day before .visits) (vehicle-paid day before)
 
--- the words of a vehicle
-pub round-words : (number : ℕ) (tasks : Round) → Room tasks → length (roundWords number tasks) ≤ 3 + 2 * length (stopsOn tasks)
-round-words number tasks r = omega (arith, r .size, round-length number tasks)
-
--- of vehicles that have a stop each, and of a plan
+-- the words of vehicles that have a stop each, and of a plan
 pub rounds-words : (before : ℕ) (rounds : List Round) → Every Room rounds → Every (λ tasks. 0 < length (stopsOn tasks)) rounds
     → length (roundsWords before rounds) ≤ 5 * length (stopsOnAll rounds)
 unfolding roundsWords stopsOnAll Every
@@ -130,7 +125,8 @@ rounds-words before (tasks ∷ rounds) r b =
     omega (
       arith,
       b .0,
-      round-words (suc before) tasks (r .0),
+      r .0 .size,
+      round-length (suc before) tasks,
       rounds-words (suc before) rounds (r .1) (b .1),
       length-append (roundWords (suc before) tasks) (roundsWords (suc before) rounds),
       length-append (stopsOn tasks) (stopsOnAll rounds),

@@ -24,7 +24,7 @@ use Rattle.laws.proofs.Fresh.{once, times-other, every-weaker, unmet-most}
 use Rattle.laws.proofs.Decided.{known, known-option}
 use Rattle.greedy_laws.proofs.Driving.{resting-trip, resting-cargo, resting-taken, drive-some, drive-keeps}
 use Rattle.greedy_laws.proofs.Fleets.{routed-idle}
-use Rattle.greedy_laws.proofs.NextTasks.{IsNext, takes, empties, waits, next-some, next-none, chosen-empty, none-takeable, none-waitable}
+use Rattle.greedy_laws.proofs.NextTasks.{IsNext, serves, empties, next-some, next-none, chosen-empty, none-takeable, none-waitable}
 
 -- what remains of the r numbers from k on: not routed, and within them
 pub record Remains (taken : List ℕ) (k r j : ℕ) : Type 0 where
@@ -100,16 +100,14 @@ drive-visits day = drive-keeps day (λ v. 0 < v .cargo .visits) (λ v e l. l) do
   where
     does : (v : Truck) (task : Task) → due day (v .trip) ≡ false → IsNext day v task
         → 0 < v .cargo .visits → 0 < doing day v task .cargo .visits
-    does v task e (takes k c) l = omega arith
+    does v task e (serves k c s) l = omega arith
     does v task e (empties x g q o) l = l
-    does v task e (waits k z c) l = omega arith
 
 -- the first task of an empty vehicle is a stop
 next-visits : (day : List ℕ) (v : Truck) (task : Task) → IsNext day v task → v .cargo .load ≡ 0 → 0 < doing day v task .cargo .visits
 unfolding cargoAfter
-next-visits day v task (takes k c) z = omega arith
+next-visits day v task (serves k c s) z = omega arith
 next-visits day v task (empties x l q o) z = absurd (omega arith)
-next-visits day v task (waits k y c) z = omega arith
 
 -- so a fresh vehicle that takes no stop has no task
 pub idle-none : (day taken : List ℕ) → oneVehicle day taken .cargo .visits ≡ 0 → nextTask day (resting day (fresh day taken)) ≡ none

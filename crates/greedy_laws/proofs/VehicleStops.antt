@@ -20,7 +20,7 @@ use Rattle.laws.proofs.Plan.{stops-append}
 use Rattle.plan_laws.proofs.Theorems.{known-all}
 use Rattle.greedy_laws.specs.Reached.{Reached}
 use Rattle.greedy_laws.proofs.Driving.{reached-keeps, vehicle-keeps, resting-keeps}
-use Rattle.greedy_laws.proofs.NextTasks.{IsNext, takes, empties, waits}
+use Rattle.greedy_laws.proofs.NextTasks.{IsNext, serves, empties}
 
 -- a task adds its stop, where it has one
 met-task : (met : List ℕ) (task : Task) → metAfter met (wordFor task) ≡ collect met (stopsOn (task ∷ []))
@@ -39,15 +39,13 @@ visits-task day c lunch = omega arith
 -- the next task's stop is new, and its number is known
 pub next-new : (day : List ℕ) (v : Truck) (task : Task) → IsNext day v task → Fresh (v .taken) (stopsOn (task ∷ []))
 unfolding Fresh stopsOn
-next-new day v task (takes k c) = (c .new, tt)
+next-new day v task (serves k c s) = (c .new, tt)
 next-new day v task (empties x l e o) = tt
-next-new day v task (waits k z c) = (c .new, tt)
 
 pub next-known : (day : List ℕ) (v : Truck) (task : Task) → IsNext day v task → Every (Known day) (task ∷ [])
 unfolding Every Known
-next-known day v task (takes k c) = ((c .first, c .within), tt)
+next-known day v task (serves k c s) = ((c .first, c .within), tt)
 next-known day v task (empties x l e o) = ((o .first, o .within), tt)
-next-known day v task (waits k z c) = ((c .first, c .within), tt)
 
 -- a vehicle that set out when some stops were routed: its own stops were new, and are counted and routed with those
 pub record Routes (day before : List ℕ) (v : Truck) : Type 0 where

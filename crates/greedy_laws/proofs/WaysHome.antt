@@ -2,16 +2,17 @@
 -- Assumes nothing.
 use Prim.Native.Nat.{ℕ, _≤_, _<_}
 use mathlib.Core.Path.{_≡_, refl, sym, _∙_}
-use mathlib.Core.Bool.{Bool, true, false, not, _&&_, _||_, false≢true}
+use mathlib.Core.Bool.{true, false, not, _&&_, _||_, false≢true}
 use mathlib.Core.List.{List}
+use mathlib.Core.Logic.{inl, inr}
 use native.Mathlib.Omega.{arith}
-use lib.Dec.{leb, eqb, ltb}
+use lib.Dec.{leb, eqb}
 use borrow.Author.Tests.{leb-true, eqb-false, not-true, le-ltb, ne-eqb}
-use Rattle.rules.specs.Tests.{if_then_else_}
 use Rattle.rules.specs.Fields.{closing, restOpening, restClosing}
 use Rattle.rules.specs.Trip.{arrival, visited, restStart, restedAt, restFault, backFault}
 use Rattle.rules.specs.Home.{nearestTip, due, restIfDue, homeDirect, homeByTip, homeLoaded, wayHome}
 use Rattle.rules.specs.declared.walk.Trip.{Trip}
+use Rattle.laws.proofs.Decided.{known}
 use Rattle.laws.proofs.Tests.{both-true, only-second}
 
 module _ (day : List ℕ) (t : Trip) where
@@ -74,12 +75,11 @@ pub direct-fault : (day : List ℕ) (t : Trip) → homeDirect day t ≡ true →
 unfolding homeDirect backFault
 direct-fault day t h =
     let p = both-true (leb (arrival day t 0) (closing day 0)) (t .rested || leb (arrival day t 0) (restClosing day)) h in
-    rw (le-ltb (closing day 0) (arrival day t 0) (leb-true _ _ (p .0))) (fed (t .rested) (p .1))
-  where
-    fed : (rested : Bool) → (rested || leb (arrival day t 0) (restClosing day)) ≡ true
-        → _≡_ {A = ℕ} (if rested then 0 else if ltb (restClosing day) (arrival day t 0) then 12 else 0) 0
-    fed true e = refl
-    fed false e = rw (le-ltb (restClosing day) (arrival day t 0) (leb-true _ _ e))
+    rw (le-ltb (closing day 0) (arrival day t 0) (leb-true _ _ (p .0)))
+    (elim (known (t .rested)) [
+      | inl e ↦ rw e refl
+      | inr e ↦ rw (e, le-ltb (restClosing day) (arrival day t 0) (leb-true _ _ (rw e at (p .1)))) refl
+    ])
 
 pub way-home-empty : (day : List ℕ) (t : Trip) → due day t ≡ false → wayHome day t 0 ≡ true → backFault day t ≡ 0
 unfolding wayHome homeLoaded

@@ -1,9 +1,10 @@
 -- Numbers that are each new when they are collected: what that says of how often each occurs, and of which of 1..n are missing.
 -- Assumes nothing.
 use Prim.Native.Nat.{ℕ, zero, suc, _+_, _≤_, _<_}
-use mathlib.Core.Path.{_≡_, refl, ap, _∙_}
-use mathlib.Core.Bool.{Bool, true, false, _||_}
-use mathlib.Core.List.{List, [], _∷_, _++_}
+use mathlib.Core.Path.{_≡_, refl, sym, ap, _∙_, subst}
+use mathlib.Core.Bool.{Bool, true, false}
+use mathlib.Core.List.{List, [], _∷_, _++_, List·Memᴰ, List·Memᴰ·cases-cons, List·Memᴰ·not-nil}
+use mathlib.Core.Logic.{inl, inr}
 use native.Mathlib.Decide.{decLe}
 use native.Mathlib.Omega.{arith}
 use lib.ListN.{length}
@@ -12,6 +13,7 @@ use borrow.Author.Tests.{eq-eqb, ne-eqb, eqb-true}
 use Rattle.rules.specs.Tests.{if_then_else_}
 use Rattle.rules.specs.Lists.{Every, mem, times, unmet}
 use Rattle.laws.specs.Lists.{collect, Fresh}
+use Rattle.laws.proofs.Decided.{known}
 use Rattle.laws.proofs.Least.{up-to-suc}
 use Rattle.laws.proofs.Lists.{unmet-less}
 
@@ -43,13 +45,12 @@ fresh-second met (x ∷ xs) ys f = fresh-second (x ∷ met) xs ys (f .1)
 -- one number more: it stands there once, and what stood there stays
 once-front : (k x : ℕ) (met : List ℕ) → mem x met ≡ false → once k (x ∷ met) ≡ (if eqb k x then 1 else 0) + once k met
 unfolding mem
-once-front k x met e = go (eqb k x) refl
-  where
-    go : (b : Bool) → eqb k x ≡ b → (if b || mem k met then 1 else 0) ≡ (if b then 1 else 0) + once k met
-    go true q =
-        let none : mem k met ≡ false = ap (λ (j : ℕ). mem j met) (eqb-true k x q) ∙ e in
-        rw none
-    go false q = omega arith
+once-front k x met e = elim (known (eqb k x)) [
+  | inl q ↦
+      let none : mem k met ≡ false = ap (λ (j : ℕ). mem j met) (eqb-true k x q) ∙ e in
+      rw (q, none) refl
+  | inr q ↦ rw q (omega arith)
+]
 
 -- each number of a fresh list stands in it as often as it is new among those collected
 pub fresh-times : (met ks : List ℕ) → Fresh met ks → (k : ℕ) → times k ks + once k met ≡ once k (collect met ks)
@@ -57,35 +58,33 @@ unfolding Fresh collect times
 fresh-times met [] f k = omega arith
 fresh-times met (x ∷ ks) f k = omega (arith, once-front k x met (f .0), fresh-times (x ∷ met) ks (f .1) k)
 
+-- a test by what it counts
+counted : (b c : Bool) → _≡_ {A = ℕ} (if b then 1 else 0) (if c then 1 else 0) → b ≡ c
+counted true true e = refl
+counted true false e = absurd (omega arith)
+counted false true e = absurd (omega arith)
+counted false false e = refl
+
 -- and a list in which no number comes too often is fresh
 times-head : (k : ℕ) (ks : List ℕ) → 0 < times k (k ∷ ks)
 unfolding times
 times-head k ks = rw (eq-eqb k k refl) (omega arith)
 
-once-none : (k : ℕ) (met : List ℕ) → once k met ≡ 0 → mem k met ≡ false
-once-none k met e = go (mem k met) e
-  where
-    go : (b : Bool) → _≡_ {A = ℕ} (if b then 1 else 0) 0 → b ≡ false
-    go true z = absurd (omega arith)
-    go false z = refl
-
 pub times-fresh : (met ks : List ℕ) → ((k : ℕ) → times k ks + once k met ≤ 1) → Fresh met ks
 unfolding Fresh times
 times-fresh met [] h = tt
 times-fresh met (x ∷ ks) h =
-    let new : mem x met ≡ false = once-none x met (omega (arith, h x, times-head x ks)) in
+    let new : mem x met ≡ false = counted _ false (omega (arith, h x, times-head x ks)) in
     (new, times-fresh (x ∷ met) ks (λ k. omega (arith, h k, once-front k x met new)))
 
 -- none of 1..n is missing: each stands there
 pub unmet-none : (n : ℕ) (met : List ℕ) → unmet n met ≡ 0 → (k : ℕ) → 1 ≤ k → k ≤ n → mem k met ≡ true
 unfolding unmet
 unmet-none zero met e k h g = absurd (omega arith)
-unmet-none (suc n) met e k h g = go (mem (suc n) met) refl e (unmet-none n met)
-  where
-    go : (b : Bool) → mem (suc n) met ≡ b → (if b then 0 else 1) + unmet n met ≡ 0
-        → (unmet n met ≡ 0 → (k : ℕ) → 1 ≤ k → k ≤ n → mem k met ≡ true) → mem k met ≡ true
-    go true q z rest = up-to-suc (λ j. mem j met ≡ true) n (rest (omega arith)) q k h g
-    go false q z rest = absurd (omega arith)
+unmet-none (suc n) met e k h g = elim (known (mem (suc n) met)) [
+  | inl q ↦ up-to-suc (λ j. mem j met ≡ true) n (unmet-none n met (omega (arith, rw q at e))) q k h g
+  | inr q ↦ absurd (omega (arith, rw q at e))
+]
 
 pub all-met : (n : ℕ) (met : List ℕ) → ((k : ℕ) → 1 ≤ k → k ≤ n → mem k met ≡ true) → unmet n met ≡ 0
 unfolding unmet
@@ -101,11 +100,7 @@ fresh-length n met (k ∷ ks) r f = omega (arith, fresh-length n (k ∷ met) ks 
 pub unmet-most : (n : ℕ) (met : List ℕ) → unmet n met ≤ n
 unfolding unmet
 unmet-most zero met = omega arith
-unmet-most (suc n) met = go (mem (suc n) met) (unmet-most n met)
-  where
-    go : (b : Bool) → unmet n met ≤ n → (if b then 0 else 1) + unmet n met ≤ suc n
-    go true h = omega arith
-    go false h = omega arith
+unmet-most (suc n) met = elim (known (mem (suc n) met)) [ inl q ↦ rw q (omega (arith, unmet-most n met)) | inr q ↦ rw q (omega (arith, unmet-most n met)) ]
 
 -- a number that no element is stands there never
 pub times-other : (k : ℕ) (ks : List ℕ) → Every (λ j. k ≡ j → ⊥) ks → times k ks ≡ 0
@@ -118,6 +113,12 @@ pub every-weaker : {A : Type 0} (P Q : A → Type 0) → ((x : A) → P x → Q 
 unfolding Every
 every-weaker P Q f [] h = tt
 every-weaker P Q f (x ∷ xs) h = (f x (h .0), every-weaker P Q f xs (h .1))
+
+-- what holds of each element holds of one
+pub every-mem : {A : Type 0} (P : A → Type 0) (xs : List A) (x : A) → Every P xs → List·Memᴰ x xs → P x
+unfolding Every
+every-mem P [] x h m = absurd (List·Memᴰ·not-nil m)
+every-mem P (y ∷ xs) x h m = elim (List·Memᴰ·cases-cons m) [ inl e ↦ subst P (sym e) (h .0) | inr n ↦ every-mem P xs x (h .1) n ]
 
 -- a list of two parts
 pub every-append : {A : Type 0} (P : A → Type 0) (xs ys : List A) → Every P xs → Every P ys → Every P (xs ++ ys)
@@ -142,16 +143,9 @@ module _ (n : ℕ) (ks : List ℕ) where
       most k (no a) b = omega (arith, times-other k ks (every-weaker (λ j. (1 ≤ j) × (j ≤ n)) (λ j. k ≡ j → ⊥) (λ j q e. absurd (omega arith)) ks r))
       most k (yes a) (no b) = omega (arith, times-other k ks (every-weaker (λ j. (1 ≤ j) × (j ≤ n)) (λ j. k ≡ j → ⊥) (λ j q e. absurd (omega arith)) ks r))
 
-  once-mem : (k : ℕ) (met : List ℕ) → once k met ≡ 1 → mem k met ≡ true
-  once-mem k met e = go (mem k met) e
-    where
-      go : (b : Bool) → _≡_ {A = ℕ} (if b then 1 else 0) 1 → b ≡ true
-      go true z = refl
-      go false z = absurd (omega arith)
-
   pub once-all : Fresh [] ks → ((k : ℕ) → 1 ≤ k → k ≤ n → times k ks ≡ 1) → unmet n (collect [] ks) ≡ 0
   unfolding mem
-  once-all f h = all-met n (collect [] ks) (λ k a b. once-mem k (collect [] ks) (omega (arith, fresh-times [] ks f k, h k a b)))
+  once-all f h = all-met n (collect [] ks) (λ k a b. counted _ true (omega (arith, fresh-times [] ks f k, h k a b)))
 
   -- and the other way round
   pub fresh-once : Fresh [] ks → unmet n (collect [] ks) ≡ 0 → (k : ℕ) → 1 ≤ k → k ≤ n → times k ks ≡ 1

@@ -2,22 +2,20 @@
 -- Assumes nothing.
 use Prim.Native.Nat.{ℕ, zero, suc, _+_, _≤_, _<_}
 use mathlib.Core.Path.{_≡_, refl, sym, _∙_, subst}
-use mathlib.Core.Bool.{Bool, true, false, _&&_, _||_, true≢false, or-true}
+use mathlib.Core.Bool.{Bool, true, false, _&&_, _||_, true≢false, and-false}
 use mathlib.Core.Logic.{_⊎_, inl, inr, ⊎-elim}
 use native.Mathlib.Nat.{le-antisymm, le-of-suc-le-suc, lt-of-not-le, eq-or-lt-of-le, eq-zero-or-pos}
 use native.Mathlib.Numerals.{add-one}
 use native.Mathlib.Omega.{arith}
 use lib.Dec.{ltb, eqb}
-use borrow.Author.Tests.{ltb-true, ltb-false, eqb-true, eqb-false, lt-ltb, le-ltb, ne-eqb}
+use borrow.Author.Tests.{ltb-true, ltb-false, eqb-true, eqb-false}
 use Rattle.rules.specs.Tests.{if_then_else_, wins, better, least}
 use Rattle.laws.specs.Least.{IsLeast}
 
--- the four ways of a choice between k and the best so far, b
-data Choice (ok : ℕ → Bool) (key : ℕ → ℕ) (k b r : ℕ) : Type 0 where
-  fails : ok k ≡ false → r ≡ b → Choice ok key k b r
-  first : ok k ≡ true → b ≡ 0 → r ≡ k → Choice ok key k b r
-  less : ok k ≡ true → 0 < b → key k < key b → r ≡ k → Choice ok key k b r
-  more : ok k ≡ true → 0 < b → key b ≤ key k → r ≡ b → Choice ok key k b r
+-- a choice between k and the best so far, b: b stays where k fails or has no lesser key, else k is the best
+data Choice (ok : ℕ → Bool) (key : ℕ → ℕ) (k b : ℕ) : ℕ → Type 0 where
+  stays : (b ≡ 0 → ok k ≡ false) → (0 < b → ok k ≡ true → key b ≤ key k) → Choice ok key k b b
+  goes : ok k ≡ true → (0 < b → key k < key b) → Choice ok key k b k
 
 -- no test both holds and fails
 not-both : {x : Bool} → x ≡ true → x ≡ false → ⊥
@@ -35,14 +33,6 @@ module _ (ok : ℕ → Bool) (key : ℕ → ℕ) where
   unfolding better wins
   better-fails k b e = rw e refl
 
-  pub better-none : (k b : ℕ) → ok k ≡ true → b ≡ 0 → better ok key k b ≡ k
-  unfolding better wins
-  better-none k b e z = rw (e, z) refl
-
-  pub better-less : (k b : ℕ) → ok k ≡ true → key k < key b → better ok key k b ≡ k
-  unfolding better wins
-  better-less k b e l = rw (e, lt-ltb _ _ l, or-true) refl
-
   -- the same by the comparison with the best so far
   pub better-wins : (k b : ℕ) → ok k ≡ true → (eqb b 0 || ltb (key k) (key b)) ≡ true → better ok key k b ≡ k
   unfolding better wins
@@ -50,62 +40,39 @@ module _ (ok : ℕ → Bool) (key : ℕ → ℕ) where
 
   pub better-loses : (k b : ℕ) → (eqb b 0 || ltb (key k) (key b)) ≡ false → better ok key k b ≡ b
   unfolding better wins
-  better-loses k b h = rw h (go (ok k))
-    where
-      go : (x : Bool) → (if x && false then k else b) ≡ b
-      go true = refl
-      go false = refl
+  better-loses k b h = rw (h, and-false) refl
 
-  pub better-more : (k b : ℕ) → ok k ≡ true → (b ≡ 0 → ⊥) → key b ≤ key k → better ok key k b ≡ b
-  unfolding better wins
-  better-more k b e z l = rw (e, ne-eqb b 0 z, le-ltb _ _ l) refl
-
-  -- a choice goes one of the four ways
+  -- a choice goes one of the two ways
   choice : (k b : ℕ) → Choice ok key k b (better ok key k b)
   unfolding better wins
   choice k b = go (ok k) (eqb b 0) (ltb (key k) (key b)) refl refl refl
     where
-      go : (x y z : Bool) → ok k ≡ x → eqb b 0 ≡ y → ltb (key k) (key b) ≡ z
-          → Choice ok key k b (if x && (y || z) then k else b)
-      go false y z ex ey ez = fails ex refl
-      go true true z ex ey ez = first ex (eqb-true b 0 ey) refl
-      go true false true ex ey ez = less ex (omega (arith, eqb-false b 0 ey)) (ltb-true _ _ ez) refl
-      go true false false ex ey ez = more ex (omega (arith, eqb-false b 0 ey)) (ltb-false _ _ ez) refl
+      go : (x y z : Bool) → ok k ≡ x → eqb b 0 ≡ y → ltb (key k) (key b) ≡ z → Choice ok key k b (if x && (y || z) then k else b)
+      go false y z ex ey ez = stays (λ _. ex) (λ _ t. absurd (not-both t ex))
+      go true true z ex ey ez = goes ex (λ p. absurd (omega (arith, eqb-true b 0 ey)))
+      go true false true ex ey ez = goes ex (λ _. ltb-true _ _ ez)
+      go true false false ex ey ez = stays (λ z. absurd (eqb-false b 0 ey z)) (λ _ _. ltb-false _ _ ez)
 
   -- the better of the least of 1..m and the number after m is the least of them all
-  least-step : (m b : ℕ) → IsLeast ok key m b → (r : ℕ) → Choice ok key (suc m) b r → IsLeast ok key (suc m) r
-  least-step m b h r (fails e q) = subst (IsLeast ok key (suc m)) (sym q) (record {
+  least-step : (m b : ℕ) {r : ℕ} → IsLeast ok key m b → Choice ok key (suc m) b r → IsLeast ok key (suc m) r
+  least-step m b h (stays none more) = record {
     within = omega (arith, h .within);
-    none = λ z. up-to-suc (λ (k : ℕ). ok k ≡ false) m (h .none z) e;
+    none = λ z. up-to-suc (λ (k : ℕ). ok k ≡ false) m (h .none z) (none z);
     passes = h .passes;
-    minimal = λ z. up-to-suc (λ (k : ℕ). ok k ≡ true → key b ≤ key k) m (h .minimal z) (λ t. absurd (not-both t e));
+    minimal = λ z. up-to-suc (λ (k : ℕ). ok k ≡ true → key b ≤ key k) m (h .minimal z) (more z);
     lowest = h .lowest;
-  })
-  least-step m b h r (first e z q) = subst (IsLeast ok key (suc m)) (sym q) (record {
+  }
+  least-step m b h (goes e less) = record {
     within = omega arith;
     none = λ w. absurd (omega arith);
     passes = λ _. e;
-    minimal = λ _. up-to-suc (λ (k : ℕ). ok k ≡ true → key (suc m) ≤ key k) m
-        (λ k p l t. absurd (not-both t (h .none z k p l)))
-        (λ _. omega arith);
-    lowest = λ _ k p l t. absurd (not-both t (h .none z k p (omega arith)));
-  })
-  least-step m b h r (less e p l q) = subst (IsLeast ok key (suc m)) (sym q) (record {
-    within = omega arith;
-    none = λ w. absurd (omega arith);
-    passes = λ _. e;
-    minimal = λ _. up-to-suc (λ (k : ℕ). ok k ≡ true → key (suc m) ≤ key k) m
-        (λ k a g t. omega (arith, h .minimal p k a g t))
-        (λ _. omega arith);
-    lowest = λ _ k a g t. omega (arith, h .minimal p k a (omega arith) t);
-  })
-  least-step m b h r (more e p l q) = subst (IsLeast ok key (suc m)) (sym q) (record {
-    within = omega (arith, h .within);
-    none = λ w. absurd (omega arith);
-    passes = h .passes;
-    minimal = λ z. up-to-suc (λ (k : ℕ). ok k ≡ true → key b ≤ key k) m (h .minimal z) (λ _. l);
-    lowest = h .lowest;
-  })
+    minimal = λ _. up-to-suc (λ (k : ℕ). ok k ≡ true → key (suc m) ≤ key k) m (λ k p l t. omega (arith, greater k p l t)) (λ _. omega arith);
+    lowest = λ _ k p l t. greater k p (omega arith) t;
+  }
+    where
+      greater : (k : ℕ) → 0 < k → k ≤ m → ok k ≡ true → key (suc m) < key k
+      greater k p l t =
+          ⊎-elim (λ z. absurd (not-both t (h .none z k p l))) (λ w. omega (arith, less w, h .minimal w k p l t)) (eq-zero-or-pos b)
 
   -- what the least is, for every m
   pub least-is : (m : ℕ) → IsLeast ok key m (least ok key m)
@@ -117,7 +84,7 @@ module _ (ok : ℕ → Bool) (key : ℕ → ℕ) where
     minimal = λ z. absurd (omega arith);
     lowest = λ z. absurd (omega arith);
   }
-  least-is (suc m) = least-step m (least ok key m) (least-is m) _ (choice (suc m) (least ok key m))
+  least-is (suc m) = least-step m (least ok key m) (least-is m) (choice (suc m) (least ok key m))
 
   -- no two numbers are the least
   pub least-only : (m r s : ℕ) → IsLeast ok key m r → IsLeast ok key m s → r ≡ s
@@ -133,10 +100,6 @@ module _ (ok : ℕ → Bool) (key : ℕ → ℕ) where
       go (inl x) (inr y) = absurd (not-both (b .passes y) (a .none x s y (b .within)))
       go (inr x) (inl y) = absurd (not-both (a .passes x) (b .none y r x (a .within)))
       go (inr x) (inr y) = le-antisymm (no-later r s a b x y) (no-later s r b a y x)
-
-  -- the least of 1..m is one of them or 0
-  pub least-le : (m r : ℕ) → r ≡ least ok key m → r ≤ m
-  least-le m r e = omega (arith, least-is m .within)
 
   -- of no numbers, and of one number more
   pub least-none : least ok key 0 ≡ 0

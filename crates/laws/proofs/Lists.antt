@@ -28,11 +28,10 @@ get-map f (x ∷ xs) (suc i) d a l = get-map f xs i d a (omega arith)
 -- one entry more of a table is written: what holds of the entries so far, and of this one, holds of all up to it
 pub entries-next : (P : ℕ → ℕ → Type 0) (table : List ℕ) (n x : ℕ) → n < length table → P n x
     → ((u : ℕ) → u < n → P u (getD table u 0)) → (u : ℕ) → u < n + 1 → P u (getD (set table n x) u 0)
-entries-next P table n x l here so-far u h = go (ℕ-discrete u n)
-  where
-    go : Dec (u ≡ n) → P u (getD (set table n x) u 0)
-    go (yes q) = rw (q, getD-set-same table n x 0 l) here
-    go (no q) = rw (getD-set-other table n u x 0 q) (so-far u (omega arith))
+entries-next P table n x l here so-far u h = elim (ℕ-discrete u n) [
+  | yes q ↦ rw (q, getD-set-same table n x 0 l) here
+  | no q ↦ rw (getD-set-other table n u x 0 q) (so-far u (omega arith))
+]
 
 -- a number put in front stands in the list, and each other stands there as before
 pub mem-same : (k j : ℕ) (xs : List ℕ) → j ≡ k → mem j (k ∷ xs) ≡ true
@@ -59,13 +58,12 @@ unmet-beyond (suc n) k xs h = rw (mem-other k (suc n) xs (λ q. omega arith), un
 pub unmet-less : (n k : ℕ) (xs : List ℕ) → 0 < k → k ≤ n → mem k xs ≡ false → unmet n (k ∷ xs) + 1 ≡ unmet n xs
 unfolding unmet
 unmet-less zero k xs h g e = absurd (omega arith)
-unmet-less (suc n) k xs h g e = go (ℕ-discrete (suc n) k) (λ l. unmet-less n k xs h l e)
-  where
-    go : Dec (suc n ≡ k) → (k ≤ n → unmet n (k ∷ xs) + 1 ≡ unmet n xs) → unmet (suc n) (k ∷ xs) + 1 ≡ unmet (suc n) xs
-    go (yes q) rest =
-        let here : mem (suc n) xs ≡ false = ap (λ (j : ℕ). mem j xs) q ∙ e in
-        rw (mem-same k (suc n) xs q, unmet-beyond n k xs (omega arith), here) (omega arith)
-    go (no q) rest = rw (mem-other k (suc n) xs q) (omega (arith, rest (omega arith)))
+unmet-less (suc n) k xs h g e = elim (ℕ-discrete (suc n) k) [
+  | yes q ↦
+      let here : mem (suc n) xs ≡ false = ap (λ (j : ℕ). mem j xs) q ∙ e in
+      rw (mem-same k (suc n) xs q, unmet-beyond n k xs (omega arith), here) (omega arith)
+  | no q ↦ rw (mem-other k (suc n) xs q) (omega (arith, unmet-less n k xs h (omega arith) e))
+]
 
 -- a number in a list of two parts
 pub times-append : (k : ℕ) (xs ys : List ℕ) → times k (xs ++ ys) ≡ times k xs + times k ys

@@ -64,17 +64,14 @@ upTo-zero zero = upTo-low 0
 upTo-zero (suc j) = upTo-out 0 (suc j) (omega arith)
 
 pub upTo-suc : (n : ℕ) → including (upTo n) (n + 1) ≡ upTo (n + 1)
-upTo-suc n = fun-ext (λ j. go j (ℕ-discrete j (n + 1)) (decLt n j))
-  where
-    go : (j : ℕ) → Dec (j ≡ n + 1) → Dec (n < j) → including (upTo n) (n + 1) j ≡ upTo (n + 1) j
-    go j (yes q) l = including-same (upTo n) (n + 1) j q ∙ sym (upTo-in (n + 1) j (omega arith) (omega arith))
-    go j (no q) (yes l) =
-        including-other (upTo n) (n + 1) j q ∙ upTo-out n j l ∙ sym (upTo-out (n + 1) j (omega arith))
-    go zero (no q) (no l) = including-other (upTo n) (n + 1) 0 q ∙ upTo-low n ∙ sym (upTo-low (n + 1))
-    go (suc j) (no q) (no l) =
-        including-other (upTo n) (n + 1) (suc j) q
-        ∙ upTo-in n (suc j) (omega arith) (omega arith)
-        ∙ sym (upTo-in (n + 1) (suc j) (omega arith) (omega arith))
+unfolding upTo
+upTo-suc n = fun-ext (λ j. elim (ℕ-discrete j (n + 1)) [
+  | yes q ↦ including-same (upTo n) (n + 1) j q ∙ sym (upTo-in (n + 1) j (omega arith) (omega arith))
+  | no q ↦ including-other (upTo n) (n + 1) j q ∙ elim (decLt n j) [
+    | yes l ↦ rw (lt-leb j n l, lt-leb j (n + 1) (omega (arith, q))) refl
+    | no l ↦ rw (le-leb j n (omega arith), le-leb j (n + 1) (omega arith)) refl
+  ]
+])
 
 -- a bit that is clear is no mark
 bit-off : {x : ℕ} → x ≡ 0 → eqb x 1 ≡ false
@@ -115,26 +112,24 @@ module _ (ws : List ℕ) (k v : ℕ) (l : k / 64 < length ws) where
   marked-there : ((b : ℕ) → b ≢ k % 64 → bit v b ≡ bit (getD ws (k / 64) 0) b)
       → (j : ℕ) → j ≢ k → marked (set ws (k / 64) v) j ≡ marked ws j
   unfolding marked
-  marked-there others j n = go (ℕ-discrete (j / 64) (k / 64))
-    where
-      go : Dec (j / 64 ≡ k / 64) → marked (set ws (k / 64) v) j ≡ marked ws j
-      go (yes q) =
-          ap (λ (i : ℕ). eqb (bit (getD (set ws (k / 64) v) i 0) (j % 64)) 1) q
-          ∙ ap (λ (w : ℕ). eqb (bit w (j % 64)) 1) (getD-set-same ws (k / 64) v 0 l)
-          ∙ ap (λ (x : ℕ). eqb x 1) (others (j % 64) (λ r. n (omega arith)))
-          ∙ ap (λ (i : ℕ). eqb (bit (getD ws i 0) (j % 64)) 1) (sym q)
-      go (no q) = ap (λ (w : ℕ). eqb (bit w (j % 64)) 1) (getD-set-other ws (k / 64) (j / 64) v 0 q)
+  marked-there others j n = elim (ℕ-discrete (j / 64) (k / 64)) [
+    | yes q ↦
+        ap (λ (i : ℕ). eqb (bit (getD (set ws (k / 64) v) i 0) (j % 64)) 1) q
+        ∙ ap (λ (w : ℕ). eqb (bit w (j % 64)) 1) (getD-set-same ws (k / 64) v 0 l)
+        ∙ ap (λ (x : ℕ). eqb x 1) (others (j % 64) (λ r. n (omega arith)))
+        ∙ ap (λ (i : ℕ). eqb (bit (getD ws i 0) (j % 64)) 1) (sym q)
+    | no q ↦ ap (λ (w : ℕ). eqb (bit w (j % 64)) 1) (getD-set-other ws (k / 64) (j / 64) v 0 q)
+  ]
 
   marked-set : (p : ℕ → Bool)
       → ((b : ℕ) → b ≢ k % 64 → bit v b ≡ bit (getD ws (k / 64) 0) b)
       → eqb (bit v (k % 64)) 1 ≡ p k
       → ((j : ℕ) → j ≢ k → p j ≡ marked ws j)
       → marked (set ws (k / 64) v) ≡ p
-  marked-set p others here there = fun-ext (λ j. go j (ℕ-discrete j k))
-    where
-      go : (j : ℕ) → Dec (j ≡ k) → marked (set ws (k / 64) v) j ≡ p j
-      go j (yes q) = ap (marked (set ws (k / 64) v)) q ∙ marked-here ∙ here ∙ ap p (sym q)
-      go j (no q) = marked-there others j q ∙ sym (there j q)
+  marked-set p others here there = fun-ext (λ j. elim (ℕ-discrete j k) [
+    | yes q ↦ ap (marked (set ws (k / 64) v)) q ∙ marked-here ∙ here ∙ ap p (sym q)
+    | no q ↦ marked-there others j q ∙ sym (there j q)
+  ])
 
 -- a mark is taken off
 pub unmark-words : (ws : List ℕ) (k : ℕ) → marked ws k ≡ true
@@ -178,30 +173,28 @@ mark-words ws k within e = record {
 -- where the words before word i have no mark: word i is 0 and has none either, or its lowest bit is the lowest mark
 module _ (ws : List ℕ) (i : ℕ) (none : (j : ℕ) → j < i * 64 → marked ws j ≡ false) where
   pub lowest-next : getD ws i 0 ≡ 0 → (j : ℕ) → j < (i + 1) * 64 → marked ws j ≡ false
-  lowest-next e j l = go (decLt j (i * 64))
-    where
-      go : Dec (j < i * 64) → marked ws j ≡ false
-      go (yes h) = none j h
-      go (no h) =
-          let q : j / 64 ≡ i = omega arith in
-          marked-clear ws j (ap (λ (n : ℕ). getD ws n 0) q ∙ e)
+  lowest-next e j l = elim (decLt j (i * 64)) [
+    | yes h ↦ none j h
+    | no h ↦
+        let q : j / 64 ≡ i = omega arith in
+        marked-clear ws j (ap (λ (n : ℕ). getD ws n 0) q ∙ e)
+  ]
 
   pub lowest-word : (n t : ℕ) → i < n → LowestBit 64 (getD ws i 0) t → Lowest (marked ws) (n * 64) (i * 64 + t)
   unfolding marked
   lowest-word n t l b = record {
     within = omega (arith, b .within);
-    below = λ j h. go j h (decLt j (i * 64));
+    below = λ j h. elim (decLt j (i * 64)) [
+      | yes g ↦ none j g
+      | no g ↦
+          let q : j / 64 ≡ i = omega (arith, b .within) in
+          bit-off (ap (λ (n : ℕ). bit (getD ws n 0) (j % 64)) q ∙ b .below (j % 64) (omega (arith, b .within)))
+    ];
     isMarked = λ _.
         let q : (i * 64 + t) / 64 ≡ i = omega (arith, b .within) in
         let r : (i * 64 + t) % 64 ≡ t = omega (arith, b .within) in
         eq-eqb _ _ (ap₂ (λ (n c : ℕ). bit (getD ws n 0) c) q r ∙ b .isSet);
   }
-    where
-      go : (j : ℕ) → j < i * 64 + t → Dec (j < i * 64) → marked ws j ≡ false
-      go j h (yes g) = none j g
-      go j h (no g) =
-          let q : j / 64 ≡ i = omega (arith, b .within) in
-          bit-off (ap (λ (n : ℕ). bit (getD ws n 0) (j % 64)) q ∙ b .below (j % 64) (omega (arith, b .within)))
 
 -- words that are all 0 have no marks
 getD-replicate-default : {A : Type 0} (n i : ℕ) (d : A) → getD (replicate n d) i d ≡ d

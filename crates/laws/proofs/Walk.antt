@@ -4,7 +4,9 @@ use Prim.Native.Nat.{ℕ, zero, suc, _+_, _-_, _*_, _/_, _%_, _^_, _≤_, _<_, m
 use mathlib.Core.Path.{_≡_, refl, sym, ap, ap₂, _∙_}
 use mathlib.Core.Bool.{Bool, true, false, and-false}
 use mathlib.Core.List.{List}
-use native.Mathlib.Decide.{ℕ-discrete, decLt, le-ind}
+use mathlib.Core.Logic.{⊎-elim}
+use native.Mathlib.Nat.{eq-or-lt-of-le}
+use native.Mathlib.Decide.{ℕ-discrete, decLt}
 use native.Mathlib.Omega.{arith}
 use lib.ListN.{getD}
 use lib.Dec.{eqb}
@@ -30,14 +32,12 @@ module _ (ok : ℕ → Bool) (key : ℕ → ℕ) (word first before : ℕ) where
 
   best-skip : (a b : ℕ) → a ≤ b → ((j : ℕ) → a ≤ j → j < b → bit word j ≡ 0)
       → bestOf ok key word first before b ≡ bestOf ok key word first before a
-  best-skip a b l = le-ind (λ (m : ℕ). Clear m → bestOf ok key word first before m ≡ bestOf ok key word first before a) (λ _. refl) step b l
-    where
-      Clear : ℕ → Type 0
-      Clear m = (j : ℕ) → a ≤ j → j < m → bit word j ≡ 0
-
-      step : (m : ℕ) → a ≤ m → (Clear m → bestOf ok key word first before m ≡ bestOf ok key word first before a)
-          → Clear (suc m) → bestOf ok key word first before (suc m) ≡ bestOf ok key word first before a
-      step m g ih clear = best-clear m (clear m g (omega arith)) ∙ ih (λ j x y. clear j x (omega arith))
+  unfolding bestOf
+  best-skip a zero l clear = let none : 0 ≡ a = omega arith in ap (bestOf ok key word first before) none
+  best-skip a (suc b) l clear = ⊎-elim
+      (λ (q : a ≡ suc b). ap (bestOf ok key word first before) (sym q))
+      (λ (w : a < suc b). best-clear b (clear b (omega arith) (omega arith)) ∙ best-skip a b (omega arith) (λ j x y. clear j x (omega arith)))
+      (eq-or-lt-of-le l)
 
   -- the walk begins with all bits of the word
   pub walk-start : (rest best : ℕ) → rest ≡ word → best ≡ before → WordWalk ok key word first before rest best
@@ -56,21 +56,16 @@ module _ (ok : ℕ → Bool) (key : ℕ → ℕ) (word first before : ℕ) where
   walk-next rest best b h low e = record {
     at = suc b;
     within = omega (arith, low .within);
-    below = λ j l. below j l (ℕ-discrete j b);
+    below = λ j l. elim (ℕ-discrete j b) [
+      | yes x ↦ ap (bit (rest - 2 ^ b)) x ∙ bit-sub-same b rest (low .isSet)
+      | no x ↦ bit-sub-other b rest j (low .isSet) x ∙ low .below j (omega (arith, x))
+    ];
     same = λ j l. bit-sub-other b rest j (low .isSet) (λ (x : j ≡ b). omega arith) ∙ h .same j (omega (arith, reached));
     soFar = e ∙ ap (better ok key (first + b)) passed ∙ sym (best-set b (sym (h .same b reached) ∙ low .isSet));
   }
     where
-      below : (j : ℕ) → j < suc b → Dec (j ≡ b) → bit (rest - 2 ^ b) j ≡ 0
-      below j l (yes x) = ap (bit (rest - 2 ^ b)) x ∙ bit-sub-same b rest (low .isSet)
-      below j l (no x) = bit-sub-other b rest j (low .isSet) x ∙ low .below j (omega arith)
-
-      not-before : Dec (b < h .at) → h .at ≤ b
-      not-before (yes l) = absurd (omega (arith, h .below b l, low .isSet))
-      not-before (no l) = omega arith
-
       reached : h .at ≤ b
-      reached = not-before (decLt b (h .at))
+      reached = elim (decLt b (h .at)) [ yes l ↦ absurd (omega (arith, h .below b l, low .isSet)) | no l ↦ omega arith ]
 
       passed : best ≡ bestOf ok key word first before b
       passed = h .soFar ∙ sym (best-skip (h .at) b reached (λ j x y. sym (h .same j x) ∙ low .below j y))
@@ -139,27 +134,22 @@ module _ (ws : List ℕ) (q : ℕ → Bool) (key : ℕ → ℕ) (n i before : �
       → bestOf (both (upTo n) q) key (getD ws i 0) (i * 64) before m ≡ leastBelow (both (marked ws) q) key n (i * 64 + m)
   unfolding bestOf
   word-bits zero l = let here : i * 64 ≡ i * 64 + 0 = omega arith in e ∙ ap (leastBelow (both (marked ws) q) key n) here
-  word-bits (suc m) l = go (eqb (bit (getD ws i 0) m) 1) (mark-bit ws i m (omega arith)) (word-bits m (omega arith))
+  word-bits (suc m) l =
+      go (eqb (bit (getD ws i 0) m) 1) (mark-bit ws i m (omega arith))
+      ∙ ap (better (both (upTo n) (both (marked ws) q)) key (i * 64 + m)) (word-bits m (omega arith))
+      ∙ below-next (both (marked ws) q) key n (i * 64 + m)
+      ∙ ap (leastBelow (both (marked ws) q) key n) more
     where
+      so-far : ℕ
+      so-far = bestOf (both (upTo n) q) key (getD ws i 0) (i * 64) before m
+
       more : suc (i * 64 + m) ≡ i * 64 + suc m
       more = omega arith
 
       go : (b : Bool) → marked ws (i * 64 + m) ≡ b
-          → bestOf (both (upTo n) q) key (getD ws i 0) (i * 64) before m ≡ leastBelow (both (marked ws) q) key n (i * 64 + m)
-          → (if b
-          then better (both (upTo n) q) key (i * 64 + m) (bestOf (both (upTo n) q) key (getD ws i 0) (i * 64) before m)
-          else bestOf (both (upTo n) q) key (getD ws i 0) (i * 64) before m)
-          ≡ leastBelow (both (marked ws) q) key n (i * 64 + suc m)
-      go true h ih =
-          ap (better (both (upTo n) q) key (i * 64 + m)) ih
-          ∙ better-same _ _ key (i * 64 + m) _ (asked (upTo n) (marked ws) q (i * 64 + m) h)
-          ∙ below-next (both (marked ws) q) key n (i * 64 + m)
-          ∙ ap (leastBelow (both (marked ws) q) key n) more
-      go false h ih =
-          ih
-          ∙ sym (better-fails _ key (i * 64 + m) _ (not-asked (upTo n) (marked ws) q (i * 64 + m) h))
-          ∙ below-next (both (marked ws) q) key n (i * 64 + m)
-          ∙ ap (leastBelow (both (marked ws) q) key n) more
+          → (if b then better (both (upTo n) q) key (i * 64 + m) so-far else so-far) ≡ better (both (upTo n) (both (marked ws) q)) key (i * 64 + m) so-far
+      go true h = better-same _ _ key (i * 64 + m) _ (asked (upTo n) (marked ws) q (i * 64 + m) h)
+      go false h = sym (better-fails _ key (i * 64 + m) _ (not-asked (upTo n) (marked ws) q (i * 64 + m) h))
 
   pub word-next : (word : ℕ) {best : ℕ} → word ≡ getD ws i 0 → best ≡ bestOf (both (upTo n) q) key word (i * 64) before 64
       → best ≡ leastBelow (both (marked ws) q) key n ((i + 1) * 64)

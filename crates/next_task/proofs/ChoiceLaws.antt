@@ -99,12 +99,10 @@ regrouped true true true true home = and-true home
 
 -- a word has one lowest bit
 lowest-same : (size x a b : ℕ) → LowestBit size x a → LowestBit size x b → a ≡ b
-lowest-same size x a b la lb = go (decLt a b) (decLt b a)
-  where
-    go : Dec (a < b) → Dec (b < a) → a ≡ b
-    go (yes l) g = absurd (omega (arith, lb .below a l, la .isSet))
-    go (no h) (yes l) = absurd (omega (arith, la .below b l, lb .isSet))
-    go (no h) (no g) = omega arith
+lowest-same size x a b la lb = elim (decLt a b) [
+  | yes l ↦ absurd (omega (arith, lb .below a l, la .isSet))
+  | no h ↦ elim (decLt b a) [ yes l ↦ absurd (omega (arith, la .below b l, lb .isSet)) | no g ↦ omega arith ]
+]
 
 -- a key is small
 key-small : (near : Bool) (day : List ℕ) (t : Trip) (k : ℕ) → keyOf near day t k < keysEnd

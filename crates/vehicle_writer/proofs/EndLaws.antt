@@ -41,12 +41,6 @@ module _ {day : List ℕ} {layout : Layout} {part : List ℕ} {at : ℕ} {r : Re
       let size = rested-room day (g .before) v (g .going .reached) .size in
       omega (arith, going-at (g .going), size, routes .visits, routes-unmet day (g .before) (resting day v) routes, g .some)
 
-  end-space : at < length part
-  end-space = omega (arith, end-room, g .room, g .going .text .text .size)
-
-  end-few : at < 1280
-  end-few = omega (arith, end-room, unmet-most (stops day) (g .before))
-
 going-end : {day before : List ℕ} {layout : Layout} {number : ℕ} {p part : List ℕ} {at : ℕ} {r : Ready} → Going day layout before number p part at r
     → isTask (r .next) ≡ false → at < length part → VehicleDone day before number p (set part at backWord) (r .state .left) (at + 1)
 going-end {day} {before} {layout} {number} {p} {part} {at} {r} g e l =
@@ -74,10 +68,10 @@ module _ {day : List ℕ} {layout : Layout} {old : List ℕ} {from : ℕ} {first
       }
 
   pub still-space : at < length part
-  still-space = end-space still
+  still-space = omega (arith, end-room still, g .room, still .going .text .text .size)
 
   pub still-few : at < 1280
-  still-few = end-few still
+  still-few = omega (arith, end-room still, unmet-most (stops day) (g .before))
 
   pub still-size : (word : ℕ) → length (set part at word) ≡ length old
   still-size word = length-set part at word ∙ still .going .text .text .size ∙ sym (g .going .text .text .size)

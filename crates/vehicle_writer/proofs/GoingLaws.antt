@@ -12,7 +12,7 @@ use lib.ListN.{length, length-map, set, length-set}
 use borrow.Author.Tests.{lt-ltb}
 use Rattle.rules.specs.Lists.{mem, unmet}
 use Rattle.rules.specs.Fields.{stops, stopPlace}
-use Rattle.rules.specs.PlanWords.{vehicle, rest, wordOf, restWord}
+use Rattle.rules.specs.PlanWords.{rest, wordOf, restWord}
 use Rattle.rules.specs.Plan.{Task, serve, empty, lunch, Round, stopsOn, wordFor}
 use Rattle.rules.specs.Cargo.{cargoAfter, emptied}
 use Rattle.rules.specs.Trip.{visited}
@@ -40,7 +40,7 @@ use Rattle.greedy_laws.specs.States.{unrouted}
 use Rattle.greedy_laws.specs.Rooms.{Paid, Room}
 use Rattle.greedy_laws.proofs.Driving.{resting-due, resting-not}
 use Rattle.greedy_laws.proofs.GreedyRoom.{tasks-counted, rested-paid, rested-room, reached-room}
-use Rattle.greedy_laws.proofs.NextTasks.{IsNext, takes, empties, waits, next-some}
+use Rattle.greedy_laws.proofs.NextTasks.{IsNext, serves, empties, next-some}
 use Rattle.greedy_laws.proofs.SmallTrucks.{SmallTruck, reached-small, rested-small}
 use Rattle.greedy_laws.proofs.VehicleStops.{Routes, routes-unmet, rested-routes, reached-routes, next-new}
 use Rattle.next_task.specs.NextBy.{nextOf, NextWithin, isTask}
@@ -59,11 +59,10 @@ unrouted-new n taken k l h e = unrouted-in n taken k l h ∙ ap not e
 
 unrouted-next : (n : ℕ) (taken : List ℕ) (k : ℕ) → without (unrouted n taken) k ≡ unrouted n (k ∷ taken)
 unfolding unrouted
-unrouted-next n taken k = fun-ext (λ j. go j (ℕ-discrete j k))
-  where
-    go : (j : ℕ) → Dec (j ≡ k) → without (unrouted n taken) k j ≡ unrouted n (k ∷ taken) j
-    go j (yes q) = without-same (unrouted n taken) k j q ∙ rw (mem-same k j taken q) (sym (and-false (upTo n j)))
-    go j (no q) = without-other (unrouted n taken) k j q ∙ rw (mem-other k j taken q)
+unrouted-next n taken k = fun-ext (λ j. elim (ℕ-discrete j k) [
+  | yes q ↦ without-same (unrouted n taken) k j q ∙ rw (mem-same k j taken q) (sym (and-false (upTo n j)))
+  | no q ↦ without-other (unrouted n taken) k j q ∙ rw (mem-other k j taken q) refl
+])
 
 left-unmarked : (day taken : List ℕ) (k : ℕ) (m r : Marks) → LeftOf day taken m → 0 < k → k ≤ stops day → mem k taken ≡ false
     → Unmarked (m .words) k (r .words) → LeftOf day (k ∷ taken) r
@@ -86,14 +85,11 @@ truck-small {day} {before} v l t c q r w =
 
 -- room for a task and a rest behind it: a stop is still to be routed, or a stop pays for the tip
 module _ (day before : List ℕ) (v : Truck) (r : Routes day before v) (p : Paid v) where
-  stop-room : (k : ℕ) → 0 < k → k ≤ stops day → mem k (v .taken) ≡ false → length (v .tasks) + 2 < 5 * unmet (stops day) before
-  stop-room k l h e =
-      let once = bit-most (v .trip .rested) in
-      omega (arith, r .visits, p .tips, p .rests, tasks-counted (v .tasks), routes-unmet day before v r, unmet-less (stops day) k (v .taken) l h e)
-
   pub next-room : (task : Task) → IsNext day v task → length (v .tasks) + 2 < 5 * unmet (stops day) before
-  next-room task (takes k c) = stop-room k (c .first) (c .within) (c .new)
-  next-room task (waits k z c) = stop-room k (c .first) (c .within) (c .new)
+  next-room task (serves k c s) =
+      let once = bit-most (v .trip .rested) in
+      let less = unmet-less (stops day) k (v .taken) (c .first) (c .within) (c .new) in
+      omega (arith, r .visits, p .tips, p .rests, tasks-counted (v .tasks), routes-unmet day before v r)
   next-room task (empties x l q o) =
       let once = bit-most (v .trip .rested) in
       let tips = rw (lt-ltb 0 (v .cargo .load) l) at (p .tips) in

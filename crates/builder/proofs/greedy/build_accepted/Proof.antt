@@ -11,9 +11,6 @@ write-plan-requires c κs =
     let p = c .before .before .before .before .before .pre in
     (p .0, omega (arith, accepted-ranges _ (p .1) .stopsMost, p .0 .stopsAre), c .before .if1 .left)
 
-part-check-accepted-end : tie.Need-part-check-accepted-end
-part-check-accepted-end c = search plan-fits
-
 pub build-accepted-spec : {M : Type 1} → statement M
 build-accepted-spec =
     tie.close
@@ -23,7 +20,7 @@ build-accepted-spec =
     write-plan-requires
     (λ c. search needs)
     (λ c. search needs)
-    part-check-accepted-end
+    (λ c. search plan-fits)
     (λ c κs. search needs)
     (λ c. search needs)
     (λ c. search needs)

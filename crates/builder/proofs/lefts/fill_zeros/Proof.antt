@@ -13,20 +13,8 @@ Inv-loop part₀ from to at₀ part at = Wrote (zeros part₀ from at) part₀ p
 abbrev μ-loop : tie.MeasureT-loop
 μ-loop part₀ from to at₀ part at = to - at
 
-loop-holds : tie.Need-loop-holds Inv-loop μ-loop
-loop-holds c = (zeros-start _ _ (omega (arith, c .pre .0, c .pre .1)), omega arith, c .pre .0)
-
 slice-write-part : tie.Need-slice-write-part Inv-loop μ-loop
 slice-write-part c = let i = c .before .loop .inv in let p = c .before .before .pre in omega (arith, i .0 .size, p .1, c .loop-test .taken)
-
-mul-part : tie.Need-mul-part Inv-loop μ-loop
-mul-part c = let i = slice-write-part c in search needs
-
-add-at : tie.Need-add-at Inv-loop μ-loop
-add-at c = let i = slice-write-part c in search needs
-
-loop-less : tie.Need-loop-less Inv-loop μ-loop
-loop-less c = omega (arith, c .loop-test .taken)
 
 loop-again : tie.Need-loop-again Inv-loop μ-loop
 loop-again c =
@@ -34,23 +22,17 @@ loop-again c =
     let p = c .before .before .pre in
     (zeros-next (i .0) (i .1) (omega (arith, p .1, c .loop-test .taken)), omega (arith, i .1), omega (arith, c .loop-test .taken))
 
-same-length : tie.Need-same-length Inv-loop μ-loop
-same-length c = c .before .loop .inv .0 .size
-
-returns : tie.Need-returns Inv-loop μ-loop
-returns c = let i = c .before .loop .inv in zeros-end _ _ (i .0) (omega (arith, i .2, c .loop-test .left))
-
 pub fill-zeros-spec : {M : Type 1} → statement M
 fill-zeros-spec =
     tie.close
     (tie.spec
     Inv-loop
     μ-loop
-    loop-holds
-    mul-part
+    (λ c. (zeros-start _ _ (omega (arith, c .pre .0, c .pre .1)), omega arith, c .pre .0))
+    (λ c. let i = slice-write-part c in search needs)
     slice-write-part
-    add-at
-    loop-less
+    (λ c. let i = slice-write-part c in search needs)
+    (λ c. omega (arith, c .loop-test .taken))
     loop-again
-    same-length
-    returns)
+    (λ c. c .before .loop .inv .0 .size)
+    (λ c. let i = c .before .loop .inv in zeros-end _ _ (i .0) (omega (arith, i .2, c .loop-test .left))))

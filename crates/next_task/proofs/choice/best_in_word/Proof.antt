@@ -11,37 +11,19 @@ Inv-loop day layout trip cargo near word first best₀ rest₀ best rest = Walke
 abbrev μ-loop : tie.MeasureT-loop
 μ-loop day layout trip cargo near word first best₀ rest₀ best rest = rest
 
-loop-holds : tie.Need-loop-holds Inv-loop μ-loop
-loop-holds c = search word-start
-
-lowest-bit-requires : tie.Need-lowest-bit-requires Inv-loop μ-loop
-lowest-bit-requires c κs = omega arith
-
-add-better-stop : tie.Need-add-better-stop Inv-loop μ-loop
-add-better-stop c = omega (arith, c .lowest-bit .ensures .within)
-
-better-stop-requires : tie.Need-better-stop-requires Inv-loop μ-loop
-better-stop-requires c κs = (search needs, (search next-candidate, search needs))
-
-loop-less : tie.Need-loop-less Inv-loop μ-loop
-loop-less c = omega (arith, c .before .before .before .before .from-candidate .ensures .fewer)
-
-loop-again : tie.Need-loop-again Inv-loop μ-loop
-loop-again c = search word-next
-
 pub best-in-word-spec : {M : Type 1} → statement M
 best-in-word-spec =
     tie.close
     (tie.spec
     Inv-loop
     μ-loop
-    loop-holds
+    (λ c. search word-start)
     (λ c κs. search needs)
     (λ c. (search needs, search word-over))
-    lowest-bit-requires
-    add-better-stop
-    better-stop-requires
+    (λ c κs. omega arith)
+    (λ c. omega (arith, c .lowest-bit .ensures .within))
+    (λ c κs. (search needs, (search next-candidate, search needs)))
     (λ c κs. search needs)
-    loop-less
-    loop-again
+    (λ c. omega (arith, c .before .before .before .before .from-candidate .ensures .fewer))
+    (λ c. search word-next)
     (λ c. (search needs, search word-end)))

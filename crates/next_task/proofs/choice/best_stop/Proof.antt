@@ -22,9 +22,6 @@ Inv-loop day layout trip cargo near left best₀ i₀ best i =
 abbrev μ-loop : tie.MeasureT-loop
 μ-loop day layout trip cargo near left best₀ i₀ best i = 4 - i
 
-loop-holds : tie.Need-loop-holds Inv-loop μ-loop
-loop-holds c = (search needs, none-so-far _ _, below-none _ _ _)
-
 loop-again : tie.Need-loop-again Inv-loop μ-loop
 loop-again c =
     let l = c .before .before .before .loop in
@@ -42,7 +39,7 @@ best-stop-spec =
     (tie.spec
     Inv-loop
     μ-loop
-    loop-holds
+    (λ c. (search needs, none-so-far _ _, below-none _ _ _))
     (λ c. search needs)
     (λ c. search needs)
     (λ c. search needs)

@@ -4,9 +4,6 @@ use Rattle.next_task.proofs.ChoiceLaws.{fit-home, served-trip}
 use Rattle.next_task.proofs.choice.is_suited.Statement.{statement}
 use Rattle.next_task.proofs.choice.is_suited.Tie as tie
 
-is-way-home-requires : tie.Need-is-way-home-requires
-is-way-home-requires c κs = (search needs, search served-trip)
-
 pub is-suited-spec : {M : Type 1} → statement M
 is-suited-spec =
     tie.close
@@ -14,5 +11,5 @@ is-suited-spec =
     (λ c κs. search needs)
     (λ c κs. search needs)
     (λ c. search needs)
-    is-way-home-requires
+    (λ c κs. (search needs, search served-trip))
     (λ c. search fit-home))

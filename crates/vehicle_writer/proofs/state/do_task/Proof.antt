@@ -17,15 +17,6 @@ empty-load-requires c κs =
     let w = rw (c .before .next2 .given .1) at (p .1) in
     (p .0, w .0, w .1)
 
-returns : tie.Need-returns
-returns c = rw (c .before .before .next .given .1) (c .serve-stop .ensures)
-
-returns-2 : tie.Need-returns-2
-returns-2 c = rw (c .before .before .next2 .given .1) (c .empty-load .ensures)
-
-returns-3 : tie.Need-returns-3
-returns-3 c = rw (c .enum-told .given .1) refl
-
 pub do-task-spec : {M : Type 1} → statement M
 do-task-spec =
     tie.close
@@ -35,6 +26,6 @@ do-task-spec =
     (λ c. search needs)
     empty-load-requires
     (λ c. search needs)
-    returns
-    returns-2
-    returns-3)
+    (λ c. rw (c .before .before .next .given .1) (c .serve-stop .ensures))
+    (λ c. rw (c .before .before .next2 .given .1) (c .empty-load .ensures))
+    (λ c. rw (c .enum-told .given .1) refl))

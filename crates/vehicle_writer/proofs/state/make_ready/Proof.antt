@@ -4,13 +4,10 @@ use borrow.Author.Needs.{needs}
 use Rattle.vehicle_writer.proofs.state.make_ready.Statement.{statement}
 use Rattle.vehicle_writer.proofs.state.make_ready.Tie as tie
 
-next-task-requires : tie.Need-next-task-requires
-next-task-requires c κs = search (needs, rested-trip, rested-cargo)
-
 pub make-ready-spec : {M : Type 1} → statement M
 make-ready-spec =
     tie.close
     (tie.spec
     (λ c κs. search needs)
-    next-task-requires
+    (λ c κs. search (needs, rested-trip, rested-cargo))
     (λ c. search needs))

@@ -5,13 +5,10 @@ use borrow.Author.Needs.{needs}
 use Rattle.vehicle_writer.proofs.state.set_out.Statement.{statement}
 use Rattle.vehicle_writer.proofs.state.set_out.Tie as tie
 
-make-ready-requires : tie.Need-make-ready-requires
-make-ready-requires c κs = search fresh-small
-
 pub set-out-spec : {M : Type 1} → statement M
 set-out-spec =
     tie.close
     (tie.spec
     (λ c κs. search needs)
-    make-ready-requires
+    (λ c κs. search fresh-small)
     (λ c. search fresh-ready))

@@ -10,15 +10,6 @@ stop-word-requires c κs = rw (c .before .next .given .1) at (c .before .before 
 tip-word-requires : tie.Need-tip-word-requires
 tip-word-requires c κs = rw (c .before .next2 .given .1) at (c .before .before .before .pre)
 
-returns : tie.Need-returns
-returns c = rw (c .before .before .next .given .1) (stop-made _ (stop-word-requires (c .before) _) (c .stop-word .ensures))
-
-returns-2 : tie.Need-returns-2
-returns-2 c = rw (c .before .before .next2 .given .1) (tip-made _ (tip-word-requires (c .before) _) (c .tip-word .ensures))
-
-returns-3 : tie.Need-returns-3
-returns-3 c = rw (c .enum-told .given .1) back-form
-
 pub word-of-spec : {M : Type 1} → statement M
 word-of-spec =
     tie.close
@@ -28,6 +19,6 @@ word-of-spec =
     (λ c. search needs)
     tip-word-requires
     (λ c. search needs)
-    returns
-    returns-2
-    returns-3)
+    (λ c. rw (c .before .before .next .given .1) (stop-made _ (stop-word-requires (c .before) _) (c .stop-word .ensures)))
+    (λ c. rw (c .before .before .next2 .given .1) (tip-made _ (tip-word-requires (c .before) _) (c .tip-word .ensures)))
+    (λ c. rw (c .enum-told .given .1) back-form))

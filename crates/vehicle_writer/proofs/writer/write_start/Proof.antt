@@ -5,9 +5,6 @@ use borrow.Author.Needs.{needs}
 use Rattle.vehicle_writer.proofs.writer.write_start.Statement.{statement}
 use Rattle.vehicle_writer.proofs.writer.write_start.Tie as tie
 
-same-length : tie.Need-same-length
-same-length c = search rest-size
-
 pub write-start-spec : {M : Type 1} → statement M
 write-start-spec =
     tie.close
@@ -16,5 +13,5 @@ write-start-spec =
     (λ c. search needs)
     (λ c κs. search needs)
     (λ c κs. search needs)
-    same-length
+    (λ c. search rest-size)
     (λ c. search start-said))

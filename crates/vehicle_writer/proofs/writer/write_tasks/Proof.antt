@@ -13,43 +13,19 @@ Inv-loop day layout part₀ from ready₀ at₀ part ready at = GoesOn day layou
 abbrev μ-loop : tie.MeasureT-loop
 μ-loop day layout part₀ from ready₀ at₀ part ready at = 1280 - at
 
-loop-holds : tie.Need-loop-holds Inv-loop μ-loop
-loop-holds c = λ before number p g. g
-
-write-task-requires : tie.Need-write-task-requires Inv-loop μ-loop
-write-task-requires c κs = search still-ahead
-
-loop-less : tie.Need-loop-less Inv-loop μ-loop
-loop-less c = search still-less
-
-loop-again : tie.Need-loop-again Inv-loop μ-loop
-loop-again c = search goes-further
-
-mul-part : tie.Need-mul-part Inv-loop μ-loop
-mul-part c = omega (arith, still-few (c .before .before .before .before .before .pre) (c .before .before .loop .inv))
-
-slice-write-part : tie.Need-slice-write-part Inv-loop μ-loop
-slice-write-part c = search still-space
-
-add-t14 : tie.Need-add-t14 Inv-loop μ-loop
-add-t14 c = omega (arith, still-few (c .before .before .before .before .before .before .before .pre) (c .before .before .before .before .loop .inv))
-
-same-length : tie.Need-same-length Inv-loop μ-loop
-same-length c = search still-size
-
 pub write-tasks-spec : {M : Type 1} → statement M
 write-tasks-spec =
     tie.close
     (tie.spec
     Inv-loop
     μ-loop
-    loop-holds
+    (λ c. λ before number p g. g)
     (λ c κs. search needs)
-    write-task-requires
-    loop-less
-    loop-again
-    mul-part
-    slice-write-part
-    add-t14
-    same-length
+    (λ c κs. search still-ahead)
+    (λ c. search still-less)
+    (λ c. search goes-further)
+    (λ c. omega (arith, still-few (c .before .before .before .before .before .pre) (c .before .before .loop .inv)))
+    (λ c. search still-space)
+    (λ c. omega (arith, still-few (c .before .before .before .before .before .before .before .pre) (c .before .before .before .before .loop .inv)))
+    (λ c. search still-size)
     (λ c. search still-end))

@@ -4,20 +4,14 @@ use borrow.Author.Needs.{needs}
 use Rattle.vehicle_writer.proofs.writer.write_vehicle.Statement.{statement}
 use Rattle.vehicle_writer.proofs.writer.write_vehicle.Tie as tie
 
-write-start-requires : tie.Need-write-start-requires
-write-start-requires c κs = search (needs, out-room)
-
-write-tasks-requires : tie.Need-write-tasks-requires
-write-tasks-requires c κs = search out-under-way
-
 pub write-vehicle-spec : {M : Type 1} → statement M
 write-vehicle-spec =
     tie.close
     (tie.spec
     (λ c κs. search needs)
     (λ c κs. search needs)
-    write-start-requires
-    write-tasks-requires
+    (λ c κs. search (needs, out-room))
+    (λ c κs. search out-under-way)
     (λ c. search needs)
     (λ c. search out-written)
     (λ c. search out-idle))
