@@ -1,10 +1,10 @@
 -- What a trial changes in the distance: that of the vehicles it touches, and of no other. Assumes nothing.
 use Prim.Native.Nat.{ℕ, zero, suc, _+_, _-_, _≤_, _<_}
-use mathlib.Core.Path.{_≡_, refl, sym, ap, _∙_, subst}
-use mathlib.Core.Bool.{Bool, true, false, _||_}
+use mathlib.Core.Path.{_≡_, refl, sym, ap, _∙_}
+use mathlib.Core.Bool.{Bool, false, _||_}
 use mathlib.Core.List.{List, [], _∷_}
 use mathlib.Core.Logic.{inl, inr}
-use mathlib.Core.Option.{Option, none, some, Option·some-injective, Option·none-ne-some}
+use mathlib.Core.Option.{some, Option·some-injective}
 use native.Mathlib.Omega.{arith}
 use lib.Dec.{eqb}
 use lib.ListN.{length, getD}
@@ -14,27 +14,14 @@ use Rattle.rules.specs.Lists.{total}
 use Rattle.rules.specs.Plan.{Round}
 use Rattle.rules.specs.Lawful.{distanceFrom}
 use Rattle.rules.specs.Edits.{Trial, touches}
-use Rattle.rules.specs.Attempts.{retried, joined, triedFrom, distanceOf}
+use Rattle.rules.specs.Attempts.{retried, triedFrom, distanceOf}
 use Rattle.laws.proofs.Decided.{known}
+use Rattle.candidates.proofs.RoundLists.{joined-both}
 
 -- the vehicles' numbers that pass a test, their distances summed
 unfoldable pub drivenBy : List ℕ → (ℕ → Bool) → ℕ → List Round → ℕ
 drivenBy day f from [] = 0
 drivenBy day f from (tasks ∷ rounds) = (if f (suc from) then distanceFrom day 0 tasks else 0) + drivenBy day f (suc from) rounds
-
--- a vehicle in front of others
-pub record Both (o : Option Round) (p : Option (List Round)) (q : List Round) : Type 0 where
-  pub first : Round
-  pub others : List Round
-  pub firstIs : o ≡ some first
-  pub othersAre : p ≡ some others
-  pub whole : q ≡ first ∷ others
-
-pub joined-both : (o : Option Round) (p : Option (List Round)) (q : List Round) → joined o p ≡ some q → Both o p q
-unfolding joined
-joined-both none p q e = absurd (Option·none-ne-some q e)
-joined-both (some x) none q e = absurd (Option·none-ne-some q e)
-joined-both (some x) (some xs) q e = record { first = x; others = xs; firstIs = refl; othersAre = refl; whole = sym (Option·some-injective _ _ e) }
 
 module _ (day : List ℕ) (m : Trial) where
   -- a vehicle that is not touched drives what it drove
@@ -64,36 +51,31 @@ module _ (day : List ℕ) (m : Trial) where
       ap length (b .whole) ∙ ap suc (tried-length (suc from) rounds (b .others) (b .othersAre))
 
   -- each vehicle is what the trial makes of it
-  pub tried-at : (from v : ℕ) (rounds q : List Round) → triedFrom day m from rounds ≡ some q → v < length rounds
-      → retried day m (from + v + 1) (getD rounds v []) ≡ some (getD q v [])
+  pub tried-at : (from v n : ℕ) (rounds q : List Round) → triedFrom day m from rounds ≡ some q → v < length rounds → n ≡ from + v + 1
+      → retried day m n (getD rounds v []) ≡ some (getD q v [])
   unfolding triedFrom
-  tried-at from v [] q e l = absurd (omega arith)
-  tried-at from zero (tasks ∷ rounds) q e l =
+  tried-at from v n [] q e l k = absurd (omega arith)
+  tried-at from zero n (tasks ∷ rounds) q e l k =
       let b = joined-both (retried day m (suc from) tasks) (triedFrom day m (suc from) rounds) q e in
-      let n : from + 0 + 1 ≡ suc from = omega arith in
-      rw (n, b .whole) (b .firstIs)
-  tried-at from (suc v) (tasks ∷ rounds) q e l =
+      let first : n ≡ suc from = omega arith in
+      rw (first, b .whole) (b .firstIs)
+  tried-at from (suc v) n (tasks ∷ rounds) q e l k =
       let b = joined-both (retried day m (suc from) tasks) (triedFrom day m (suc from) rounds) q e in
-      let n : from + suc v + 1 ≡ suc from + v + 1 = omega arith in
-      rw (n, b .whole) (tried-at (suc from) v rounds (b .others) (b .othersAre) (omega arith))
+      rw (b .whole) (tried-at (suc from) v n rounds (b .others) (b .othersAre) (omega arith) (omega arith))
 
 -- one vehicle, and two
 driven-none : (day : List ℕ) (n from : ℕ) (rounds : List Round) → n ≤ from → drivenBy day (λ k. eqb k n) from rounds ≡ 0
 unfolding drivenBy
 driven-none day n from [] l = refl
-driven-none day n from (tasks ∷ rounds) l =
-    let e : eqb (suc from) n ≡ false = ne-eqb (suc from) n (λ q. omega arith) in rw e (omega (arith, driven-none day n (suc from) rounds (omega arith)))
+driven-none day n from (tasks ∷ rounds) l = rw (ne-eqb (suc from) n (λ q. omega arith)) (omega (arith, driven-none day n (suc from) rounds (omega arith)))
 
-driven-at : (day : List ℕ) (from v : ℕ) (rounds : List Round) → v < length rounds → drivenBy day (λ k. eqb k (from + v + 1)) from rounds ≡ distanceFrom day 0 (getD rounds v [])
+driven-at : (day : List ℕ) (from v n : ℕ) (rounds : List Round) → v < length rounds → n ≡ from + v + 1
+    → drivenBy day (λ k. eqb k n) from rounds ≡ distanceFrom day 0 (getD rounds v [])
 unfolding drivenBy
-driven-at day from v [] l = absurd (omega arith)
-driven-at day from zero (tasks ∷ rounds) l =
-    let e : eqb (suc from) (from + 0 + 1) ≡ true = eq-eqb (suc from) (from + 0 + 1) (omega arith) in
-    rw e (omega (arith, driven-none day (from + 0 + 1) (suc from) rounds (omega arith)))
-driven-at day from (suc v) (tasks ∷ rounds) l =
-    let e : eqb (suc from) (from + suc v + 1) ≡ false = ne-eqb (suc from) (from + suc v + 1) (λ q. omega arith) in
-    let n : from + suc v + 1 ≡ suc from + v + 1 = omega arith in
-    rw (e, n) (omega (arith, driven-at day (suc from) v rounds (omega arith)))
+driven-at day from v n [] l e = absurd (omega arith)
+driven-at day from zero n (tasks ∷ rounds) l e = rw (eq-eqb (suc from) n (omega arith)) (omega (arith, driven-none day n (suc from) rounds (omega arith)))
+driven-at day from (suc v) n (tasks ∷ rounds) l e =
+    rw (ne-eqb (suc from) n (λ q. omega arith)) (omega (arith, driven-at day (suc from) v n rounds (omega arith) (omega arith)))
 
 driven-two : (day : List ℕ) (a b from : ℕ) (rounds : List Round) → (a ≡ b → ⊥)
     → drivenBy day (λ k. eqb k a || eqb k b) from rounds ≡ drivenBy day (λ k. eqb k a) from rounds + drivenBy day (λ k. eqb k b) from rounds
@@ -110,20 +92,20 @@ unfolding drivenBy
 driven-same day a from [] = refl
 driven-same day a from (tasks ∷ rounds) = elim (known (eqb (suc from) a)) [ inl y ↦ rw y (omega (arith, driven-same day a (suc from) rounds)) | inr z ↦ rw z (omega (arith, driven-same day a (suc from) rounds)) ]
 
-driven-first : (day : List ℕ) (v : ℕ) (rounds : List Round) → v < length rounds → drivenBy day (λ k. eqb k (v + 1)) 0 rounds ≡ distanceFrom day 0 (getD rounds v [])
-driven-first day v rounds l =
-    let e : 0 + v + 1 ≡ v + 1 = omega arith in
-    subst (λ (n : ℕ). drivenBy day (λ k. eqb k n) 0 rounds ≡ distanceFrom day 0 (getD rounds v [])) e (driven-at day 0 v rounds l)
-
 -- of a plan's vehicles, one or two are touched
 module _ (day : List ℕ) (m : Trial) (rounds : List Round) where
   pub driven-one : (v : ℕ) → v < length rounds → m .one ≡ v + 1 → m .other ≡ v + 1 → drivenBy day (touches m) 0 rounds ≡ distanceFrom day 0 (getD rounds v [])
   unfolding touches
-  driven-one v l e f = rw (e, f) (driven-same day (v + 1) 0 rounds ∙ driven-first day v rounds l)
+  driven-one v l e f = rw (e, f) (driven-same day (v + 1) 0 rounds ∙ driven-at day 0 v (v + 1) rounds l (omega arith))
 
   pub driven-pair : (v u : ℕ) → v < length rounds → u < length rounds → m .one ≡ v + 1 → m .other ≡ u + 1 → (v ≡ u → ⊥)
       → drivenBy day (touches m) 0 rounds ≡ distanceFrom day 0 (getD rounds v []) + distanceFrom day 0 (getD rounds u [])
   unfolding touches
   driven-pair v u l k e f n =
-      rw (e, f) (driven-two day (v + 1) (u + 1) 0 rounds (λ q. n (omega arith)) ∙ ap (λ (x : ℕ). x + drivenBy day (λ j. eqb j (u + 1)) 0 rounds) (driven-first day v rounds l)
-      ∙ ap (λ (x : ℕ). distanceFrom day 0 (getD rounds v []) + x) (driven-first day u rounds k))
+      rw (e, f)
+      (omega (
+        arith,
+        driven-two day (v + 1) (u + 1) 0 rounds (λ q. n (omega arith)),
+        driven-at day 0 v (v + 1) rounds l (omega arith),
+        driven-at day 0 u (u + 1) rounds k (omega arith),
+      ))

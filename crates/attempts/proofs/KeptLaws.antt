@@ -27,12 +27,12 @@ use Rattle.plan_laws.proofs.Theorems.{told-totals}
 use Rattle.walks.specs.declared.vehicle.Walked.{Walked}
 use Rattle.trial_list.specs.Shapes.{Shaped}
 use Rattle.trial_list.proofs.Shapes.{shaped-formed}
-use Rattle.candidates.specs.Candidates.{SomeTrying, CandidateAs}
+use Rattle.candidates.specs.Candidates.{Trying, SomeTrying, CandidateAs}
 use Rattle.candidates.proofs.CopyLaws.{front-part}
 use Rattle.candidates.proofs.NextRounds.{few-vehicles}
 use Rattle.candidates.proofs.ShapeKept.{valid-shaped}
 use Rattle.candidates.proofs.WrittenLaws.{ends-inside}
-use Rattle.attempts.specs.Tries.{Made, NoneKept, TriedAs, LawfulBy, Judged}
+use Rattle.attempts.specs.Tries.{Made, SomeMade, NoneKept, TriedAs, LawfulBy, Judged}
 use Rattle.attempts.specs.declared.tries.Tried.{Tried}
 use Rattle.attempts.proofs.ShorterLaws.{attempt-failed}
 
@@ -54,22 +54,16 @@ module _ {day plan : List ℕ} {distance : ℕ} where
         none = λ n. absurd (true≢false (sym k ∙ n));
       }
 
+  -- it is not kept
+  judged-none : (r : Tried) → r .kept ≡ false → ((d : ℕ) → LawfulBy day plan d → distance ≤ d) → Judged day plan distance r
+  judged-none r k h = record { some = λ y. absurd (true≢false (sym y ∙ k)); shorter = λ y. absurd (true≢false (sym y ∙ k)); none = λ _. h }
+
   pub judged-longer : (r : Tried) {driven vehicles served : ℕ} → given (driven ∷ vehicles ∷ served ∷ []) ≡ checkWords day plan → distance ≤ driven → r .kept ≡ false
       → Judged day plan distance r
-  judged-longer r e l k =
-      record {
-        some = λ y. absurd (true≢false (sym y ∙ k));
-        shorter = λ y. absurd (true≢false (sym y ∙ k));
-        none = λ _ d w. let q = same-distance (e ∙ w .answer) in omega (arith, q);
-      }
+  judged-longer r e l k = judged-none r k (λ d w. let q = same-distance (e ∙ w .answer) in omega (arith, q))
 
   pub judged-refused : (r : Tried) {number place : ℕ} → refused number place ≡ checkWords day plan → r .kept ≡ false → Judged day plan distance r
-  judged-refused r e k =
-      record {
-        some = λ y. absurd (true≢false (sym y ∙ k));
-        shorter = λ y. absurd (true≢false (sym y ∙ k));
-        none = λ _ d w. absurd (refused-not (e ∙ w .answer));
-      }
+  judged-refused r e k = judged-none r k (λ d w. absurd (refused-not (e ∙ w .answer)))
 
 -- a plan that the check calls lawful drives what its vehicles do
 module _ (day : List ℕ) (ok : IsAccepted day) (q : List Round) (s : Shaped day q) where
@@ -117,14 +111,28 @@ words-fit : {ws p part : List ℕ} {n : ℕ} → Wrote ws p part n → n ≤ len
 unfolding over
 words-fit {ws} {p} w = omega (arith, w .count, ap length (w .text), length-append ws (drop (length ws) p))
 
-pub candidate-fits : {day : List ℕ} {m : Trial} {rounds : List Round} {p part : List ℕ} {c : Walked} → CandidateAs day m rounds p part c → c .stuck ≡ false → c .words ≤ length part
-candidate-fits a g = words-fit (a .written g .text)
+-- the candidate, whatever vehicles have these words
+abbrev pub WritesAll : (day plan starts : List ℕ) (m : Trial) (count : ℕ) (p part : List ℕ) (c : Walked) → Type 0
+WritesAll day plan starts m count p part c = (rounds : List Round) → Trying day plan starts m rounds → count ≡ length rounds → CandidateAs day m rounds p part c
+
+pub candidate-fits : {day plan starts distances tracks : List ℕ} {m : Trial} {count distance : ℕ} {p part : List ℕ} {c : Walked}
+    → SomeMade day plan starts distances tracks m count distance → WritesAll day plan starts m count p part c → c .stuck ≡ false → c .words ≤ length part
+candidate-fits s f g = words-fit (f (s .rounds) (s .made .measured .trying) (s .made .counted) .written g .text)
 
 -- what the trial comes to
-module _ {day plan starts distances tracks : List ℕ} {m : Trial} {count distance : ℕ} {rounds : List Round} (ok : IsAccepted day) (h : Made day plan starts distances tracks m count distance rounds) where
+module _ {day plan starts distances tracks : List ℕ} {m : Trial} {count distance : ℕ} {rounds : List Round}
+    (h : Made day plan starts distances tracks m count distance rounds) where
   pub tried-none : {part : List ℕ} (r : Tried) → NoneKept day plan starts distances tracks m → r .kept ≡ false → TriedAs day m rounds part r
   tried-none r n k = record { none = λ _. n rounds (h .measured); some = λ y. absurd (true≢false (sym y ∙ k)) }
 
+  pub tried-stuck : {p part : List ℕ} {c : Walked} (r : Tried) → WritesAll day plan starts m count p part c → c .stuck ≡ true → r .kept ≡ false
+      → TriedAs day m rounds part r
+  tried-stuck r f g k =
+      let a = f rounds (h .measured .trying) (h .counted) in
+      record { none = λ _. attempt-failed day (greedyLefts day) rounds m (a .failed g); some = λ y. absurd (true≢false (sym y ∙ k)) }
+
+module _ {day plan starts distances tracks : List ℕ} {m : Trial} {count distance : ℕ} {rounds : List Round} (ok : IsAccepted day)
+    (h : Made day plan starts distances tracks m count distance rounds) where
   pub trying-made : SomeTrying day plan starts m count
   trying-made =
       let t = h .measured .trying in
@@ -137,17 +145,13 @@ module _ {day plan starts distances tracks : List ℕ} {m : Trial} {count distan
         ends = ends-inside t (h .counted);
       }
 
-  pub tried-stuck : {p part : List ℕ} {c : Walked} (r : Tried) → CandidateAs day m rounds p part c → c .stuck ≡ true → r .kept ≡ false → TriedAs day m rounds part r
-  tried-stuck r a g k =
-      record { none = λ _. attempt-failed day (greedyLefts day) rounds m (a .failed g); some = λ y. absurd (true≢false (sym y ∙ k)) }
-
-  pub tried-judged : {p part : List ℕ} {c : Walked} (r : Tried) → CandidateAs day m rounds p part c → c .stuck ≡ false
+  pub tried-judged : {p part : List ℕ} {c : Walked} (r : Tried) → WritesAll day plan starts m count p part c → c .stuck ≡ false
       → Judged day (take (c .words - 0) (drop 0 part)) distance r → (r .kept ≡ true → r .words ≡ length (take (c .words - 0) (drop 0 part)))
       → TriedAs day m rounds part r
-  tried-judged {part = part} {c = c} r a g j n =
+  tried-judged {part = part} {c = c} r f g j n =
       let words = take (c .words - 0) (drop 0 part) in
       let w : words ≡ take (c .words) part = front-part (c .words) part in
-      let b = a .written g in
+      let b = f rounds (h .measured .trying) (h .counted) .written g in
       let s = valid-shaped day rounds (b .q) m (h .measured .trying .shaped) (h .measured .trying .valid) (b .is) in
       let text : words ≡ planWords (b .q) (greedyLefts day) =
       w ∙ ap (take (c .words)) (b .text .text) ∙ over-front (planWords (b .q) (greedyLefts day)) _ (c .words) (sym (b .text .count)) in

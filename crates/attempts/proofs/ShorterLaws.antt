@@ -1,10 +1,10 @@
 -- A trial whose touched vehicles drive no less than before gives no lawful, shorter plan. Assumes nothing.
 use Prim.Native.Nat.{ℕ, _+_, _-_, _≤_, _<_}
-use mathlib.Core.Path.{_≡_, refl, sym, ap, _∙_, subst}
+use mathlib.Core.Path.{_≡_, refl, sym, ap, _∙_}
 use mathlib.Core.Bool.{true, false}
 use mathlib.Core.List.{List, []}
 use mathlib.Core.Logic.{inl, inr}
-use mathlib.Core.Option.{Option, none, some, Option·some-injective}
+use mathlib.Core.Option.{none, some, Option·some-injective}
 use native.Mathlib.Omega.{arith}
 use lib.Dec.{ltb, eqb}
 use lib.ListN.{length, getD}
@@ -15,7 +15,7 @@ use Rattle.rules.specs.Lawful.{distanceFrom}
 use Rattle.rules.specs.Build.{greedyLefts}
 use Rattle.rules.specs.Edits.{Trial, touches, changed}
 use Rattle.rules.specs.Attempts.{walkedAgain, retried, tried, distanceOf, keptIf, attempt}
-use Rattle.laws.proofs.Decided.{known}
+use Rattle.laws.proofs.Decided.{known, known-option}
 use Rattle.day.proofs.Ranges.{accepted-ranges}
 use Rattle.walks.specs.Rewalks.{AgainAs}
 use Rattle.walks.specs.declared.vehicle.Walked.{Walked}
@@ -26,20 +26,18 @@ use Rattle.attempts.specs.Tries.{Numbers, SomeTouched, Retries, Measured
 use Rattle.attempts.proofs.Gains.{gain, tried-at, driven-one, driven-pair, tried-length}
 
 -- none is kept where the trial fails, or its plan is no shorter
-kept-none : (day lefts : List ℕ) (rounds : List Round) (o : Option (List Round)) → ((q : List Round) → o ≡ some q → distanceOf day rounds ≤ distanceOf day q)
-    → keptIf day lefts rounds o ≡ none
-unfolding keptIf
-kept-none day lefts rounds none h = refl
-kept-none day lefts rounds (some q) h = rw (le-ltb (distanceOf day q) (distanceOf day rounds) (h q refl)) refl
-
-pub attempt-longer : (day lefts : List ℕ) (rounds : List Round) (m : Trial) → ((q : List Round) → tried day rounds m ≡ some q → distanceOf day rounds ≤ distanceOf day q)
-    → attempt day lefts rounds m ≡ none
-unfolding attempt
-attempt-longer day lefts rounds m h = kept-none day lefts rounds (tried day rounds m) h
-
 pub attempt-failed : (day lefts : List ℕ) (rounds : List Round) (m : Trial) → tried day rounds m ≡ none → attempt day lefts rounds m ≡ none
 unfolding attempt keptIf
 attempt-failed day lefts rounds m e = rw e refl
+
+attempt-longer : (day lefts : List ℕ) (rounds : List Round) (m : Trial)
+    → ((q : List Round) → tried day rounds m ≡ some q → distanceOf day rounds ≤ distanceOf day q)
+    → attempt day lefts rounds m ≡ none
+unfolding attempt keptIf
+attempt-longer day lefts rounds m h = elim (known-option (tried day rounds m)) [
+  | inl e ↦ rw e refl
+  | inr x ↦ rw (x .1, le-ltb (distanceOf day (x .0)) (distanceOf day rounds) (h (x .0) (x .1))) refl
+]
 
 -- the numbers of the vehicles that a trial touches, and that they are touched
 pub valid-numbers : (day : List ℕ) (rounds : List Round) (m : Trial) → Valid day rounds m → Numbers rounds m
@@ -71,9 +69,7 @@ module _ (day : List ℕ) (m : Trial) (rounds : List Round) (v : ℕ) {r : Walke
   pub retry-drives : r .stuck ≡ false → (q : List Round) → tried day rounds m ≡ some q → r .distance ≡ distanceFrom day 0 (getD q v [])
   retry-drives g q e =
       let a = w .again g in
-      let n : 0 + v + 1 ≡ v + 1 = omega arith in
-      let at : retried day m (v + 1) (getD rounds v []) ≡ some (getD q v []) = subst (λ (k : ℕ). retried day m k (getD rounds v []) ≡ some (getD q v [])) n (tried-at day m 0 v rounds q e l) in
-      let same : a .done ≡ getD q v [] = Option·some-injective _ _ (sym (a .is) ∙ sym again-is ∙ at) in
+      let same : a .done ≡ getD q v [] = Option·some-injective _ _ (sym (a .is) ∙ sym again-is ∙ tried-at day m 0 v (v + 1) rounds q e l (omega arith)) in
       a .drives ∙ ap (distanceFrom day 0) same
 
 -- a vehicle of the plan that the trial touches, counted from 0

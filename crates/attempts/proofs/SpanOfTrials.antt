@@ -1,6 +1,6 @@
 -- The stops that a trial names, where the trial may be made: each stands once at most on each vehicle. Assumes nothing.
 use Prim.Native.Nat.{ℕ, _+_, _≤_, _<_}
-use mathlib.Core.Path.{_≡_, subst}
+use mathlib.Core.Path.{_≡_}
 use mathlib.Core.List.{List, []}
 use mathlib.Core.Logic.{inl, inr}
 use native.Mathlib.Omega.{arith}
@@ -18,9 +18,7 @@ use Rattle.trial_list.proofs.Shapes.{each-vehicle}
 module _ {day : List ℕ} {rounds : List Round} (v : ℕ) (l : v < length rounds) where
   -- a stop stands on its own vehicle
   stands-here : {k number : ℕ} → On day rounds k number → StandsOn k number (v + 1) (getD rounds v [])
-  stands-here {k} {number} h =
-      let e : 0 + v + 1 ≡ v + 1 = omega arith in
-      subst (λ (n : ℕ). StandsOn k number n (getD rounds v [])) e (each-vehicle (StandsOn k number) 0 rounds v l (h .stands))
+  stands-here {k} {number} h = each-vehicle (StandsOn k number) 0 rounds v (v + 1) l (omega arith) (h .stands)
 
   at-most-once : {k number : ℕ} → On day rounds k number → times k (stopsOn (getD rounds v [])) ≤ 1
   unfolding StandsOn

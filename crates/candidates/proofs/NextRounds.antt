@@ -1,6 +1,6 @@
 -- One vehicle of the plan that a trial gives: where its words stand, what it becomes and that there is room for it. Assumes nothing.
 use Prim.Native.Nat.{ℕ, _+_, _-_, _*_, _≤_, _<_}
-use mathlib.Core.Path.{_≡_, sym, ap, _∙_, subst}
+use mathlib.Core.Path.{_≡_, sym, ap, _∙_}
 use mathlib.Core.Bool.{Bool, _||_}
 use mathlib.Core.List.{List, [], _∷_}
 use mathlib.Core.Option.{some}
@@ -44,9 +44,7 @@ module _ {day plan starts : List ℕ} {m : Trial} {rounds : List Round} (t : Try
   tasks = getD rounds v []
 
   suited : Suited day m (v + 1) tasks
-  suited =
-      let e : 0 + v + 1 ≡ v + 1 = omega arith in
-      subst (λ (n : ℕ). Suited day m n tasks) e (each-vehicle (Suited day m) 0 rounds v l (valid-suits day rounds m (t .valid)))
+  suited = each-vehicle (Suited day m) 0 rounds v (v + 1) l (omega arith) (valid-suits day rounds m (t .valid))
 
   -- it is busy, it has room, and it has few stops
   busy : 0 < length (stopsOn tasks)

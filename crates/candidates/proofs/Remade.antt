@@ -6,7 +6,7 @@ use mathlib.Core.Path.{_≡_, refl, sym, ap, _∙_, subst}
 use mathlib.Core.Bool.{Bool, true, false, _||_, true≢false}
 use mathlib.Core.List.{List, [], _∷_}
 use mathlib.Core.Logic.{inl, inr}
-use mathlib.Core.Option.{Option, none, some, Option·some-injective, Option·none-ne-some}
+use mathlib.Core.Option.{some, Option·some-injective}
 use native.Mathlib.Omega.{arith}
 use lib.Dec.{eqb}
 use lib.ListN.{length, length-append}
@@ -14,7 +14,7 @@ use Rattle.rules.specs.Tests.{if_then_else_}
 use Rattle.rules.specs.Lists.{Every, times}
 use Rattle.rules.specs.Plan.{Round, stopsOn, stopsOnAll, Known}
 use Rattle.rules.specs.Edits.{changed, Trial, touches}
-use Rattle.rules.specs.Attempts.{retried, joined, triedFrom}
+use Rattle.rules.specs.Attempts.{retried, triedFrom}
 use Rattle.laws.proofs.Decided.{known}
 use Rattle.laws.proofs.Lists.{times-append}
 use Rattle.greedy_laws.specs.Rooms.{Room}
@@ -22,6 +22,7 @@ use Rattle.edits.proofs.EditLaws.{renamed, Suits}
 use Rattle.edits.proofs.EditSuits.{suits-before, suits-after, suits-swap, suits-remove, suits-replace, swap-elsewhere}
 use Rattle.walks.proofs.Walking.{walked-again}
 use Rattle.trial_list.specs.Shapes.{EachFrom, StandsOn, Valid, moved-before, moved-after, swapped, removed, replaced}
+use Rattle.candidates.proofs.RoundLists.{joined-both}
 
 -- what a trial's edit does to a vehicle that it touches, and to one that it does not
 pub record Suited (day : List ℕ) (m : Trial) (number : ℕ) (tasks : Round) : Type 0 where
@@ -127,17 +128,6 @@ module _ (day : List ℕ) (m : Trial) where
         );
       }
 
-  joined-remade : (tasks : Round) (rounds q : List Round) (o : Option Round) (p : Option (List Round))
-      → ((done : Round) → o ≡ some done → Remade day (renamed (m .edit)) tasks done)
-      → ((others : List Round) → p ≡ some others → AllRemade day (renamed (m .edit)) rounds others)
-      → joined o p ≡ some q → AllRemade day (renamed (m .edit)) (tasks ∷ rounds) q
-  unfolding joined
-  joined-remade tasks rounds q none p a b e = absurd (Option·none-ne-some q e)
-  joined-remade tasks rounds q (some done) none a b e = absurd (Option·none-ne-some q e)
-  joined-remade tasks rounds q (some done) (some others) a b e =
-      subst (AllRemade day (renamed (m .edit)) (tasks ∷ rounds)) (Option·some-injective _ _ e)
-      (next-remade tasks done rounds others (a done refl) (b others refl))
-
   pub tried-remade : (from : ℕ) (rounds q : List Round) → Every (Every (Known day)) rounds → Every Room rounds → EachFrom (Suited day m) from rounds
       → triedFrom day m from rounds ≡ some q → AllRemade day (renamed (m .edit)) rounds q
   unfolding triedFrom Every EachFrom stopsOnAll times
@@ -145,6 +135,7 @@ module _ (day : List ℕ) (m : Trial) where
       subst (AllRemade day (renamed (m .edit)) []) (Option·some-injective _ _ e)
       (record { known = tt; rooms = tt; busy = λ b. tt; count = refl; vehicles = refl; same = λ k. refl })
   tried-remade from (tasks ∷ rounds) q h r s e =
-      joined-remade tasks rounds q (retried day m (suc from) tasks) (triedFrom day m (suc from) rounds)
-      (λ done. retried-remade (suc from) tasks done (h .0) (r .0) (s .0))
-      (λ others. tried-remade (suc from) rounds others (h .1) (r .1) (s .1)) e
+      let b = joined-both (retried day m (suc from) tasks) (triedFrom day m (suc from) rounds) q e in
+      rw (b .whole)
+      (next-remade tasks (b .first) rounds (b .others) (retried-remade (suc from) tasks (b .first) (h .0) (r .0) (s .0) (b .firstIs))
+      (tried-remade (suc from) rounds (b .others) (h .1) (r .1) (s .1) (b .othersAre)))

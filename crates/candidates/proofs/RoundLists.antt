@@ -2,7 +2,7 @@
 use Prim.Native.Nat.{ℕ, suc, _+_, _-_, _<_}
 use mathlib.Core.Path.{_≡_, refl, sym, ap, _∙_}
 use mathlib.Core.List.{List, [], _∷_, _++_}
-use mathlib.Core.Option.{Option, none, some}
+use mathlib.Core.Option.{Option, none, some, Option·some-injective, Option·none-ne-some}
 use native.Mathlib.Omega.{arith}
 use native.Mathlib.Numerals.{add-one}
 use lib.ListN.{length, length-append, getD, take, drop, take-append-drop}
@@ -36,6 +36,20 @@ module _ (rounds : List Round) (v : ℕ) (l : v < length rounds) where
 
   pub front-length : length (take v rounds) ≡ v
   front-length = length-take-le v rounds (omega arith)
+
+-- a vehicle in front of others
+pub record Both (o : Option Round) (p : Option (List Round)) (q : List Round) : Type 0 where
+  pub first : Round
+  pub others : List Round
+  pub firstIs : o ≡ some first
+  pub othersAre : p ≡ some others
+  pub whole : q ≡ first ∷ others
+
+pub joined-both : (o : Option Round) (p : Option (List Round)) (q : List Round) → joined o p ≡ some q → Both o p q
+unfolding joined
+joined-both none p q e = absurd (Option·none-ne-some q e)
+joined-both (some x) none q e = absurd (Option·none-ne-some q e)
+joined-both (some x) (some xs) q e = record { first = x; others = xs; firstIs = refl; othersAre = refl; whole = sym (Option·some-injective _ _ e) }
 
 -- what a trial makes of two parts of the vehicles
 unfoldable pub appended : Option (List Round) → Option (List Round) → Option (List Round)

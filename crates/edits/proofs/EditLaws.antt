@@ -1,9 +1,10 @@
 -- What an edit does to a vehicle's stops: none is lost, none comes twice, and their number stays. The day may be any list of words.
 -- Assumes nothing.
 use Prim.Native.Nat.{ℕ, suc, _+_}
-use mathlib.Core.Path.{_≡_, refl, sym, ap, _∙_}
+use mathlib.Core.Path.{_≡_, refl, sym, ap, _∙_, subst}
 use mathlib.Core.List.{List, [], _∷_, _++_}
 use mathlib.Core.Logic.{inl, inr}
+use native.Mathlib.Decide.{ℕ-discrete}
 use native.Mathlib.Omega.{arith}
 use lib.Dec.{eqb}
 use lib.ListN.{length, length-append}
@@ -122,35 +123,33 @@ module _ (e : Edit) (i j : ℕ) (apart : i ≡ j → ⊥)
     (there : (k : ℕ) → times k (stopsOn (changeStop e i)) ≡ times k (j ∷ i ∷ []))
     (both : length (stopsOn (changeStop e i)) ≡ 2)
     (other : (x : ℕ) → (x ≡ j → ⊥) → (x ≡ i → ⊥) → stopsOn (changeStop e x) ≡ x ∷ []) where
+  -- what holds of j, of i and of each other stop holds of all
+  by-stop : (P : ℕ → Type 0) → P j → P i → ((x : ℕ) → (x ≡ j → ⊥) → (x ≡ i → ⊥) → P x) → (x : ℕ) → P x
+  by-stop P of-j of-i of-other x = elim (ℕ-discrete x j) [
+    | yes a ↦ subst P (sym a) of-j
+    | no a ↦ elim (ℕ-discrete x i) [ yes b ↦ subst P (sym b) of-i | no b ↦ of-other x a b ]
+  ]
+
   moved-times : (x : ℕ) → times j (stopsOn (changeStop e x)) ≡ times i (x ∷ [])
   unfolding times
-  moved-times x = elim (known (eqb x j)) [
-    | inl a ↦ let s = eqb-true x j a in rw (s, gone, ne-eqb i j apart) refl
-    | inr a ↦ elim (known (eqb x i)) [
-      | inl b ↦ let s = eqb-true x i b in rw (s, there j, eq-eqb j j refl, ne-eqb j i (λ z. apart (sym z)), eq-eqb i i refl) refl
-      | inr b ↦ rw (other x (eqb-false x j a) (eqb-false x i b), ne-eqb j x (λ z. eqb-false x j a (sym z)), ne-eqb i x (λ z. eqb-false x i b (sym z))) refl
-    ]
-  ]
+  moved-times = by-stop (λ x. times j (stopsOn (changeStop e x)) ≡ times i (x ∷ []))
+      (rw (gone, ne-eqb i j apart) refl)
+      (rw (there j, eq-eqb j j refl, ne-eqb j i (λ z. apart (sym z)), eq-eqb i i refl) refl)
+      (λ x a b. rw (other x a b, ne-eqb j x (λ z. a (sym z)), ne-eqb i x (λ z. b (sym z))) refl)
 
   kept-times : (k : ℕ) → (k ≡ j → ⊥) → (x : ℕ) → times k (stopsOn (changeStop e x)) ≡ times k (x ∷ [])
   unfolding times
-  kept-times k n x = elim (known (eqb x j)) [
-    | inl a ↦ let s = eqb-true x j a in rw (s, gone, ne-eqb k j n) refl
-    | inr a ↦ elim (known (eqb x i)) [
-      | inl b ↦ let s = eqb-true x i b in rw (s, there k, ne-eqb k j n) (omega arith)
-      | inr b ↦ rw (other x (eqb-false x j a) (eqb-false x i b)) refl
-    ]
-  ]
+  kept-times k n = by-stop (λ x. times k (stopsOn (changeStop e x)) ≡ times k (x ∷ []))
+      (rw (gone, ne-eqb k j n) refl)
+      (rw (there k, ne-eqb k j n) (omega arith))
+      (λ x a b. rw (other x a b) refl)
 
   moved-length : (x : ℕ) → length (stopsOn (changeStop e x)) + times j (x ∷ []) ≡ 1 + times i (x ∷ [])
   unfolding times
-  moved-length x = elim (known (eqb x j)) [
-    | inl a ↦ let s = eqb-true x j a in rw (s, gone, ne-eqb i j apart, eq-eqb j j refl) (omega arith)
-    | inr a ↦ elim (known (eqb x i)) [
-      | inl b ↦ let s = eqb-true x i b in rw (s, both, ne-eqb j i (λ z. apart (sym z)), eq-eqb i i refl) (omega arith)
-      | inr b ↦ rw (other x (eqb-false x j a) (eqb-false x i b), ne-eqb j x (λ z. eqb-false x j a (sym z)), ne-eqb i x (λ z. eqb-false x i b (sym z))) refl
-    ]
-  ]
+  moved-length = by-stop (λ x. length (stopsOn (changeStop e x)) + times j (x ∷ []) ≡ 1 + times i (x ∷ []))
+      (rw (gone, ne-eqb i j apart, eq-eqb j j refl) (omega arith))
+      (rw (both, ne-eqb j i (λ z. apart (sym z)), eq-eqb i i refl) (omega arith))
+      (λ x a b. rw (other x a b, ne-eqb j x (λ z. a (sym z)), ne-eqb i x (λ z. b (sym z))) refl)
 
   pub move-same : (tasks : Round) → times i (stopsOn tasks) ≡ times j (stopsOn tasks) → (k : ℕ) → times k (stopsOn (changed e 0 tasks)) ≡ times k (stopsOn tasks)
   move-same tasks h k = elim (known (eqb k j)) [

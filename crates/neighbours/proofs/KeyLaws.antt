@@ -1,7 +1,7 @@
 -- The keys of a stop's neighbours: what a key comes to, and the pass over all keys for the least above the last one.
 -- Assumes nothing.
 use Prim.Native.Nat.{ℕ, zero, suc, _+_, _*_, _≤_, _<_}
-use mathlib.Core.Path.{_≡_, refl, sym, ap, _∙_}
+use mathlib.Core.Path.{_≡_, refl, ap, _∙_}
 use mathlib.Core.Bool.{Bool, true, false}
 use mathlib.Core.List.{List}
 use mathlib.Core.Logic.{⊎-elim}
@@ -79,40 +79,40 @@ pub record IsAbove (keys : List ℕ) (last n x : ℕ) : Type 0 where
   pub above : x < noKey → last < x
   pub minimal : (j : ℕ) → 0 < j → j ≤ n → last < getD keys j 0 → getD keys j 0 < noKey → x ≤ getD keys j 0
 
-data Lesser (last key best r : ℕ) : Type 0 where
-  keeps : (last < key → best ≤ key) → r ≡ best → Lesser last key best r
-  takes : last < key → key < best → r ≡ key → Lesser last key best r
+data Lesser (last key best : ℕ) : ℕ → Type 0 where
+  keeps : (last < key → best ≤ key) → Lesser last key best best
+  takes : last < key → key < best → Lesser last key best key
 
 lesser-cases : (last key best : ℕ) → best ≤ noKey → Lesser last key best (lesser (keyAbove last key) best)
 unfolding keyAbove lesser
 lesser-cases last key best most = go (ltb last key) refl
   where
     taken : last < key → (b : Bool) → ltb key best ≡ b → Lesser last key best (if b then key else best)
-    taken h true f = takes h (ltb-true key best f) refl
-    taken h false f = keeps (λ _. ltb-false key best f) refl
+    taken h true f = takes h (ltb-true key best f)
+    taken h false f = keeps (λ _. ltb-false key best f)
 
     go : (a : Bool) → ltb last key ≡ a → Lesser last key best (if ltb (if a then key else noKey) best then (if a then key else noKey) else best)
     go true e = taken (ltb-true last key e) (ltb key best) refl
-    go false e = rw (le-ltb noKey best most) (keeps (λ h. absurd (omega (arith, ltb-false last key e))) refl)
+    go false e = rw (le-ltb noKey best most) (keeps (λ h. absurd (omega (arith, ltb-false last key e))))
 
-above-step : (keys : List ℕ) (last n best r : ℕ) → IsAbove keys last n best → Lesser last (getD keys (suc n) 0) best r → IsAbove keys last (suc n) r
-above-step keys last n best r h (keeps f q) = record {
+above-step : (keys : List ℕ) (last n best : ℕ) {r : ℕ} → IsAbove keys last n best → Lesser last (getD keys (suc n) 0) best r → IsAbove keys last (suc n) r
+above-step keys last n best h (keeps f) = record {
   most = omega (arith, h .most);
   stop = h .stop;
-  positive = λ l. h .positive (omega arith);
-  within = λ l. omega (arith, h .within (omega arith));
-  here = λ l. h .here (omega arith) ∙ sym q;
-  above = λ l. omega (arith, h .above (omega arith));
+  positive = h .positive;
+  within = λ l. omega (arith, h .within l);
+  here = h .here;
+  above = h .above;
   minimal = λ j p l a b.
       ⊎-elim (λ (e : j ≡ suc n). rw e (omega (arith, f (rw e at a)))) (λ (w : j < suc n). omega (arith, h .minimal j p (omega arith) a b)) (eq-or-lt-of-le l);
 }
-above-step keys last n best r h (takes f g q) = record {
+above-step keys last n best h (takes f g) = record {
   most = omega (arith, h .most);
   stop = suc n;
   positive = λ l. omega arith;
   within = λ l. omega arith;
-  here = λ l. sym q;
-  above = λ l. omega arith;
+  here = λ l. refl;
+  above = λ l. f;
   minimal = λ j p l a b. ⊎-elim (λ (e : j ≡ suc n). rw e (omega arith)) (λ (w : j < suc n). omega (arith, h .minimal j p (omega arith) a b)) (eq-or-lt-of-le l);
 }
 
@@ -128,7 +128,5 @@ above-is keys last zero = record {
   minimal = λ j p l. absurd (omega arith);
 }
 above-is keys last (suc n) =
-    let key = getD keys (suc n) 0 in
-    let best = leastAbove keys last n in
     let so-far = above-is keys last n in
-    above-step keys last n best (lesser (keyAbove last key) best) so-far (lesser-cases last key best (so-far .most))
+    above-step keys last n (leastAbove keys last n) so-far (lesser-cases last (getD keys (suc n) 0) (leastAbove keys last n) (so-far .most))

@@ -2,27 +2,27 @@
 -- Assumes nothing.
 use Prim.Native.Nat.{ℕ, zero, suc, _+_, _*_, _%_, _≤_, _<_}
 use mathlib.Core.Path.{_≡_, refl, sym, ap, _∙_}
-use mathlib.Core.Bool.{Bool, true, false}
-use mathlib.Core.List.{List, [], _∷_}
-use mathlib.Core.Logic.{_⊎_, inl, inr}
+use mathlib.Core.Bool.{true}
+use mathlib.Core.List.{List, _∷_}
+use mathlib.Core.Logic.{inl, inr}
 use native.Mathlib.Decide.{ℕ-discrete}
-use native.Mathlib.Nat.{eq-or-lt-of-le}
+use native.Mathlib.Nat.{eq-zero-or-pos, eq-or-lt-of-le}
 use native.Mathlib.Omega.{arith}
 use native.Mathlib.Numerals.{add-one}
-use lib.Dec.{eqb}
 use lib.ListN.{length, getD, set, length-set}
 use lib.Seq.{getD-set-same, getD-set-other}
-use borrow.Author.Tests.{eq-eqb, ne-eqb, eqb-true, eqb-false}
-use Rattle.rules.specs.Tests.{if_then_else_}
+use borrow.Author.Tests.{eq-eqb, ne-eqb}
+use Rattle.rules.specs.Tests.{least}
 use Rattle.laws.specs.Least.{IsLeast}
 use Rattle.rules.specs.Fields.{stops}
 use Rattle.rules.specs.Neighbours.{compatible, neighbourKey, behind, nextNeighbour, neighboursAfter, neighbours}
+use Rattle.laws.proofs.Decided.{known}
 use Rattle.laws.proofs.Least.{least-is, least-only}
 use Rattle.day.specs.Layout.{LayoutOf}
 use Rattle.day.specs.declared.fields.Layout.{Layout}
 use Rattle.neighbours.specs.Tables.{TableOf, RowsTo, RowOf, noKey, keyOrNone, KeysTo, leastAbove, keyAfter, stopOfKey, RowBy}
 use Rattle.neighbours.proofs.KeyLaws.{IsAbove, above-is}
-use Rattle.neighbours.proofs.NeighbourLaws.{behind-both, is-behind}
+use Rattle.neighbours.proofs.NeighbourLaws.{behind-both, is-behind, neighbours-stop, neighbours-more}
 
 -- every key is less than what stands for none, and shows its stop
 key-below : (day : List ℕ) (i j : ℕ) → j < 256 → neighbourKey day i j < noKey
@@ -44,15 +44,7 @@ key-found day i j e = rw e refl
 
 key-compatible : (day : List ℕ) (i j : ℕ) → keyOrNone day i j < noKey → compatible day i j ≡ true
 unfolding keyOrNone
-key-compatible day i j h = go (compatible day i j) h
-  where
-    go : (b : Bool) → (if b then neighbourKey day i j else noKey) < noKey → b ≡ true
-    go true h = refl
-    go false h = absurd (omega arith)
-
-known-test : (b : Bool) → (b ≡ true → ⊥) → b ≡ false
-known-test true n = absurd (n refl)
-known-test false n = refl
+key-compatible day i j h = elim (known (compatible day i j)) [ inl e ↦ e | inr e ↦ absurd (omega (arith, rw e at h)) ]
 
 -- what the least key above the last one tells of the next neighbour
 record Joins (day : List ℕ) (i last x : ℕ) : Type 0 where
@@ -71,9 +63,12 @@ module _ (day : List ℕ) (i : ℕ) (keys : List ℕ) (few : stops day ≤ 240) 
   none-behind : (last x : ℕ) → IsAbove keys last (stops day) x → x ≡ noKey → IsLeast (behind day i last) (neighbourKey day i) (stops day) 0
   none-behind last x h e = record {
     within = omega arith;
-    none = λ _ j p l. known-test (behind day i last j) (λ t.
-        let b = behind-key last j p l t in
-        omega (arith, h .minimal j p l (b .0) (omega (arith, key-below day i j (omega arith), b .1)), key-below day i j (omega arith), b .1));
+    none = λ _ j p l. elim (known (behind day i last j)) [
+      | inl t ↦
+          let b = behind-key last j p l t in
+          absurd (omega (arith, h .minimal j p l (b .0) (omega (arith, key-below day i j (omega arith), b .1)), key-below day i j (omega arith), b .1))
+      | inr t ↦ t
+    ];
     passes = λ z. absurd (omega arith);
     minimal = λ z. absurd (omega arith);
     lowest = λ z. absurd (omega arith);
@@ -106,32 +101,27 @@ module _ (day : List ℕ) (i : ℕ) (keys : List ℕ) (few : stops day ≤ 240) 
   unfolding nextNeighbour stopOfKey
   joins last = go (leastAbove keys last (stops day)) (above-is keys last (stops day))
     where
+      only : {j : ℕ} → IsLeast (behind day i last) (neighbourKey day i) (stops day) j → least (behind day i last) (neighbourKey day i) (stops day) ≡ j
+      only = least-only (behind day i last) (neighbourKey day i) (stops day) _ _ (least-is (behind day i last) (neighbourKey day i) (stops day))
+
       go : (x : ℕ) → IsAbove keys last (stops day) x → Joins day i last x
-      go x h = at-end (eq-or-lt-of-le (h .most))
-        where
-          at-end : (x ≡ noKey) ⊎ (x < noKey) → Joins day i last x
-          at-end (inl e) =
-              let q = least-only (behind day i last) (neighbourKey day i) (stops day) _ _ (least-is (behind day i last) (neighbourKey day i) (stops day)) (none-behind last x h e) in
-              record { stop = rw (eq-eqb x noKey e) q; none = λ _. e; some = λ n. absurd (n q) }
-          at-end (inr l) =
-              let q = least-only (behind day i last) (neighbourKey day i) (stops day) _ _ (least-is (behind day i last) (neighbourKey day i) (stops day)) (found-behind last x h l) in
-              let p = h .positive l in
-              record {
-                stop = rw (ne-eqb x noKey (λ e. omega arith)) (q ∙ sym (ap (λ (y : ℕ). y % 256) (sym (found-key last x h l)) ∙ key-stop day i (h .stop) (omega (arith, h .within l))));
-                none = λ z. absurd (omega arith);
-                some = λ n. ap (neighbourKey day i) q ∙ found-key last x h l;
-              }
+      go x h = elim (eq-or-lt-of-le (h .most)) [
+        | inl e ↦
+            let q = only (none-behind last x h e) in
+            record { stop = rw (eq-eqb x noKey e) q; none = λ _. e; some = λ n. absurd (n q) }
+        | inr l ↦
+            let q = only (found-behind last x h l) in
+            let p = h .positive l in
+            record {
+              stop = rw (ne-eqb x noKey (λ e. omega arith)) (q ∙ sym (ap (λ (y : ℕ). y % 256) (sym (found-key last x h l)) ∙ key-stop day i (h .stop) (omega (arith, h .within l))));
+              none = λ z. absurd (omega arith);
+              some = λ n. ap (neighbourKey day i) q ∙ found-key last x h l;
+            }
+      ]
 
   -- nothing is above what stands for none
   above-no-key : leastAbove keys noKey (stops day) ≡ noKey
-  above-no-key = go (above-is keys noKey (stops day))
-    where
-      go : {x : ℕ} → IsAbove keys noKey (stops day) x → x ≡ noKey
-      go {x = x} h = at-end (eq-or-lt-of-le (h .most))
-        where
-          at-end : (x ≡ noKey) ⊎ (x < noKey) → x ≡ noKey
-          at-end (inl e) = e
-          at-end (inr l) = absurd (omega (arith, h .above l))
+  above-no-key = let h = above-is keys noKey (stops day) in elim (eq-or-lt-of-le (h .most)) [ inl e ↦ e | inr l ↦ absurd (omega (arith, h .above l)) ]
 
   -- the first step of many
   after-first : (last r : ℕ) → keyAfter keys (stops day) last (suc r) ≡ keyAfter keys (stops day) (leastAbove keys last (stops day)) r
@@ -144,30 +134,27 @@ module _ (day : List ℕ) (i : ℕ) (keys : List ℕ) (few : stops day ≤ 240) 
   after-none zero = refl
   after-none (suc r) = ap (λ (x : ℕ). leastAbove keys x (stops day)) (after-none r) ∙ above-no-key
 
-  none-stop : stopOfKey noKey ≡ 0
-  unfolding stopOfKey
-  none-stop = refl
-
   neighbours-by : (K last r : ℕ) → r < K → getD (neighboursAfter day i K last) r 0 ≡ stopOfKey (keyAfter keys (stops day) last (suc r))
-  unfolding neighboursAfter keyAfter
+  unfolding stopOfKey keyAfter
   neighbours-by zero last r h = absurd (omega arith)
-  neighbours-by (suc more) last r h = go (eqb (nextNeighbour day i last) 0) refl r h (λ s g. neighbours-by more (neighbourKey day i (nextNeighbour day i last)) s g)
+  neighbours-by (suc more) last r h = elim (eq-zero-or-pos (nextNeighbour day i last)) [
+    | inl z ↦
+        rw (neighbours-stop day i last more z)
+        (sym (ap stopOfKey (after-first last r ∙ ap (λ (x : ℕ). keyAfter keys (stops day) x r) (joins last .none z) ∙ after-none r)))
+    | inr l ↦ rw (neighbours-more day i last more l) (go l (neighbours-by more (neighbourKey day i (nextNeighbour day i last))) r h)
+  ]
     where
-      j : Joins day i last (leastAbove keys last (stops day))
-      j = joins last
+      key : ℕ
+      key = neighbourKey day i (nextNeighbour day i last)
 
-      go : (b : Bool) → eqb (nextNeighbour day i last) 0 ≡ b → (r : ℕ) → r < suc more
-          → ((s : ℕ) → s < more → getD (neighboursAfter day i more (neighbourKey day i (nextNeighbour day i last))) s 0
-          ≡ stopOfKey (keyAfter keys (stops day) (neighbourKey day i (nextNeighbour day i last)) (suc s)))
-          → getD (elim b [ true ↦ [] | false ↦ nextNeighbour day i last ∷ neighboursAfter day i more (neighbourKey day i (nextNeighbour day i last)) ]) r 0
-          ≡ stopOfKey (keyAfter keys (stops day) last (suc r))
-      go true e r h rest =
-          let n = j .none (eqb-true (nextNeighbour day i last) 0 e) in
-          sym (ap stopOfKey (after-first last r ∙ ap (λ (x : ℕ). keyAfter keys (stops day) x r) n ∙ after-none r) ∙ none-stop)
-      go false e zero h rest = j .stop
-      go false e (suc r) h rest =
-          let n = j .some (eqb-false (nextNeighbour day i last) 0 e) in
-          rest r (omega arith) ∙ ap (λ (x : ℕ). stopOfKey (keyAfter keys (stops day) x (suc r))) n ∙ sym (ap stopOfKey (after-first last (suc r)))
+      go : 0 < nextNeighbour day i last
+          → ((s : ℕ) → s < more → getD (neighboursAfter day i more key) s 0 ≡ stopOfKey (keyAfter keys (stops day) key (suc s)))
+          → (r : ℕ) → r < suc more → getD (nextNeighbour day i last ∷ neighboursAfter day i more key) r 0 ≡ stopOfKey (keyAfter keys (stops day) last (suc r))
+      go l rest zero h = joins last .stop
+      go l rest (suc r) h =
+          rest r (omega arith)
+          ∙ ap (λ (x : ℕ). stopOfKey (keyAfter keys (stops day) x (suc r))) (joins last .some (λ e. omega arith))
+          ∙ sym (ap stopOfKey (after-first last (suc r)))
 
 -- the next key, and a row as it is written
 pub key-first : (keys : List ℕ) (n : ℕ) → 0 ≡ keyAfter keys n 0 0
@@ -185,13 +172,12 @@ pub row-next : (keys : List ℕ) (n r i : ℕ) (before table : List ℕ) (last x
     → last ≡ keyAfter keys n 0 (r + 1) → x ≡ stopOfKey last → RowBy keys n (r + 1) i before (set table (50 * i + r) x)
 row-next keys n r i before table last x w long few in-table e f = record {
   size = length-set table (50 * i + r) x ∙ w .size;
-  row = λ s h. go s h (ℕ-discrete s r);
+  row = λ s h. elim (ℕ-discrete s r) [
+    | yes q ↦ rw q (getD-set-same table (50 * i + r) x 0 (omega (arith, w .size)) ∙ f ∙ ap stopOfKey (e ∙ ap (keyAfter keys n 0) (add-one r)))
+    | no q ↦ getD-set-other table (50 * i + r) (50 * i + s) x 0 (λ g. q (omega arith)) ∙ w .row s (omega arith)
+  ];
   kept = λ at h. getD-set-other table (50 * i + r) at x 0 (λ q. omega arith) ∙ w .kept at h;
 }
-  where
-    go : (s : ℕ) → s < r + 1 → Dec (s ≡ r) → getD (set table (50 * i + r) x) (50 * i + s) 0 ≡ stopOfKey (keyAfter keys n 0 (suc s))
-    go s h (yes q) = rw q (getD-set-same table (50 * i + r) x 0 (omega (arith, w .size)) ∙ f ∙ ap stopOfKey (e ∙ ap (keyAfter keys n 0) (add-one r)))
-    go s h (no q) = getD-set-other table (50 * i + r) (50 * i + s) x 0 (λ g. q (omega arith)) ∙ w .row s (omega arith)
 
 pub row-all : (keys : List ℕ) (n r k i : ℕ) (before table : List ℕ) → RowBy keys n r i before table → r ≤ k → k ≤ r → RowBy keys n k i before table
 row-all keys n r k i before table w a b = let e : k ≡ r = omega arith in rw e w
@@ -211,11 +197,13 @@ pub rows-none : (day : List ℕ) (K : ℕ) (table : List ℕ) → length table �
 rows-none day K table h = record { size = h; rows = λ i r p l g. absurd (omega arith) }
 
 pub rows-next : (day : List ℕ) (K n : ℕ) (before table : List ℕ) → K ≤ 50 → RowsTo day K n before → RowOf day K (n + 1) before table → RowsTo day K (n + 1) table
-rows-next day K n before table few t w = record { size = w .size ∙ t .size; rows = λ i r p l g. go i r p l g (ℕ-discrete i (n + 1)) }
-  where
-    go : (i r : ℕ) → 1 ≤ i → i ≤ n + 1 → r < K → Dec (i ≡ n + 1) → getD table (50 * i + r) 0 ≡ getD (neighbours day K i) r 0
-    go i r p l g (yes q) = rw q (w .row r g)
-    go i r p l g (no q) = w .kept (50 * i + r) (omega arith) ∙ t .rows i r p (omega arith) g
+rows-next day K n before table few t w = record {
+  size = w .size ∙ t .size;
+  rows = λ i r p l g. elim (ℕ-discrete i (n + 1)) [
+    | yes q ↦ rw q (w .row r g)
+    | no q ↦ w .kept (50 * i + r) (omega arith) ∙ t .rows i r p (omega arith) g
+  ];
+}
 
 pub rows-all : (day : List ℕ) (layout : Layout) (K n : ℕ) (table : List ℕ) → LayoutOf day layout → RowsTo day K n table → n ≤ layout .stops → layout .stops ≤ n → TableOf day K table
 rows-all day layout K n table lay t a b = record { size = t .size; rows = λ i r p l g. t .rows i r p (omega (arith, lay .stopsAre)) g }

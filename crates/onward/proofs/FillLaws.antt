@@ -1,31 +1,20 @@
 -- The rows of one vehicle, written from its E word backwards.
 -- Assumes nothing.
-use Prim.Native.Nat.{ℕ, zero, suc, _+_, _-_, _*_, _≤_, _<_}
+use Prim.Native.Nat.{ℕ, suc, _+_, _-_, _*_, _≤_, _<_}
 use mathlib.Core.Path.{_≡_, refl, sym, ap, _∙_}
-use mathlib.Core.List.{List, [], _∷_, _++_, map}
+use mathlib.Core.List.{List, _∷_, map}
 use mathlib.Core.Logic.{_⊎_, inl, inr}
 use native.Mathlib.Decide.{ℕ-discrete}
 use native.Mathlib.Omega.{arith}
-use lib.ListN.{length, getD, drop, length-drop, length-append, length-map}
+use lib.ListN.{length, getD, drop, length-drop, length-append, length-map, List·getD-append}
 use lib.Seq.{drop-cons, drop-length, getD-drop}
-use Rattle.rules.specs.Lists.{Every}
 use Rattle.rules.specs.Fields.{places}
 use Rattle.rules.specs.PlanWords.{backWord}
 use Rattle.rules.specs.Plan.{lunch, Round, taskWord, Known}
+use Rattle.laws.proofs.Lists.{every-at, get-map}
 use Rattle.onward.specs.Behind.{homeward, taskFirst, onwardOf, rowAt, RowPut, SomeTask, PutsFirst, RoundTo, SomeRoundTo, FillsBehind, behindWords}
 use Rattle.onward.specs.declared.Onward.{Onward}
 use Rattle.onward.proofs.OnwardLaws.{onward-bounds}
-
--- a task among known ones, and its word
-record TaskAt (day : List ℕ) (tasks : Round) (words : List ℕ) (i : ℕ) : Type 0 where
-  pub known : Known day (getD tasks i lunch)
-  pub word : getD words i 0 ≡ taskWord (getD tasks i lunch)
-
-task-at : (day : List ℕ) (tasks : Round) (words : List ℕ) (i : ℕ) → Every (Known day) tasks → i < length tasks → TaskAt day tasks (map taskWord tasks ++ words) i
-unfolding Every
-task-at day [] words i h l = absurd (omega arith)
-task-at day (task ∷ tasks) words zero h l = record { known = h .0; word = refl }
-task-at day (task ∷ tasks) words (suc i) h l = let t = task-at day tasks words i (h .1) (omega arith) in record { known = t .known; word = t .word }
 
 -- the vehicle stands within the plan
 round-inside : {day plan : List ℕ} {from end : ℕ} {tasks : Round} {rest : List ℕ} → RoundTo day plan from end tasks rest → end < length plan
@@ -36,12 +25,18 @@ round-inside {day} {plan} {from} {end} {tasks} {rest} h =
 round-word : {day plan : List ℕ} {from end : ℕ} {tasks : Round} {rest : List ℕ} → RoundTo day plan from end tasks rest → (i : ℕ) → i < length tasks
     → getD plan (from + i) 0 ≡ taskWord (getD tasks i lunch)
 round-word {day} {plan} {from} {end} {tasks} {rest} h i l =
-    sym (getD-drop from plan i 0) ∙ ap (λ (ws : List ℕ). getD ws i 0) (h .roundAt .text) ∙ task-at day tasks (backWord ∷ rest) i (h .roundAt .known) l .word
+    sym (getD-drop from plan i 0) ∙ ap (λ (ws : List ℕ). getD ws i 0) (h .roundAt .text)
+    ∙ List·getD-append (map taskWord tasks) (backWord ∷ rest) 0 i (omega (arith, length-map tasks taskWord)) ∙ get-map taskWord tasks i 0 lunch l
 
 -- the rows from a place on are right for these tasks, and what is left there is known
 pub record Filled (day behind : List ℕ) (from at : ℕ) (o : Onward) (tasks : Round) : Type 0 where
   pub here : (i : ℕ) → from + i ≡ at → o ≡ onwardOf day (drop i tasks)
   pub rows : (i : ℕ) → at ≤ from + i → i ≤ length tasks → rowAt behind (from + i) ≡ onwardOf day (drop i tasks)
+
+-- a row outside is none of the vehicle's
+outside : {q p from end : ℕ} → (q < from) ⊎ (end < q) → from ≤ p → p ≤ end → q ≡ p → ⊥
+outside (inl l) low high e = omega arith
+outside (inr l) low high e = omega arith
 
 -- a row is written and the rows from it on are right, whatever the tasks are; the rows outside are as they were
 pub record Filling (day plan : List ℕ) (from end : ℕ) (before behind : List ℕ) (at : ℕ) (o : Onward) : Type 0 where
@@ -71,16 +66,18 @@ filled-next : (day behind after : List ℕ) (from at p : ℕ) (o r : Onward) (ta
     → ((i : ℕ) → from + i ≡ p → r ≡ taskFirst day (getD tasks i lunch) o) → RowPut behind after p r → Filled day after from p r tasks
 unfolding onwardOf
 filled-next day behind after from at p o r tasks f low e l puts w =
-    record { here = left; rows = λ i h m. go i h m (ℕ-discrete (from + i) p) }
+    record {
+      here = left;
+      rows = λ i h m. elim (ℕ-discrete (from + i) p) [
+        | yes q ↦ ap (rowAt after) q ∙ w .is ∙ left i q
+        | no q ↦ w .others (from + i) q ∙ f .rows i (omega (arith, q)) m
+      ];
+    }
   where
     left : (i : ℕ) → from + i ≡ p → r ≡ onwardOf day (drop i tasks)
     left i q =
         puts i q ∙ ap (taskFirst day (getD tasks i lunch)) (f .here (suc i) (omega arith))
         ∙ sym (ap (onwardOf day) (drop-cons tasks i lunch (omega arith)))
-
-    go : (i : ℕ) → p ≤ from + i → i ≤ length tasks → Dec (from + i ≡ p) → rowAt after (from + i) ≡ onwardOf day (drop i tasks)
-    go i h m (yes q) = ap (rowAt after) q ∙ w .is ∙ left i q
-    go i h m (no q) = w .others (from + i) q ∙ f .rows i (omega (arith, q)) m
 
 -- what the code asks for where a row is written
 pub record Writes (day plan : List ℕ) (p : ℕ) (o : Onward) : Type 0 where
@@ -115,7 +112,7 @@ module _ {day plan : List ℕ} {from end : ℕ} (some : SomeRoundTo day plan fro
         record {
           word = record {
             task = getD (some .tasks) i lunch;
-            known = task-at day (some .tasks) [] i (t .roundAt .known) within .known;
+            known = every-at (Known day) (some .tasks) i lunch (t .roundAt .known) within;
             is = sym (ap (λ (j : ℕ). getD plan j 0) here) ∙ round-word t i within;
           };
           inside = omega (arith, round-inside t, f .high);
@@ -131,25 +128,17 @@ module _ {day plan : List ℕ} {from end : ℕ} (some : SomeRoundTo day plan fro
           high = omega (arith, f .high);
           size = long ∙ f .size;
           each = λ tasks rest t. filled-next day behind after from at p o r tasks (f .each tasks rest t) low e (omega (arith, t .ends, f .high)) (first tasks rest t) w;
-          others = λ q l. w .others q (outside q l) ∙ f .others q l;
+          others = λ q l. w .others q (outside l low (omega (arith, f .high))) ∙ f .others q l;
         }
       where
         first : (tasks : Round) (rest : List ℕ) → RoundTo day plan from end tasks rest → (i : ℕ) → from + i ≡ p → r ≡ taskFirst day (getD tasks i lunch) o
         first tasks rest t i q =
             let within : i < length tasks = omega (arith, t .ends, f .high) in
-            puts (getD tasks i lunch) (task-at day tasks [] i (t .roundAt .known) within .known) (sym (ap (λ (j : ℕ). getD plan j 0) q) ∙ round-word t i within)
-
-        outside : (q : ℕ) → (q < from) ⊎ (end < q) → q ≡ p → ⊥
-        outside q (inl l) z = omega arith
-        outside q (inr l) z = omega (arith, f .high)
+            puts (getD tasks i lunch) (every-at (Known day) tasks i lunch (t .roundAt .known) within) (sym (ap (λ (j : ℕ). getD plan j 0) q) ∙ round-word t i within)
 
     pub filling-end : {first : List ℕ} → at ≤ from → RowPut first before end homeward → FillsBehind day plan from end first behind
     filling-end {first} l w =
         record {
           rows = λ tasks rest t. record { row = λ i m. f .each tasks rest t .rows i (omega arith) m };
-          others = λ q h. f .others q h ∙ w .others q (outside q h);
+          others = λ q h. f .others q h ∙ w .others q (outside h (filling-inside .0) (omega arith));
         }
-      where
-        outside : (q : ℕ) → (q < from) ⊎ (end < q) → q ≡ end → ⊥
-        outside q (inl h) z = omega (arith, filling-inside .0)
-        outside q (inr h) z = omega arith

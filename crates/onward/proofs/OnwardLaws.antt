@@ -23,19 +23,16 @@ onward-distance day (serve k ∷ tasks) place = ap (λ (x : ℕ). legDistance da
 onward-distance day (empty x ∷ tasks) place = ap (λ (y : ℕ). legDistance day place x + y) (onward-distance day tasks x)
 onward-distance day (lunch ∷ tasks) place = onward-distance day tasks place
 
+-- what bounds both outcomes of a decision
+either-most : (b : Bool) {x y most : ℕ} → x ≤ most → y ≤ most → (if b then x else y) ≤ most
+either-most true l h = l
+either-most false l h = h
+
 -- one task more
 first-most : (day : List ℕ) (task : Task) (o : Onward) → o .most ≤ loadLimit day → taskFirst day task o .most ≤ loadLimit day
 unfolding stopFirst tipFirst
-first-most day (serve k) o h = go (leb (quantity day (stopPlace day k)) (o .most))
-  where
-    go : (b : Bool) → (if b then o .most - quantity day (stopPlace day k) else 0) ≤ loadLimit day
-    go true = omega arith
-    go false = omega arith
-first-most day (empty x) o h = go (eqb (o .least) 0)
-  where
-    go : (b : Bool) → (if b then loadLimit day else 0) ≤ loadLimit day
-    go true = omega arith
-    go false = omega arith
+first-most day (serve k) o h = either-most (leb (quantity day (stopPlace day k)) (o .most)) (omega arith) (omega arith)
+first-most day (empty x) o h = either-most (eqb (o .least) 0) (omega arith) (omega arith)
 first-most day lunch o h = h
 
 -- the load is never above Q
@@ -48,15 +45,11 @@ onward-most day (task ∷ tasks) = first-most day task (onwardOf day tasks) (onw
 first-within : (day : List ℕ) (task : Task) (legs : ℕ) (o : Onward) → Known day task → OnwardWithin day legs o → OnwardWithin day (suc legs) (taskFirst day task o)
 unfolding stopFirst tipFirst Known
 first-within day (serve k) legs o n w = record {
-  least = go (leb (quantity day (stopPlace day k)) (o .most));
+  least = either-most (leb (quantity day (stopPlace day k)) (o .most)) (omega (arith, w .least)) (omega arith);
   most = first-most day (serve k) o (w .most);
   next = omega (arith, n .1);
   distance = omega (arith, w .distance);
 }
-  where
-    go : (b : Bool) → (if b then o .least - quantity day (stopPlace day k) else 1) ≤ 1
-    go true = omega (arith, w .least)
-    go false = omega arith
 first-within day (empty x) legs o n w = record {
   least = omega arith;
   most = first-most day (empty x) o (w .most);

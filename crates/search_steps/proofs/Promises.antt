@@ -17,11 +17,11 @@ use Rattle.rules.specs.Edits.{Trial}
 use Rattle.rules.specs.TrialList.{trialList}
 use Rattle.rules.specs.Attempts.{distanceOf, isLawful, attempt}
 use Rattle.rules.specs.Search.{improve, searched}
-use Rattle.laws.proofs.Fresh.{every-append}
+use Rattle.laws.proofs.Fresh.{every-mem, every-append}
 use Rattle.greedy_laws.proofs.GreedyLawful.{greedy-answer}
 use Rattle.greedy_laws.proofs.LeftOut.{left-out-justified}
 use Rattle.trial_list.proofs.ListLength.{trials-bound}
-use Rattle.trial_list.proofs.Listed.{every-mem, listed-all}
+use Rattle.trial_list.proofs.Listed.{listed-all}
 use Rattle.trial_list.specs.Shapes.{Shaped, Valid}
 use Rattle.trial_list.proofs.Shapes.{greedy-shaped, shaped-length, shaped-formed}
 use Rattle.plan_laws.proofs.Theorems.{told-lawful, told-totals, formed-only}

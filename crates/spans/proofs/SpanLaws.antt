@@ -1,10 +1,10 @@
 -- Outside of the span of an edit stands no task that it changes. Assumes nothing.
 use Prim.Native.Nat.{ℕ, zero, suc, _+_, _-_, _≤_, _<_}
-use mathlib.Core.Path.{_≡_, refl, sym, ap, _∙_, subst}
+use mathlib.Core.Path.{_≡_, refl, sym, ap, _∙_}
 use mathlib.Core.Bool.{Bool, true, false}
 use mathlib.Core.List.{List, [], _∷_, map}
 use native.Mathlib.Omega.{arith}
-use lib.ListN.{length, length-map, length-drop, getD, take, drop, drop-of-length-le}
+use lib.ListN.{length, length-map, length-drop, getD, take, drop, drop-of-length-le, take-append-drop}
 use lib.Seq.{split-at, length-take-le, take-take, drop-drop}
 use borrow.Author.Tests.{eq-eqb, ne-eqb}
 use Rattle.rules.specs.Tests.{if_then_else_}
@@ -39,22 +39,12 @@ stop-at (empty x ∷ tasks) zero k s l e = absurd (omega (arith, e))
 stop-at (lunch ∷ tasks) zero k s l e = absurd (omega (arith, e))
 stop-at (task ∷ tasks) (suc at) k s l e = stop-at tasks at k s (omega arith) e
 
--- a part of the tasks has a stop no more often than all
-times-take : (k n : ℕ) (tasks : Round) → times k (stopsOn (take n tasks)) ≤ times k (stopsOn tasks)
-unfolding stopsOn times
-times-take k zero tasks = omega arith
-times-take k (suc n) [] = omega arith
-times-take k (suc n) (serve x ∷ tasks) = omega (arith, times-take k n tasks)
-times-take k (suc n) (empty x ∷ tasks) = times-take k n tasks
-times-take k (suc n) (lunch ∷ tasks) = times-take k n tasks
-
-times-drop : (k n : ℕ) (tasks : Round) → times k (stopsOn (drop n tasks)) ≤ times k (stopsOn tasks)
-unfolding stopsOn times
-times-drop k zero tasks = omega arith
-times-drop k (suc n) [] = omega arith
-times-drop k (suc n) (serve x ∷ tasks) = omega (arith, times-drop k n tasks)
-times-drop k (suc n) (empty x ∷ tasks) = times-drop k n tasks
-times-drop k (suc n) (lunch ∷ tasks) = times-drop k n tasks
+-- a stop stands in the two parts of the tasks as often as in all
+times-split : (k n : ℕ) (tasks : Round) → times k (stopsOn (take n tasks)) + times k (stopsOn (drop n tasks)) ≡ times k (stopsOn tasks)
+times-split k n tasks =
+    sym (times-append k (stopsOn (take n tasks)) (stopsOn (drop n tasks)))
+    ∙ ap (times k) (sym (stops-append (take n tasks) (drop n tasks)))
+    ∙ ap (λ (ts : Round). times k (stopsOn ts)) (take-append-drop n tasks)
 
 -- a stop that stands once at most stands at no other place
 module _ (k : ℕ) (tasks : Round) (at : ℕ) (l : at < length tasks) (is : getD tasks at lunch ≡ serve k) (once : times k (stopsOn tasks) ≤ 1) where
@@ -67,18 +57,13 @@ module _ (k : ℕ) (tasks : Round) (at : ℕ) (l : at < length tasks) (is : getD
       ∙ rw (is, eq-eqb k k refl) refl
 
   none-ahead : (first : ℕ) → first ≤ at → times k (stopsOn (take first tasks)) ≡ 0
-  none-ahead first h =
-      let part : times k (stopsOn (take first tasks)) ≤ times k (stopsOn (take at tasks)) =
-      subst (λ (ts : Round). times k (stopsOn ts) ≤ times k (stopsOn (take at tasks))) (take-take first at tasks h) (times-take k first (take at tasks)) in
-      omega (arith, times-parts)
+  none-ahead first h = omega (arith, times-parts, times-split k first (take at tasks), ap (λ (ts : Round). times k (stopsOn ts)) (take-take first at tasks h))
 
   none-behind : (i : ℕ) → at < i → times k (stopsOn (drop i tasks)) ≡ 0
   none-behind i h =
       let whole : suc at + (i - suc at) ≡ i = omega arith in
-      let part : times k (stopsOn (drop i tasks)) ≤ times k (stopsOn (drop (suc at) tasks)) =
-      subst (λ (n : ℕ). times k (stopsOn (drop n tasks)) ≤ times k (stopsOn (drop (suc at) tasks))) whole
-      (subst (λ (ts : Round). times k (stopsOn ts) ≤ times k (stopsOn (drop (suc at) tasks))) (drop-drop (i - suc at) (suc at) tasks) (times-drop k (i - suc at) (drop (suc at) tasks))) in
-      omega (arith, times-parts)
+      let rest = drop-drop (i - suc at) (suc at) tasks ∙ ap (λ (n : ℕ). drop n tasks) whole in
+      omega (arith, times-parts, times-split k (i - suc at) (drop (suc at) tasks), ap (λ (ts : Round). times k (stopsOn ts)) rest)
 
 -- a stop stands nowhere outside of a span
 record Clear (k : ℕ) (tasks : Round) (first last : ℕ) : Type 0 where
@@ -87,13 +72,7 @@ record Clear (k : ℕ) (tasks : Round) (first last : ℕ) : Type 0 where
 
 -- because it stands nowhere
 none-clear : (k : ℕ) (tasks : Round) (first last : ℕ) → times k (stopsOn tasks) ≡ 0 → Clear k tasks first last
-none-clear k tasks first last z = record { ahead = omega (arith, times-take k first tasks); behind = λ i h. omega (arith, times-drop k i tasks) }
-
--- behind all tasks is none
-past-end : (tasks : Round) (i : ℕ) → length tasks < i → drop i tasks ≡ []
-past-end tasks i h =
-    let l : length tasks ≤ i = omega arith in
-    drop-of-length-le tasks l
+none-clear k tasks first last z = record { ahead = omega (arith, times-split k first tasks); behind = λ i h. omega (arith, times-split k i tasks) }
 
 -- because the span has its word
 holds-clear : (tasks : Round) (k : ℕ) {words : List ℕ} {first last : ℕ} → words ≡ map taskWord tasks → k < 256 → times k (stopsOn tasks) ≤ 1 → Holds words k first last
@@ -102,7 +81,9 @@ unfolding stopsOn times
 holds-clear tasks k w s o (whole a b) =
     record {
       ahead = rw a refl;
-      behind = λ i h. ap (λ (ts : Round). times k (stopsOn ts)) (past-end tasks i (omega (arith, ap length w, length-map tasks taskWord)));
+      behind = λ i h.
+          let l : length tasks ≤ i = omega (arith, ap length w, length-map tasks taskWord) in
+          ap (λ (ts : Round). times k (stopsOn ts)) (drop-of-length-le tasks l);
     }
 holds-clear tasks k w s o (stands at l e a b) =
     let below : at < length tasks = omega (arith, ap length w, length-map tasks taskWord) in
@@ -138,15 +119,7 @@ module _ (e : Edit) (i j : ℕ) (stops : (k : ℕ) → (k ≡ i → ⊥) → (k 
       → Holds words i first last → Holds words j first last → Outside e tasks first last
   both-held tasks w a b o p h g = two-outside tasks (holds-within tasks w h) (holds-clear tasks i w a o h) (holds-clear tasks j w b p g)
 
--- what edits of two stops leave as it is
-before-stop : (i j k : ℕ) → (k ≡ i → ⊥) → (k ≡ j → ⊥) → changeStop (before i j) k ≡ serve k ∷ []
-unfolding changeStop
-before-stop i j k a b = rw (ne-eqb k j b, ne-eqb k i a) refl
-
-after-stop : (i j k : ℕ) → (k ≡ i → ⊥) → (k ≡ j → ⊥) → changeStop (after i j) k ≡ serve k ∷ []
-unfolding changeStop
-after-stop i j k a b = rw (ne-eqb k j b, ne-eqb k i a) refl
-
+-- what an interchange leaves as it is
 swap-stop : (i j k : ℕ) → (k ≡ i → ⊥) → (k ≡ j → ⊥) → changeStop (swap i j) k ≡ serve k ∷ []
 unfolding changeStop
 swap-stop i j k a b = rw (ne-eqb k i a, ne-eqb k j b) refl
@@ -154,12 +127,12 @@ swap-stop i j k a b = rw (ne-eqb k i a, ne-eqb k j b) refl
 -- the span of each edit, from the words that the code has found
 module _ (i j : ℕ) (tasks : Round) {words : List ℕ} {first last : ℕ} (w : words ≡ map taskWord tasks) (iSmall : i < 256) (jSmall : j < 256) where
   pub before-span : (here : Bool) → Single (before i j) here tasks → Holds words i first last → Holds words j first last → Outside (before i j) tasks first last
-  unfolding Single changeTip
-  before-span here s h g = both-held (before i j) i j (before-stop i j) (λ n x. refl) tasks w iSmall jSmall (s .0) (s .1) h g
+  unfolding Single changeStop changeTip
+  before-span here s h g = both-held (before i j) i j (λ k a b. rw (ne-eqb k j b, ne-eqb k i a) refl) (λ n x. refl) tasks w iSmall jSmall (s .0) (s .1) h g
 
   pub after-span : (here : Bool) → Single (after i j) here tasks → Holds words i first last → Holds words j first last → Outside (after i j) tasks first last
-  unfolding Single changeTip
-  after-span here s h g = both-held (after i j) i j (after-stop i j) (λ n x. refl) tasks w iSmall jSmall (s .0) (s .1) h g
+  unfolding Single changeStop changeTip
+  after-span here s h g = both-held (after i j) i j (λ k a b. rw (ne-eqb k j b, ne-eqb k i a) refl) (λ n x. refl) tasks w iSmall jSmall (s .0) (s .1) h g
 
   pub swap-span : (here : Bool) → Single (swap i j) here tasks → Holds words (if here then i else j) first last → Outside (swap i j) tasks first last
   unfolding Single changeTip
@@ -185,24 +158,15 @@ module _ (e : Edit) (at : ℕ) (stops : (k : ℕ) → changeStop e k ≡ serve k
           let below : last < length words = omega (arith, ap length w, length-map tasks taskWord, length-drop i tasks) in
           omega (arith, c .behind below)
 
--- what edits of a tip leave as it is
-remove-tip : (at n x : ℕ) → (n ≡ at → ⊥) → changeTip (remove at) n x ≡ empty x ∷ []
-unfolding changeTip
-remove-tip at n x h = rw (ne-eqb n at h) refl
-
-replace-tip : (at y n x : ℕ) → (n ≡ at → ⊥) → changeTip (replace at y) n x ≡ empty x ∷ []
-unfolding changeTip
-replace-tip at y n x h = rw (ne-eqb n at h) refl
-
 -- the span of each
 module _ (at : ℕ) (tasks : Round) {words : List ℕ} {first last : ℕ} (w : words ≡ map taskWord tasks) (c : Covers words at first last) where
   pub remove-span : Outside (remove at) tasks first last
-  unfolding changeStop
-  remove-span = tip-outside (remove at) at (λ k. refl) (remove-tip at) tasks w c
+  unfolding changeStop changeTip
+  remove-span = tip-outside (remove at) at (λ k. refl) (λ n x h. rw (ne-eqb n at h) refl) tasks w c
 
   pub replace-span : (x : ℕ) → Outside (replace at x) tasks first last
-  unfolding changeStop
-  replace-span x = tip-outside (replace at x) at (λ k. refl) (replace-tip at x) tasks w c
+  unfolding changeStop changeTip
+  replace-span x = tip-outside (replace at x) at (λ k. refl) (λ n y h. rw (ne-eqb n at h) refl) tasks w c
 
 -- a place that was found lies in the span
 pub place-held : {words : List ℕ} {k place first last : ℕ} → PlaceOf words k place → place < length words → first ≤ place → place ≤ last → Holds words k first last

@@ -154,14 +154,16 @@ module _ {day words p : List ℕ} {tasks : Round} (h : Walks day words p tasks) 
 
       -- its row is written
       pub filling-step : {after : List ℕ} → RowHolds after (from + (i + 1)) r → RowsKept (from + (i + 1)) before after → Filling day after from p now tasks (i + 1) r
-      filling-step {after} holds others = record { rows = λ j k. go j k (ℕ-discrete j (i + 1)); stands = filling-stands }
-        where
-          go : (j : ℕ) → j ≤ i + 1 → Dec (j ≡ i + 1)
-              → Rides day (length (stopsOn tasks)) (length (stopsOn (drop j tasks))) (truckBefore day tasks j) (cabAt after (from + j))
-          go j k (yes q) = rw q (row-rides filling-stands holds)
-          go j k (no q) =
-              subst (Rides day (length (stopsOn tasks)) (length (stopsOn (drop j tasks))) (truckBefore day tasks j)) (sym (others (from + j) (omega arith)))
-              (f .rows j (omega arith))
+      filling-step {after} holds others =
+          record {
+            rows = λ j k. elim (ℕ-discrete j (i + 1)) [
+              | yes q ↦ rw q (row-rides filling-stands holds)
+              | no q ↦
+                  subst (Rides day (length (stopsOn tasks)) (length (stopsOn (drop j tasks))) (truckBefore day tasks j)) (sym (others (from + j) (omega arith)))
+                  (f .rows j (omega arith))
+            ];
+            stands = filling-stands;
+          }
 
 -- all rows are there
 pub filling-whole : {day words before p part : List ℕ} {from i : ℕ} {tasks : Round} {c : Cab} → Walks day words p tasks → length words ≤ i

@@ -146,21 +146,21 @@ pub record Tracking (day : List ℕ) (rounds : List Round) (v : ℕ) (before beh
 -- one vehicle more
 tracking-next : (day : List ℕ) (rounds : List Round) (v : ℕ) (before walks behind onwards : List ℕ) → v < length rounds → Tracking day rounds v before behind
     → TracksOne day rounds v before walks behind onwards → Tracking day rounds (v + 1) walks onwards
-tracking-next day rounds v before walks behind onwards l t o = record { walked = λ u h. walked u h (ℕ-discrete u v); onward = λ u h. onward u h (ℕ-discrete u v) }
-  where
-    walked : (u : ℕ) → u < v + 1 → Dec (u ≡ v) → BeforeOf day walks (firstTask rounds u) (getD rounds u [])
-    walked u h (yes e) = subst (λ (n : ℕ). BeforeOf day walks (firstTask rounds n) (getD rounds n [])) (sym e) (o .walked)
-    walked u h (no e) = λ i m.
-        let within : u < v = omega (arith, e) in
-        rw (o .walkedKept (firstTask rounds u + i) (omega (arith, starts-rise rounds u v within (omega arith)))) (t .walked u within i m)
-
-    onward : (u : ℕ) → u < v + 1 → Dec (u ≡ v) → BehindOf day onwards (firstTask rounds u) (getD rounds u [])
-    onward u h (yes e) = subst (λ (n : ℕ). BehindOf day onwards (firstTask rounds n) (getD rounds n [])) (sym e) (o .onward)
-    onward u h (no e) =
-        let within : u < v = omega (arith, e) in
-        record {
-          row = λ i m. o .onwardKept (firstTask rounds u + i) (omega (arith, starts-rise rounds u v within (omega arith))) ∙ t .onward u within .row i m;
-        }
+tracking-next day rounds v before walks behind onwards l t o =
+    record {
+      walked = λ u h. elim (ℕ-discrete u v) [
+        | yes e ↦ subst (λ (n : ℕ). BeforeOf day walks (firstTask rounds n) (getD rounds n [])) (sym e) (o .walked)
+        | no e ↦ λ i m.
+            let within : u < v = omega (arith, e) in
+            rw (o .walkedKept (firstTask rounds u + i) (omega (arith, starts-rise rounds u v within (omega arith)))) (t .walked u within i m)
+      ];
+      onward = λ u h. elim (ℕ-discrete u v) [
+        | yes e ↦ subst (λ (n : ℕ). BehindOf day onwards (firstTask rounds n) (getD rounds n [])) (sym e) (o .onward)
+        | no e ↦
+            let within : u < v = omega (arith, e) in
+            record { row = λ i m. o .onwardKept (firstTask rounds u + i) (omega (arith, starts-rise rounds u v within (omega arith))) ∙ t .onward u within .row i m }
+      ];
+    }
 
 -- so it is for whatever vehicles the plan has
 pub record Tracks (day plan starts : List ℕ) (room count v : ℕ) (tracks work : List ℕ) : Type 0 where

@@ -3,7 +3,7 @@
 -- Assumes nothing.
 use Prim.Native.Nat.{ℕ, zero, suc, _+_, _*_, _≤_, _<_}
 use mathlib.Core.Path.{_≡_, refl}
-use mathlib.Core.Bool.{Bool, true, false, _||_}
+use mathlib.Core.Bool.{_||_}
 use mathlib.Core.List.{List, [], _∷_}
 use mathlib.Core.Logic.{inl, inr}
 use native.Mathlib.Nat.{mul-le-mul-right, eq-or-lt-of-le}
@@ -11,12 +11,10 @@ use native.Mathlib.Omega.{arith}
 use lib.Dec.{eqb}
 use lib.ListN.{length, length-append}
 use borrow.Author.Tests.{eq-eqb}
-use Rattle.rules.specs.Tests.{if_then_else_}
 use Rattle.rules.specs.Lists.{Every, total}
 use Rattle.rules.specs.Fields.{stops, tips}
 use Rattle.rules.specs.Plan.{serve, empty, lunch, Round, Known}
 use Rattle.rules.specs.Neighbours.{neighbours}
-use Rattle.rules.specs.Edits.{onOne, onTwo, before, after, swap}
 use Rattle.rules.specs.TrialList.{each, rising, vehicleOf, pairTrials, stopTrials, otherTip, taskTrials, roundTrials, tipTrials, trialList}
 use Rattle.neighbours.proofs.NeighbourLaws.{neighbours-are}
 use Rattle.laws.proofs.Decided.{known}
@@ -26,30 +24,25 @@ use Rattle.trial_list.specs.Shapes.{Shaped}
 use Rattle.trial_list.proofs.Shapes.{shaped-stops}
 
 -- lists of at most so many each
-pub each-length : {A M : Type 0} (f : A → List M) (most : ℕ) → ((x : A) → length (f x) ≤ most) → (xs : List A) → length (each f xs) ≤ length xs * most
+each-length : {A M : Type 0} (f : A → List M) (most : ℕ) → ((x : A) → length (f x) ≤ most) → (xs : List A) → length (each f xs) ≤ length xs * most
 unfolding each
 each-length f most h [] = omega arith
 each-length f most h (x ∷ xs) = omega (arith, h x, each-length f most h xs, length-append (f x) (each f xs))
 
-pub rising-length : {M : Type 0} (f : ℕ → List M) (most : ℕ) → ((x : ℕ) → length (f x) ≤ most) → (k r : ℕ) → length (rising f k r) ≤ r * most
+rising-length : {M : Type 0} (f : ℕ → List M) (most : ℕ) → ((x : ℕ) → length (f x) ≤ most) → (k r : ℕ) → length (rising f k r) ≤ r * most
 unfolding rising
 rising-length f most h k zero = omega arith
 rising-length f most h k (suc r) = omega (arith, h k, rising-length f most h (suc k) r, length-append (f k) (rising f (suc k) r))
 
 pair-length : (rounds : List Round) (i j : ℕ) → length (pairTrials rounds i j) ≤ 2
 unfolding pairTrials
-pair-length rounds i j = go (eqb (vehicleOf rounds i) 0 || eqb (vehicleOf rounds j) 0) (eqb (vehicleOf rounds i) (vehicleOf rounds j))
-  where
-    go : (b c : Bool) → length (
-        if b then []
-        else if c then onOne (before i j) (vehicleOf rounds i) ∷ onOne (after i j) (vehicleOf rounds i) ∷ []
-        else onTwo (swap i j) (vehicleOf rounds i) (vehicleOf rounds j) ∷ []) ≤ 2
-    go true c = omega arith
-    go false true = omega arith
-    go false false = omega arith
+pair-length rounds i j = elim (known (eqb (vehicleOf rounds i) 0 || eqb (vehicleOf rounds j) 0)) [
+  | inl a ↦ rw a (omega arith)
+  | inr a ↦ elim (known (eqb (vehicleOf rounds i) (vehicleOf rounds j))) [ inl b ↦ rw (a, b) (omega arith) | inr b ↦ rw (a, b) (omega arith) ]
+]
 
 -- for each stop, two for each of K neighbours
-pub stops-length : (day : List ℕ) (K : ℕ) (rounds : List Round) → length (stopTrials day K rounds) ≤ stops day * (2 * K)
+stops-length : (day : List ℕ) (K : ℕ) (rounds : List Round) → length (stopTrials day K rounds) ≤ stops day * (2 * K)
 unfolding stopTrials
 stops-length day K rounds =
     rising-length (λ i. each (pairTrials rounds i) (neighbours day K i)) (2 * K)

@@ -4,7 +4,7 @@
 use Prim.Native.Nat.{ℕ, zero, suc, _+_, _≤_, _<_}
 use mathlib.Core.Path.{_≡_, sym, subst}
 use mathlib.Core.Bool.{true, not}
-use mathlib.Core.List.{List, [], _∷_, List·Memᴰ, List·Memᴰ·cases-cons, List·Memᴰ·not-nil}
+use mathlib.Core.List.{List, [], _∷_}
 use mathlib.Core.Logic.{inl, inr}
 use native.Mathlib.Omega.{arith}
 use lib.Dec.{eqb}
@@ -21,12 +21,6 @@ use Rattle.neighbours.proofs.NeighbourLaws.{neighbours-are}
 use Rattle.laws.proofs.Decided.{known}
 use Rattle.trial_list.specs.Shapes.{Shaped, On, Valid, moved-before, moved-after, swapped, removed, replaced}
 use Rattle.trial_list.proofs.Shapes.{shaped-once, vehicle-found}
-
--- what holds of each element holds of one
-pub every-mem : {A : Type 0} (P : A → Type 0) (xs : List A) (x : A) → Every P xs → List·Memᴰ x xs → P x
-unfolding Every
-every-mem P [] x h m = absurd (List·Memᴰ·not-nil m)
-every-mem P (y ∷ xs) x h m = elim (List·Memᴰ·cases-cons m) [ inl e ↦ subst P (sym e) (h .0) | inr n ↦ every-mem P xs x (h .1) n ]
 
 -- the lists of elements with two properties, and of rising numbers
 module _ {M : Type 0} (P : M → Type 0) where

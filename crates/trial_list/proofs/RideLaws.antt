@@ -2,21 +2,22 @@
 -- Assumes nothing.
 use Prim.Native.Nat.{ℕ, suc, _+_, _-_, _*_, _≤_, _<_}
 use mathlib.Core.Path.{_≡_, refl, sym, ap, _∙_}
-use mathlib.Core.Bool.{Bool, true, false}
 use mathlib.Core.List.{List, [], _∷_, _++_, map}
+use mathlib.Core.Logic.{inl, inr}
 use native.Mathlib.Decide.{ℕ-discrete}
 use native.Mathlib.Numerals.{add-one}
 use native.Mathlib.Omega.{arith}
 use lib.Dec.{eqb, ltb}
 use lib.ListN.{length, getD, drop, set, length-drop, length-set}
 use lib.Seq.{drop-cons, getD-set-same, getD-set-other}
-use borrow.Author.Tests.{eq-eqb, ne-eqb, lt-ltb, le-ltb}
+use borrow.Author.Tests.{eq-eqb, ne-eqb, lt-ltb, le-ltb, ltb-true}
 use Rattle.rules.specs.Tests.{if_then_else_}
 use Rattle.rules.specs.Lists.{Every, mem}
-use Rattle.rules.specs.Fields.{tips, places, stopPlace, legDistance}
+use Rattle.rules.specs.Fields.{tips, places, legDistance}
 use Rattle.rules.specs.PlanWords.{stopWord, tipWord, restWord, backWord}
 use Rattle.rules.specs.Plan.{Task, serve, empty, lunch, Round, taskWord, stopsOn, Known}
 use Rattle.rules.specs.Lawful.{distanceFrom}
+use Rattle.laws.proofs.Decided.{known}
 use Rattle.laws.proofs.Lists.{mem-same, mem-other}
 use Rattle.laws.specs.Plan.{RoundAt}
 use Rattle.day.specs.Layout.{LayoutOf, LegOf}
@@ -76,18 +77,9 @@ task-not-back day (empty k) h e = omega (arith, h .1)
 task-not-back day lunch h e = omega arith
 
 -- what a word does, by the test that decides it
-place-rides : (day : List ℕ) (place w : ℕ) → w < restWord → placeOf (tips day) w ≡ placeThen day place w
-unfolding placeThen
-place-rides day place w h = rw (lt-ltb w restWord h) refl
-
 pub place-rests : (day : List ℕ) (place w : ℕ) → restWord ≤ w → place ≡ placeThen day place w
 unfolding placeThen
 place-rests day place w h = rw (le-ltb w restWord h) refl
-
-distance-rides : (day : List ℕ) (place distance w : ℕ) → w < restWord
-    → distance + legDistance day place (placeOf (tips day) w) ≡ distanceThen day place distance w
-unfolding distanceThen
-distance-rides day place distance w h = rw (lt-ltb w restWord h) refl
 
 pub distance-rests : (day : List ℕ) (place distance w : ℕ) → restWord ≤ w → distance ≡ distanceThen day place distance w
 unfolding distanceThen
@@ -115,43 +107,30 @@ module _ (day : List ℕ) (layout : Layout) (next w : ℕ) (lay : LayoutOf day l
   ride-inside k = omega (arith, k .place h, named-place, lay .placesAre)
 
   pub ride-place : (place : ℕ) → next ≡ placeThen day place w
-  ride-place place = named-place ∙ place-rides day place w h
+  unfolding placeThen
+  ride-place place = rw (lt-ltb w restWord h) named-place
 
   pub ride-distance : (place distance : ℕ) (leg : Leg) → LegOf day place next leg → distance + leg .distance ≡ distanceThen day place distance w
-  ride-distance place distance leg l =
-      ap (λ (x : ℕ). distance + x) (l .spans ∙ ap (legDistance day place) named-place) ∙ distance-rides day place distance w h
+  unfolding distanceThen
+  ride-distance place distance leg l = rw (lt-ltb w restWord h) (ap (λ (x : ℕ). distance + x) (l .spans ∙ ap (legDistance day place) named-place))
 
 -- a leg is short
 distance-few : (day : List ℕ) (place distance w : ℕ) → distanceThen day place distance w ≤ distance + 65535
 unfolding distanceThen
-distance-few day place distance w = go (ltb w restWord)
-  where
-    go : (b : Bool) → (if b then distance + legDistance day place (placeOf (tips day) w) else distance) ≤ distance + 65535
-    go true = omega arith
-    go false = omega arith
+distance-few day place distance w = elim (known (ltb w restWord)) [ inl y ↦ rw y (omega arith) | inr n ↦ rw n (omega arith) ]
 
 -- one task: its place, the distance with what is left to drive, and the vehicles of the stops with what is left to mark
-place-serve : (day : List ℕ) (place k : ℕ) → k < 256 → placeThen day place (stopWord k) ≡ stopPlace day k
-place-serve day place k h = sym (place-rides day place (stopWord k) (omega arith)) ∙ place-stop (tips day) k h
-
-place-empty : (day : List ℕ) (place k : ℕ) → k < 16 → placeThen day place (tipWord k) ≡ k
-place-empty day place k h = sym (place-rides day place (tipWord k) (omega arith)) ∙ place-tip (tips day) k
-
-place-next : (day : List ℕ) (place : ℕ) (task : Task) → Known day task → place < places day → placeThen day place (taskWord task) < places day
-unfolding Known taskWord
-place-next day place (serve k) h p = rw (place-serve day place k (omega (arith, h .1))) (omega (arith, h .1))
-place-next day place (empty k) h p = rw (place-empty day place k (omega (arith, h .1))) (omega (arith, h .1))
-place-next day place lunch h p = rw (← place-rests day place restWord (omega arith)) p
+place-next : (day : List ℕ) (place w : ℕ) → TaskWord day w → place < places day → placeThen day place w < places day
+unfolding placeThen
+place-next day place w t p = elim (known (ltb w restWord)) [ inl y ↦ rw y (t .place (ltb-true w restWord y)) | inr n ↦ rw n p ]
 
 drive-next : (day : List ℕ) (place distance : ℕ) (task : Task) (todo : Round) → Known day task
     → distanceThen day place distance (taskWord task) + distanceFrom day (placeThen day place (taskWord task)) todo ≡ distance + distanceFrom day place (task ∷ todo)
-unfolding Known taskWord distanceFrom
+unfolding Known taskWord distanceFrom placeThen distanceThen
 drive-next day place distance (serve k) todo h =
-    rw (place-serve day place k (omega (arith, h .1)), ← distance-rides day place distance (stopWord k) (omega (arith, h .1)), place-stop (tips day) k (omega (arith, h .1))) (omega arith)
-drive-next day place distance (empty k) todo h =
-    rw (place-empty day place k (omega (arith, h .1)), ← distance-rides day place distance (tipWord k) (omega (arith, h .1)), place-tip (tips day) k) (omega arith)
-drive-next day place distance lunch todo h =
-    rw (← place-rests day place restWord (omega arith), ← distance-rests day place distance restWord (omega arith)) refl
+    rw (lt-ltb (stopWord k) restWord (omega (arith, h .1)), place-stop (tips day) k (omega (arith, h .1))) (omega arith)
+drive-next day place distance (empty k) todo h = rw (lt-ltb (tipWord k) restWord (omega (arith, h .1)), place-tip (tips day) k) (omega arith)
+drive-next day place distance lunch todo h = refl
 
 pub first-some : (x y : ℕ) → (x ≡ 0 → ⊥) → firstOf x y ≡ x
 unfolding firstOf
@@ -173,27 +152,25 @@ then-here : (number k x : ℕ) (todo : Round) → x ≡ 0 → vehicleThen number
 unfolding vehicleThen stopsOn
 then-here number k x todo e = rw (e, mem-same k k (stopsOn todo) refl) (first-none number)
 
+-- a stop's word marks the stop, where it has no vehicle yet
+vehicles-serve : (vehicles : List ℕ) (number j : ℕ) → j < 256
+    → vehiclesThen vehicles number (stopWord j) ≡ (if eqb (getD vehicles j 0) 0 then set vehicles j number else vehicles)
+unfolding vehiclesThen
+vehicles-serve vehicles number j few = let at : stopWord j - stopWord 0 ≡ j = omega arith in rw (lt-ltb (stopWord j) (tipWord 0) (omega arith), at) refl
+
 serve-marks : (vehicles : List ℕ) (number j : ℕ) (todo : Round) → 0 < number → j < 256 → length vehicles ≡ 256 → (k : ℕ)
     → vehicleThen number todo (getD (vehiclesThen vehicles number (stopWord j)) k 0) k ≡ vehicleThen number (serve j ∷ todo) (getD vehicles k 0) k
-serve-marks vehicles number j todo some few long k = go (ℕ-discrete (getD vehicles j 0) 0) (ℕ-discrete k j)
+serve-marks vehicles number j todo some few long k = rw (vehicles-serve vehicles number j few) (go (ℕ-discrete (getD vehicles j 0) 0) (ℕ-discrete k j))
   where
-    at : stopWord j - stopWord 0 ≡ j
-    at = omega arith
-
-    first : getD vehicles j 0 ≡ 0 → vehiclesThen vehicles number (stopWord j) ≡ set vehicles j number
-    first e =
-        sym (vehicles-first vehicles number (stopWord j) (omega arith) (ap (λ (i : ℕ). getD vehicles i 0) at ∙ e)) ∙ ap (λ (i : ℕ). set vehicles i number) at
-
-    later : (getD vehicles j 0 ≡ 0 → ⊥) → vehiclesThen vehicles number (stopWord j) ≡ vehicles
-    later n = sym (vehicles-later vehicles number (stopWord j) (omega arith) (λ e. n (sym (ap (λ (i : ℕ). getD vehicles i 0) at) ∙ e)))
-
     go : Dec (getD vehicles j 0 ≡ 0) → Dec (k ≡ j)
-        → vehicleThen number todo (getD (vehiclesThen vehicles number (stopWord j)) k 0) k ≡ vehicleThen number (serve j ∷ todo) (getD vehicles k 0) k
+        → vehicleThen number todo (getD (if eqb (getD vehicles j 0) 0 then set vehicles j number else vehicles) k 0) k
+        ≡ vehicleThen number (serve j ∷ todo) (getD vehicles k 0) k
     go (yes e) (yes q) =
-        rw (q, first e, getD-set-same vehicles j number 0 (omega arith)) (then-some number j number todo (λ z. omega arith) ∙ sym (then-here number j _ todo e))
-    go (yes e) (no q) = rw (first e, getD-set-other vehicles j k number 0 q) (then-other number k j _ todo q)
-    go (no n) (yes q) = rw (q, later n) (then-some number j _ todo n ∙ sym (then-some number j _ (serve j ∷ todo) n))
-    go (no n) (no q) = rw (later n) (then-other number k j _ todo q)
+        rw (q, eq-eqb _ 0 e, getD-set-same vehicles j number 0 (omega arith))
+        (then-some number j number todo (λ z. omega arith) ∙ sym (then-here number j _ todo e))
+    go (yes e) (no q) = rw (eq-eqb _ 0 e, getD-set-other vehicles j k number 0 q) (then-other number k j _ todo q)
+    go (no n) (yes q) = rw (q, ne-eqb _ 0 n) (then-some number j _ todo n ∙ sym (then-some number j _ (serve j ∷ todo) n))
+    go (no n) (no q) = rw (ne-eqb _ 0 n) (then-other number k j _ todo q)
 
 marks-next : (day vehicles : List ℕ) (number : ℕ) (task : Task) (todo : Round) → Known day task → 0 < number → length vehicles ≡ 256 → (k : ℕ)
     → vehicleThen number todo (getD (vehiclesThen vehicles number (taskWord task)) k 0) k ≡ vehicleThen number (task ∷ todo) (getD vehicles k 0) k
@@ -213,142 +190,96 @@ then-nothing : (number k x : ℕ) → vehicleThen number [] x k ≡ x
 unfolding vehicleThen stopsOn mem
 then-nothing number k x = first-zero x
 
-drive-home : (day : List ℕ) (place : ℕ) → distanceFrom day place [] ≡ legDistance day place 0
-unfolding distanceFrom
-drive-home day place = refl
-
 vehicles-size : (vehicles : List ℕ) (number w : ℕ) → length (vehiclesThen vehicles number w) ≡ length vehicles
 unfolding vehiclesThen
-vehicles-size vehicles number w = go (ltb w (tipWord 0)) (eqb (getD vehicles (w - stopWord 0) 0) 0)
-  where
-    go : (a b : Bool) → length (if a then (if b then set vehicles (w - stopWord 0) number else vehicles) else vehicles) ≡ length vehicles
-    go true true = length-set vehicles (w - stopWord 0) number
-    go true false = refl
-    go false b = refl
+vehicles-size vehicles number w = elim (known (ltb w (tipWord 0))) [
+  | inl y ↦ elim (known (eqb (getD vehicles (w - stopWord 0) 0) 0)) [ inl e ↦ rw (y, e) (length-set vehicles (w - stopWord 0) number) | inr e ↦ rw (y, e) refl ]
+  | inr n ↦ rw n refl
+]
 
--- a vehicle on its way through its words: what is done and what is left make up the whole
-pub record Riding (day plan : List ℕ) (from number : ℕ) (tasks : Round) (rest before vehicles : List ℕ) (at place distance : ℕ) : Type 0 where
-  pub todo : Round
+-- what is left of a vehicle's words: with what is done it makes up the whole
+pub record Riding (day plan : List ℕ) (from number : ℕ) (tasks : Round) (rest before vehicles : List ℕ) (at place distance : ℕ) (todo : Round) : Type 0 where
   pub here : drop at plan ≡ map taskWord todo ++ (backWord ∷ rest)
   pub known : Every (Known day) todo
   pub ends : at + length todo ≡ from + length tasks
   pub drives : distance + distanceFrom day place todo ≡ distanceFrom day 0 tasks
   pub marks : (k : ℕ) → vehicleThen number todo (getD vehicles k 0) k ≡ vehicleThen number tasks (getD before k 0) k
-  pub inside : place < places day
-  pub few : distance ≤ 65535 * at
-  pub size : length vehicles ≡ 256
 
--- what reading the next word asks for
-pub record Onward (day plan vehicles : List ℕ) (at place distance : ℕ) : Type 0 where
-  pub within : at < length plan
-  pub inside : place < places day
-  pub few : distance ≤ 65535 * at
-  pub size : length vehicles ≡ 256
+abbrev pub RidesEach : (day plan : List ℕ) (from number : ℕ) (before vehicles : List ℕ) (at place distance : ℕ) → Type 0
+RidesEach day plan from number before vehicles at place distance =
+    (tasks : Round) (rest : List ℕ) → RoundAt day plan from tasks rest
+    → (todo : Round) × Riding day plan from number tasks rest before vehicles at place distance todo
 
-riding-start : (day plan : List ℕ) (from number : ℕ) (tasks : Round) (rest before : List ℕ) → RoundAt day plan from tasks rest → length before ≡ 256
-    → Riding day plan from number tasks rest before before from 0 0
-riding-start day plan from number tasks rest before h long = record {
-  todo = tasks;
-  here = h .text;
-  known = h .known;
-  ends = refl;
-  drives = omega arith;
-  marks = λ k. refl;
-  inside = omega arith;
-  few = omega arith;
-  size = long;
-}
-
--- the word that is next: a task's, or E
-data NextWord (day plan : List ℕ) (rest : List ℕ) (at : ℕ) : Round → Type 0 where
-  isTask : (task : Task) (todo : Round) → Known day task → Every (Known day) todo → WordAt plan at (taskWord task) (map taskWord todo ++ (backWord ∷ rest))
-      → NextWord day plan rest at (task ∷ todo)
-  isBack : WordAt plan at backWord rest → NextWord day plan rest at []
-
-next-word : (day plan rest : List ℕ) (at : ℕ) (todo : Round) → drop at plan ≡ map taskWord todo ++ (backWord ∷ rest) → Every (Known day) todo → NextWord day plan rest at todo
-unfolding Every
-next-word day plan rest at [] e h = isBack (word-at plan at backWord rest e)
-next-word day plan rest at (task ∷ todo) e h = isTask task todo (h .0) (h .1) (word-at plan at (taskWord task) (map taskWord todo ++ (backWord ∷ rest)) e)
-
-module _ {day plan : List ℕ} {from number : ℕ} {tasks : Round} {rest before vehicles : List ℕ} {at place distance : ℕ}
-    (r : Riding day plan from number tasks rest before vehicles at place distance) where
-  riding-in : at < length plan
-  riding-in = go (next-word day plan rest at (r .todo) (r .here) (r .known))
-    where
-      go : {todo : Round} → NextWord day plan rest at todo → at < length plan
-      go (isTask task todo h k w) = w .within
-      go (isBack w) = w .within
-
-  riding-onward : Onward day plan vehicles at place distance
-  riding-onward = record { within = riding-in; inside = r .inside; few = r .few; size = r .size }
-
-  riding-word : (getD plan at 0 ≡ backWord → ⊥) → TaskWord day (getD plan at 0)
-  riding-word n = go (next-word day plan rest at (r .todo) (r .here) (r .known))
-    where
-      go : {todo : Round} → NextWord day plan rest at todo → TaskWord day (getD plan at 0)
-      go (isTask task todo h k w) = rw (w .word) (task-known day task h)
-      go (isBack w) = absurd (n (w .word))
-
-  riding-next : (after : List ℕ) (further farther : ℕ) → (getD plan at 0 ≡ backWord → ⊥) → 0 < number
-      → after ≡ vehiclesThen vehicles number (getD plan at 0) → further ≡ placeThen day place (getD plan at 0) → farther ≡ distanceThen day place distance (getD plan at 0)
-      → Riding day plan from number tasks rest before after (at + 1) further farther
-  riding-next after further farther n some a p d = go (r .todo) (next-word day plan rest at (r .todo) (r .here) (r .known)) (r .ends) (r .drives) (r .marks)
-    where
-      go : (todo : Round) → NextWord day plan rest at todo → at + length todo ≡ from + length tasks → distance + distanceFrom day place todo ≡ distanceFrom day 0 tasks
-          → ((k : ℕ) → vehicleThen number todo (getD vehicles k 0) k ≡ vehicleThen number tasks (getD before k 0) k)
-          → Riding day plan from number tasks rest before after (at + 1) further farther
-      go _ (isBack w) e f g = absurd (n (w .word))
-      go _ (isTask task todo h k w) e f g =
-          record {
-            todo = todo;
-            here = w .rest;
-            known = k;
-            ends = omega arith;
-            drives = rw (p, d, w .word) (drive-next day place distance task todo h ∙ f);
-            marks = λ j. rw (a, w .word) (marks-next day vehicles number task todo h some (r .size) j ∙ g j);
-            inside = rw (p, w .word) (place-next day place task h (r .inside));
-            few = omega (arith, r .few, distance-few day place distance (getD plan at 0));
-            size = rw a (vehicles-size vehicles number (getD plan at 0) ∙ r .size);
-          }
-
-  riding-end : (driven : Driven) (leg : Leg) → getD plan at 0 ≡ backWord → LegOf day place 0 leg → driven .end ≡ at + 1 → driven .distance ≡ distance + leg .distance
-      → Ended day from number tasks before vehicles driven
-  riding-end driven leg e l q d = go (r .todo) (next-word day plan rest at (r .todo) (r .here) (r .known)) (r .ends) (r .drives) (r .marks)
-    where
-      go : (todo : Round) → NextWord day plan rest at todo → at + length todo ≡ from + length tasks → distance + distanceFrom day place todo ≡ distanceFrom day 0 tasks
-          → ((k : ℕ) → vehicleThen number todo (getD vehicles k 0) k ≡ vehicleThen number tasks (getD before k 0) k)
-          → Ended day from number tasks before vehicles driven
-      go _ (isTask task todo h k w) a f g = absurd (task-not-back day task h (sym (w .word) ∙ e))
-      go _ (isBack w) a f g = record {
-        ends = omega arith;
-        drives = d ∙ ap (λ (x : ℕ). distance + x) (l .spans ∙ sym (drive-home day place)) ∙ f;
-        marks = λ k. sym (then-nothing number k (getD vehicles k 0)) ∙ g k;
-      }
-
--- so it is for whatever tasks stand there, of which there are some
+-- a vehicle on its way through its words, whatever tasks they are
 pub record Rides (day plan : List ℕ) (from number : ℕ) (before vehicles : List ℕ) (at place distance : ℕ) : Type 0 where
-  pub onward : Onward day plan vehicles at place distance
-  pub each : (tasks : Round) (rest : List ℕ) → RoundAt day plan from tasks rest → Riding day plan from number tasks rest before vehicles at place distance
+  pub within : at < length plan
+  pub word : (getD plan at 0 ≡ backWord → ⊥) → TaskWord day (getD plan at 0)
+  pub inside : place < places day
+  pub few : distance ≤ 65535 * at
+  pub size : length vehicles ≡ 256
+  pub each : RidesEach day plan from number before vehicles at place distance
 
 module _ {day plan : List ℕ} {from : ℕ} (some : SomeRound day plan from) where
+  -- the word that is next, by the tasks that are known to stand there
+  rides-of : {number : ℕ} {before vehicles : List ℕ} {at place distance : ℕ} → place < places day → distance ≤ 65535 * at → length vehicles ≡ 256
+      → RidesEach day plan from number before vehicles at place distance → Rides day plan from number before vehicles at place distance
+  unfolding Every
+  rides-of {number} {before} {vehicles} {at} {place} {distance} p d s f = let r = f (some .tasks) (some .rest) (some .roundAt) in go (r .0) (r .1)
+    where
+      go : (todo : Round) → Riding day plan from number (some .tasks) (some .rest) before vehicles at place distance todo
+          → Rides day plan from number before vehicles at place distance
+      go [] r =
+          let w = word-at plan at _ _ (r .here) in
+          record { within = w .within; word = λ n. absurd (n (w .word)); inside = p; few = d; size = s; each = f }
+      go (task ∷ todo) r =
+          let w = word-at plan at _ _ (r .here) in
+          record { within = w .within; word = λ n. rw (w .word) (task-known day task (r .known .0)); inside = p; few = d; size = s; each = f }
+
   pub rides-start : (number : ℕ) (before : List ℕ) → length before ≡ 256 → Rides day plan from number before before from 0 0
-  rides-start number before long = record {
-    onward = riding-onward (riding-start day plan from number (some .tasks) (some .rest) before (some .roundAt) long);
-    each = λ tasks rest h. riding-start day plan from number tasks rest before h long;
-  }
+  rides-start number before long =
+      rides-of (omega arith) (omega arith) long
+      (λ tasks rest h. (tasks, record { here = h .text; known = h .known; ends = refl; drives = omega arith; marks = λ k. refl }))
 
-  module _ {number : ℕ} {before vehicles : List ℕ} {at place distance : ℕ} (r : Rides day plan from number before vehicles at place distance) where
-    pub rides-word : (getD plan at 0 ≡ backWord → ⊥) → TaskWord day (getD plan at 0)
-    rides-word = riding-word (r .each (some .tasks) (some .rest) (some .roundAt))
+  pub rides-next : {number : ℕ} {before vehicles : List ℕ} {at place distance : ℕ} → Rides day plan from number before vehicles at place distance
+      → (after : List ℕ) (further farther : ℕ) → (getD plan at 0 ≡ backWord → ⊥) → 0 < number
+      → after ≡ vehiclesThen vehicles number (getD plan at 0) → further ≡ placeThen day place (getD plan at 0) → farther ≡ distanceThen day place distance (getD plan at 0)
+      → Rides day plan from number before after (at + 1) further farther
+  unfolding Every
+  rides-next {number} {before} {vehicles} {at} {place} {distance} r after further farther n some a p d =
+      rides-of
+      (rw p (place-next day place (getD plan at 0) (r .word n) (r .inside)))
+      (omega (arith, r .few, distance-few day place distance (getD plan at 0)))
+      (rw a (vehicles-size vehicles number (getD plan at 0) ∙ r .size))
+      (λ tasks rest h. let e = r .each tasks rest h in go (e .0) (e .1))
+    where
+      go : {tasks : Round} {rest : List ℕ} (todo : Round) → Riding day plan from number tasks rest before vehicles at place distance todo
+          → (left : Round) × Riding day plan from number tasks rest before after (at + 1) further farther left
+      go {rest = rest} [] e = absurd (n (word-at plan at _ _ (e .here) .word))
+      go {rest = rest} (task ∷ todo) e =
+          let w = word-at plan at _ _ (e .here) in (
+            todo,
+            record {
+              here = w .rest;
+              known = e .known .1;
+              ends = omega (arith, e .ends);
+              drives = rw (p, d, w .word) (drive-next day place distance task todo (e .known .0) ∙ e .drives);
+              marks = λ j. rw (a, w .word) (marks-next day vehicles number task todo (e .known .0) some (r .size) j ∙ e .marks j);
+            },
+          )
 
-    pub rides-next : (after : List ℕ) (further farther : ℕ) → (getD plan at 0 ≡ backWord → ⊥) → 0 < number
-        → after ≡ vehiclesThen vehicles number (getD plan at 0) → further ≡ placeThen day place (getD plan at 0) → farther ≡ distanceThen day place distance (getD plan at 0)
-        → Rides day plan from number before after (at + 1) further farther
-    rides-next after further farther n p a b d = record {
-      onward = riding-onward (riding-next (r .each (some .tasks) (some .rest) (some .roundAt)) after further farther n p a b d);
-      each = λ tasks rest h. riding-next (r .each tasks rest h) after further farther n p a b d;
+-- behind the E word
+pub rides-end : {day plan : List ℕ} {from number : ℕ} {before vehicles : List ℕ} {at place distance : ℕ}
+    → Rides day plan from number before vehicles at place distance
+    → (driven : Driven) (leg : Leg) → getD plan at 0 ≡ backWord → LegOf day place 0 leg → driven .end ≡ at + 1 → driven .distance ≡ distance + leg .distance
+    → EndsAll day plan from number before vehicles driven
+unfolding Every distanceFrom
+rides-end {day} {plan} {from} {number} {before} {vehicles} {at} {place} {distance} r driven leg e l q d tasks rest h =
+    let f = r .each tasks rest h in go (f .0) (f .1)
+  where
+    go : (todo : Round) → Riding day plan from number tasks rest before vehicles at place distance todo → Ended day from number tasks before vehicles driven
+    go (task ∷ todo) f = absurd (task-not-back day task (f .known .0) (sym (word-at plan at _ _ (f .here) .word) ∙ e))
+    go [] f = record {
+      ends = omega (arith, f .ends);
+      drives = d ∙ ap (λ (x : ℕ). distance + x) (l .spans) ∙ f .drives;
+      marks = λ k. sym (then-nothing number k (getD vehicles k 0)) ∙ f .marks k;
     }
-
-    pub rides-end : (driven : Driven) (leg : Leg) → getD plan at 0 ≡ backWord → LegOf day place 0 leg → driven .end ≡ at + 1 → driven .distance ≡ distance + leg .distance
-        → EndsAll day plan from number before vehicles driven
-    rides-end driven leg e l q d tasks rest h = riding-end (r .each tasks rest h) driven leg e l q d

@@ -12,7 +12,7 @@ use lib.ListN.{length, getD}
 use borrow.Author.Tests.{eq-eqb, ne-eqb}
 use Rattle.rules.specs.Lists.{mem, times}
 use Rattle.rules.specs.Fields.{stops, IsAccepted}
-use Rattle.rules.specs.Plan.{serve, Round, stopsOn, stopsOnAll, planWords, Formed}
+use Rattle.rules.specs.Plan.{Round, stopsOn, stopsOnAll, planWords, Formed}
 use Rattle.rules.specs.Build.{greedyRounds, greedyLefts}
 use Rattle.rules.specs.TrialList.{vehicleFrom}
 use Rattle.laws.proofs.Decided.{known}
@@ -63,12 +63,12 @@ module _ (day : List ℕ) (rounds : List Round) (s : Shaped day rounds) where
       }
 
 -- what holds of each vehicle holds of one, and of those in front
-pub each-vehicle : (P : ℕ → Round → Type 0) (from : ℕ) (rounds : List Round) (v : ℕ) → v < length rounds → EachFrom P from rounds → P (from + v + 1) (getD rounds v [])
+pub each-vehicle : (P : ℕ → Round → Type 0) (from : ℕ) (rounds : List Round) (v n : ℕ) → v < length rounds → n ≡ from + v + 1
+    → EachFrom P from rounds → P n (getD rounds v [])
 unfolding EachFrom
-each-vehicle P from [] v l h = absurd (omega arith)
-each-vehicle P from (tasks ∷ rounds) zero l h = subst (λ (n : ℕ). P n tasks) (omega arith) (h .0)
-each-vehicle P from (tasks ∷ rounds) (suc v) l h =
-    subst (λ (n : ℕ). P n (getD rounds v [])) (omega arith) (each-vehicle P (suc from) rounds v (omega arith) (h .1))
+each-vehicle P from [] v n l e h = absurd (omega arith)
+each-vehicle P from (tasks ∷ rounds) zero n l e h = subst (λ (k : ℕ). P k tasks) (omega arith) (h .0)
+each-vehicle P from (tasks ∷ rounds) (suc v) n l e h = each-vehicle P (suc from) rounds v n (omega arith) (omega arith) (h .1)
 
 pub each-front : (P : ℕ → Round → Type 0) (from : ℕ) (front rest : List Round) → EachFrom P from (front ++ rest) → EachFrom P from front
 unfolding EachFrom

@@ -17,7 +17,7 @@ use Rattle.rules.specs.Lists.{Every}
 use Rattle.rules.specs.Fields.{stops, tips}
 use Rattle.rules.specs.PlanWords.{restWord, tipWord}
 use Rattle.rules.specs.Plan.{Task, serve, empty, lunch, Round, taskWord, Known}
-use Rattle.rules.specs.Edits.{remove, replace, Trial, onOne}
+use Rattle.rules.specs.Edits.{remove, replace, onOne}
 use Rattle.rules.specs.TrialList.{rising, otherTip, taskTrials, roundTrials, tipTrials}
 use Rattle.day.specs.declared.fields.Layout.{Layout}
 use Rattle.laws.proofs.Decided.{known}
@@ -27,28 +27,23 @@ use Rattle.trial_list.specs.TrialRest.{listedTrial, tipFrom, taskFrom, t
 use Rattle.trial_list.specs.declared.listing.TipListed.{TipListed}
 use Rattle.trial_list.specs.declared.listing.TipPlace.{TipPlace}
 use Rattle.trial_list.proofs.LaidLaws.{start-next, vehicle-inside, task-word}
+use Rattle.trial_list.proofs.PairRests.{goes-past, goes-with}
 
 -- the trials of one tip
 module _ (most number t y : ℕ) where
-  pub from-removal : tipFrom most number t y 0 ≡ onOne (remove t) number ∷ tipFrom most number t y 1
+  from-removal : tipFrom most number t y 0 ≡ onOne (remove t) number ∷ tipFrom most number t y 1
   unfolding tipFrom
-  from-removal =
-      let e : most - 0 ≡ most = omega arith in
-      rw e refl
+  from-removal = let e : most - 0 ≡ most = omega arith in rw e refl
 
   from-over : (x : ℕ) → 0 < x → most < x → tipFrom most number t y x ≡ []
   unfolding tipFrom rising
   from-over zero a h = absurd (omega arith)
-  from-over (suc x) a h =
-      let e : most - x ≡ 0 = omega arith in
-      rw e refl
+  from-over (suc x) a h = let e : most - x ≡ 0 = omega arith in rw e refl
 
   from-here : (x : ℕ) → 0 < x → x ≤ most → tipFrom most number t y x ≡ otherTip number t y x ++ tipFrom most number t y (x + 1)
   unfolding tipFrom rising
   from-here zero a h = absurd (omega arith)
-  from-here (suc x) a h =
-      let e : most - x ≡ suc (most - suc x) = omega arith in
-      rw (add-one, e) refl
+  from-here (suc x) a h = let e : most - x ≡ suc (most - suc x) = omega arith in rw (add-one, e) refl
 
   from-same : (x : ℕ) → 0 < x → x ≡ y → tipFrom most number t y x ≡ tipFrom most number t y (x + 1)
   unfolding otherTip
@@ -61,51 +56,29 @@ module _ (most number t y : ℕ) where
   unfolding otherTip
   from-other x a h n = from-here x a h ∙ rw (ne-eqb x y n) refl
 
-  -- from the tip itself to the next
-  module _ (x k : ℕ) (a : 0 < x) (e : k ≡ (if eqb x y then x + 1 else x)) where
-    pub from-next : k ≤ most → tipFrom most number t y x ≡ onOne (replace t k) number ∷ tipFrom most number t y (k + 1)
-    from-next h = elim (known (eqb x y)) [
-      | inl b ↦
-          let f : k ≡ x + 1 = e ∙ rw b refl in
-          let same = eqb-true x y b in
-          rw f (from-same x a same ∙ from-other (x + 1) (omega arith) (omega arith) (λ q. omega arith))
-      | inr b ↦
-          let f : k ≡ x = e ∙ rw b refl in
-          rw f (from-other x a (omega arith) (eqb-false x y b))
-    ]
-
-    pub from-none : most < k → tipFrom most number t y x ≡ []
-    from-none h = elim (known (eqb x y)) [
-      | inl b ↦
-          let f : k ≡ x + 1 = e ∙ rw b refl in
-          from-same x a (eqb-true x y b) ∙ from-over (x + 1) (omega arith) (omega arith)
-      | inr b ↦
-          let f : k ≡ x = e ∙ rw b refl in
-          from-over x a (omega arith)
-    ]
+  -- the tip itself is passed over
+  from-next : (x k : ℕ) → 0 < x → k ≡ (if eqb x y then x + 1 else x) → (0 < k) × (k ≡ y → ⊥) × (tipFrom most number t y x ≡ tipFrom most number t y k)
+  from-next x k a e = elim (known (eqb x y)) [
+    | inl b ↦ let f : k ≡ x + 1 = rw b at e in let same = eqb-true x y b in (omega arith, λ z. omega arith, rw f (from-same x a same))
+    | inr b ↦ let f : k ≡ x = rw b at e in (omega arith, rw f (eqb-false x y b), rw f refl)
+  ]
 
 -- what is said of a tip
 module _ (most y : ℕ) (q : TipPlace) (r : TipListed) where
   pub tells-removal : q .tip ≡ 0 → r .found ≡ true → listedTrial (r .trial) ≡ onOne (remove (q .task)) (q .vehicle + 1) → r .next ≡ atTip q 1 → TipTells most y q r
-  tells-removal e f m n =
-      let number = suc (q .vehicle) in
-      a-tip r 1 f
-      (ap (tipFrom most number (q .task) y) e ∙ from-removal most number (q .task) y
-      ∙ ap (λ (k : ℕ). onOne (remove (q .task)) k ∷ tipFrom most number (q .task) y 1) (sym (add-one (q .vehicle)))
-      ∙ ap (λ (x : Trial). x ∷ tipFrom most number (q .task) y 1) (sym m)) n
+  tells-removal e f m n = a-tip r 1 f (rw (e, m, add-one (q .vehicle)) (from-removal most (suc (q .vehicle)) (q .task) y)) n
 
-  pub tells-other : (k : ℕ) → (q .tip ≡ 0 → ⊥) → k ≡ (if eqb (q .tip) y then q .tip + 1 else q .tip) → k ≤ most
-      → r .found ≡ true → listedTrial (r .trial) ≡ onOne (replace (q .task) k) (q .vehicle + 1) → r .next ≡ atTip q (k + 1) → TipTells most y q r
-  tells-other k z e h f m n =
-      let number = suc (q .vehicle) in
-      a-tip r (k + 1) f
-      (from-next most number (q .task) y (q .tip) k (omega arith) e h
-      ∙ ap (λ (o : ℕ). onOne (replace (q .task) k) o ∷ tipFrom most number (q .task) y (k + 1)) (sym (add-one (q .vehicle)))
-      ∙ ap (λ (x : Trial). x ∷ tipFrom most number (q .task) y (k + 1)) (sym m)) n
+  module _ (k : ℕ) (z : q .tip ≡ 0 → ⊥) (e : k ≡ (if eqb (q .tip) y then q .tip + 1 else q .tip)) where
+    pub tells-other : k ≤ most → r .found ≡ true
+        → listedTrial (r .trial) ≡ onOne (replace (q .task) k) (q .vehicle + 1) → r .next ≡ atTip q (k + 1) → TipTells most y q r
+    tells-other h f m n =
+        let s = from-next most (suc (q .vehicle)) (q .task) y (q .tip) k (omega arith) e in
+        a-tip r (k + 1) f (s .2 ∙ rw (m, add-one (q .vehicle)) (from-other most (suc (q .vehicle)) (q .task) y k (s .0) h (s .1))) n
 
-  pub tells-none : (k : ℕ) → (q .tip ≡ 0 → ⊥) → k ≡ (if eqb (q .tip) y then q .tip + 1 else q .tip) → most < k
-      → (r .found ≡ false) × (r .next ≡ nextTask q) → TipTells most y q r
-  tells-none k z e h f = no-tip r (f .0) (from-none most (suc (q .vehicle)) (q .task) y (q .tip) k (omega arith) e h) (f .1)
+    pub tells-none : {next : TipPlace} → most < k → next ≡ nextTask q → (r .found ≡ false) × (r .next ≡ next) → TipTells most y q r
+    tells-none h n f =
+        let s = from-next most (suc (q .vehicle)) (q .task) y (q .tip) k (omega arith) e in
+        no-tip r (f .0) (s .2 ∙ from-over most (suc (q .vehicle)) (q .task) y k (s .0) h) (f .1 ∙ n)
 
 -- the tips of a plan
 module _ (day : List ℕ) (rounds : List Round) where
@@ -136,23 +109,16 @@ module _ (day : List ℕ) (rounds : List Round) where
     abbrev its : Round
     its = getD rounds (q .vehicle) []
 
-    pub tasks-over : length its ≤ q .task → tipRest day rounds q ≡ tipRest day rounds (nextVehicle q)
+    tasks-over : length its ≤ q .task → tipRest day rounds q ≡ tipRest day rounds (nextVehicle q)
     unfolding tipRest tasksFrom
     tasks-over h =
         rw (drop-of-length-le its h)
         (sym (all-vehicles (q .vehicle + 1) ∙ ap (λ (v : ℕ). tipTrials day v (drop v rounds)) (add-one (q .vehicle))))
 
-    pub task-at : q .task < length its
+    task-at : q .task < length its
         → tipRest day rounds q ≡ taskFrom (tips day) (suc (q .vehicle)) (q .task) (q .tip) (getD its (q .task) lunch) ++ tipRest day rounds (nextTask q)
     unfolding tipRest tasksFrom
-    task-at h =
-        let number = suc (q .vehicle) in
-        let here = taskFrom (tips day) number (q .task) (q .tip) (getD its (q .task) lunch) in
-        let others = tipTrials day number (drop number rounds) in
-        ap (λ (ts : Round). tasksFrom day number (q .task) (q .tip) ts ++ others) (drop-cons its (q .task) lunch h)
-        ∙ append-assoc here (roundTrials day number (suc (q .task)) (drop (suc (q .task)) its)) others
-        ∙ ap (λ (ms : List Trial). here ++ (ms ++ others)) (sym (all-tasks number (suc (q .task)) (drop (suc (q .task)) its)))
-        ∙ ap (λ (k : ℕ). here ++ (tasksFrom day number k 0 (drop k its) ++ others)) (sym (add-one (q .task)))
+    task-at h = rw (drop-cons its (q .task) lunch h, append-assoc, add-one (q .task), all-tasks (suc (q .vehicle)) (suc (q .task))) refl
 
 -- a word that is no tip's has no trials, and a tip's word has its own
 idle-word : (day : List ℕ) (w number t x : ℕ) (task : Task) → Known day task → ((tipWord 0) ≤ w → w < restWord → ⊥) → w ≡ taskWord task
@@ -195,41 +161,21 @@ module _ {layout : Layout} {starts plan : List ℕ} {count : ℕ} (s : TipsOf la
     -- a task without trials
     passes : (r : TipListed) → taskFrom (tips (s .day)) (suc (q .vehicle)) (q .task) (q .tip) task ≡ [] → r .found ≡ false → r .next ≡ nextTask q
         → Goes (tipRest (s .day) (s .rounds)) q (r .found) (r .trial) (r .next)
-    passes r e f n =
-        record {
-          some = λ t. absurd (true≢false (sym t ∙ f));
-          none = λ t.
-              task-at (s .day) (s .rounds) q l
-              ∙ ap (λ (ms : List Trial). ms ++ tipRest (s .day) (s .rounds) (nextTask q)) e
-              ∙ ap (tipRest (s .day) (s .rounds)) (sym n);
-        }
+    passes r e f n = goes-past f (rw (task-at (s .day) (s .rounds) q l, e, n) refl)
 
     -- a tip
     tip-goes : (y : ℕ) (r : TipListed) → ((x : ℕ) → taskFrom (tips (s .day)) (suc (q .vehicle)) (q .task) x task ≡ tipFrom (tips (s .day)) (suc (q .vehicle)) (q .task) y x)
         → TipTells (tips (s .day)) y q r → Goes (tipRest (s .day) (s .rounds)) q (r .found) (r .trial) (r .next)
     tip-goes y r same (no-tip _ f e n) = passes r (same (q .tip) ∙ e) f n
     tip-goes y r same (a-tip _ x f e n) =
-        let others = tipRest (s .day) (s .rounds) (nextTask q) in
-        record {
-          some = λ t.
-              task-at (s .day) (s .rounds) q l
-              ∙ ap (λ (ms : List Trial). ms ++ others) (same (q .tip) ∙ e)
-              ∙ ap (λ (ms : List Trial). listedTrial (r .trial) ∷ (ms ++ others)) (sym (same x))
-              ∙ ap (λ (ms : List Trial). listedTrial (r .trial) ∷ ms) (sym (task-at (s .day) (s .rounds) (atTip q x) l))
-              ∙ ap (λ (p : TipPlace). listedTrial (r .trial) ∷ tipRest (s .day) (s .rounds) p) (sym n);
-          none = λ t. absurd (true≢false (sym f ∙ t));
-        }
+        goes-with f (rw (task-at (s .day) (s .rounds) q l, same (q .tip), e, n, task-at (s .day) (s .rounds) (atTip q x) l, same x) refl)
 
 -- one step over the tips
 module _ (layout : Layout) (starts plan : List ℕ) (q : TipPlace) (r : TipListed) (a b : ℕ) (ea : a ≡ getD starts (q .vehicle) 0) (eb : b ≡ getD starts (q .vehicle + 1) 0) where
   pub vehicle-ends : a + 1 + q .task + 1 ≡ b → (r .found ≡ false) × (r .next ≡ nextVehicle q) → TipSteps layout starts plan q r
   vehicle-ends e n = λ count s h f.
       record {
-        goes = λ s.
-            record {
-              some = λ t. absurd (true≢false (sym t ∙ n .0));
-              none = λ t. tasks-over (s .day) (s .rounds) q (omega (arith, end-at s h)) ∙ ap (tipRest (s .day) (s .rounds)) (sym (n .1));
-            };
+        goes = λ s. goes-past (n .0) (rw (tasks-over (s .day) (s .rounds) q (omega (arith, end-at s h)), n .1) refl);
         fits = rw (n .1) (λ l. omega (arith, end-at s l));
         falls = λ t. rw (n .1) (omega (arith, end-within s h));
       }
@@ -251,7 +197,7 @@ module _ (layout : Layout) (starts plan : List ℕ) (q : TipPlace) (r : TipListe
       next-falls s n = rw n (omega (arith, f h, end-within s h))
 
     -- it is no tip
-    pub idle-passes : ((tipWord 0) ≤ w → w < restWord → ⊥) → (r .found ≡ false) × (r .next ≡ nextTask q) → TipSteps layout starts plan q r
+    idle-passes : ((tipWord 0) ≤ w → w < restWord → ⊥) → (r .found ≡ false) × (r .next ≡ nextTask q) → TipSteps layout starts plan q r
     idle-passes idle n = λ count s h f.
         record {
           goes = λ s.
@@ -260,6 +206,12 @@ module _ (layout : Layout) (starts plan : List ℕ) (q : TipPlace) (r : TipListe
           fits = next-fits h f (n .1);
           falls = λ t. next-falls h f s (n .1);
         }
+
+    pub idle-below : {next : TipPlace} → w < tipWord 0 → next ≡ nextTask q → (r .found ≡ false) × (r .next ≡ next) → TipSteps layout starts plan q r
+    idle-below l e n = idle-passes (λ a b. omega arith) (n .0, n .1 ∙ e)
+
+    pub idle-above : {next : TipPlace} → restWord ≤ w → next ≡ nextTask q → (r .found ≡ false) × (r .next ≡ next) → TipSteps layout starts plan q r
+    idle-above l e n = idle-passes (λ a b. omega arith) (n .0, n .1 ∙ e)
 
     -- it is one
     tells-fits : {count : ℕ} (y : ℕ) → q .vehicle < count → TipFits starts count q → TipTells (layout .tips) y q r → TipFits starts count (r .next)

@@ -3,7 +3,7 @@ use Prim.Native.Nat.{ℕ, _+_, _*_, _≤_, _<_}
 use mathlib.Core.Path.{_≡_, refl, sym, ap, _∙_, subst}
 use mathlib.Core.Bool.{Bool, true, false}
 use mathlib.Core.List.{List, [], _∷_, _++_, map-append, append-assoc}
-use mathlib.Core.Option.{none, some}
+use mathlib.Core.Option.{some}
 use native.Mathlib.Omega.{arith}
 use lib.ListN.{length, length-append, length-map, set}
 use borrow.Author.Tests.{ne-eqb}
@@ -181,13 +181,10 @@ insert-drives {day} c e r {x} q z f g start most more p v s =
     let n : nearestTip day (v .trip .place) (v .trip .minute) ≡ x = ap (λ (t : Trip). nearestTip day (t .place) (t .minute)) (sym (s .riding .tripIs)) ∙ sym q in
     rw (n, ne-eqb x 0 z) (g start most more p _ (standing-fewer (omega arith) (on-road (f start most more p v s))))
 
--- there is still a vehicle behind a rest, and behind a tip
+-- there is still a vehicle behind a task that cannot fail, and so behind a rest
 module _ {day part now : List ℕ} {c e : Cab} {least : ℕ} (s : SomeStanding day least part c) where
-  some-still : (f : Truck → Truck) → Drives day 0 part c (λ v. some (f v)) now e → SomeStanding day least now e
+  pub some-still : (f : Truck → Truck) → Drives day 0 part c (λ v. some (f v)) now e → SomeStanding day least now e
   some-still f d = some-standing (s .enough) (on-road (d (s .start) (s .most) (s .more) (s .p) (s .v) (standing-fewer (omega arith) (s .standing))))
 
   pub some-rested : Drives day 0 part c (λ v. some (resting day v)) now e → SomeStanding day least now e
   some-rested = some-still (resting day)
-
-  pub some-emptied : (x : ℕ) → Drives day 0 part c (λ v. some (doing day v (empty x))) now e → SomeStanding day least now e
-  some-emptied x = some-still (λ v. doing day v (empty x))

@@ -6,7 +6,7 @@ use mathlib.Core.Path.{_≡_, refl, sym, ap, _∙_, subst}
 use mathlib.Core.Bool.{Bool, true, false}
 use mathlib.Core.List.{List, [], _∷_, _++_, append-nil, append-assoc}
 use mathlib.Core.Logic.{inl, inr}
-use mathlib.Core.Option.{Option, none, some, Option·some-injective, Option·none-ne-some}
+use mathlib.Core.Option.{none, some, Option·some-injective, Option·none-ne-some}
 use native.Mathlib.Omega.{arith}
 use lib.Dec.{ltb, eqb}
 use lib.ListN.{length, length-append}
@@ -52,7 +52,7 @@ module _ (day : List ℕ) where
   walked-fresh = record { paid = paid-fresh day []; stops = refl; visits = refl; known = tt; driven = λ rest. omega arith }
 
   -- a task done: its word is behind the others, its stop too, and its leg is driven
-  doing-driven : (v : Truck) (task : Task) (rest : Round)
+  pub doing-driven : (v : Truck) (task : Task) (rest : Round)
       → doing day v task .trip .distance + distanceFrom day (doing day v task .trip .place) rest ≡ v .trip .distance + distanceFrom day (v .trip .place) (task ∷ rest)
   unfolding distanceFrom
   doing-driven v (serve k) rest = omega arith
@@ -115,17 +115,14 @@ module _ (day : List ℕ) where
   unfolding exceeds
   exceeds-load v k e = ltb-true _ _ (both-true (ltb 0 (v .cargo .load)) (ltb (loadLimit day) (v .cargo .load + quantity day (stopPlace day k))) e .0)
 
-  walked-serving : (ts : Round) (k : ℕ) (o : Option Truck) (u : Truck) → Known day (serve k) → ((v : Truck) → o ≡ some v → Walked day ts v)
-      → servingThen day k o ≡ some u → Walked day (ts ++ (serve k ∷ [])) u
-  unfolding servingThen
-  walked-serving ts k none u n w e = absurd (Option·none-ne-some u e)
-  walked-serving ts k (some v) u n w e = subst (Walked day (ts ++ (serve k ∷ []))) (Option·some-injective _ _ e) (walked-serve ts v k n (w v refl))
-
   -- one task, of a vehicle that has rested if due
   pub walked-task : (ts : Round) (task : Task) (v u : Truck) → Known day task → Walked day ts v → walkTask day v task ≡ some u → Walked day (ts ++ (task ∷ [])) u
-  unfolding walkTask stopsOn
-  walked-task ts (serve k) v u n w e =
-      walked-serving ts k (emptiedFirst day (exceeds day v k) v) u n (λ a. walked-emptied ts (exceeds day v k) v a (exceeds-load v k) w) e
+  unfolding walkTask servingThen stopsOn
+  walked-task ts (serve k) v u n w e = elim (known-option (emptiedFirst day (exceeds day v k) v)) [
+    | inl z ↦ absurd (Option·none-ne-some u (rw z at e))
+    | inr s ↦ subst (Walked day (ts ++ (serve k ∷ []))) (Option·some-injective _ _ (rw (s .1) at e))
+        (walked-serve ts (s .0) k n (walked-emptied ts (exceeds day v k) v (s .0) (exceeds-load v k) w (s .1)))
+  ]
   walked-task ts (empty x) v u n w e = elim (known (ltb 0 (v .cargo .load))) [
     | inl t ↦
         let same : doing day v (empty x) ≡ u = Option·some-injective _ _ (rw t at e) in
@@ -172,21 +169,15 @@ pub record Rewalked (day : List ℕ) (tasks done : Round) : Type 0 where
   pub room : Room done
   pub known : Every (Known day) done
 
-walked-rewalked : (day : List ℕ) (tasks done : Round) (o : Option Truck) → ((u : Truck) → o ≡ some u → Walked day tasks u) → doneBy o ≡ some done → Rewalked day tasks done
-unfolding doneBy
-walked-rewalked day tasks done none w e = absurd (Option·none-ne-some done e)
-walked-rewalked day tasks done (some u) w e =
-    let a = w u refl in
-    subst (Rewalked day tasks) (Option·some-injective _ _ e) (record { stops = a .stops; room = walked-room day tasks u a; known = a .known })
-
-walked-both : (day : List ℕ) (tasks : Round) (o : Option Truck) → ((v : Truck) → o ≡ some v → Walked day tasks v)
-    → (u : Truck) → walkHome day o ≡ some u → Walked day tasks u
-unfolding walkHome
-walked-both day tasks none w u e = absurd (Option·none-ne-some u e)
-walked-both day tasks (some v) w u e = walked-home day tasks v u (w v refl) e
-
 pub walked-again : (day : List ℕ) (tasks done : Round) → Every (Known day) tasks → walkedAgain day tasks ≡ some done → Rewalked day tasks done
-unfolding walkedAgain
-walked-again day tasks done n e =
-    walked-rewalked day tasks done (walkHome day (walkOn day tasks (some (fresh day []))))
-    (walked-both day tasks (walkOn day tasks (some (fresh day []))) (λ v. walked-on day tasks v n)) e
+unfolding walkedAgain walkHome doneBy
+walked-again day tasks done n e = elim (known-option (walkOn day tasks (some (fresh day [])))) [
+  | inl z ↦ absurd (Option·none-ne-some done (rw z at e))
+  | inr s ↦ elim (known-option (walkHome day (some (s .0)))) [
+    | inl z ↦ absurd (Option·none-ne-some done (rw (s .1, z) at e))
+    | inr b ↦
+        let w = walked-home day tasks (s .0) (b .0) (walked-on day tasks (s .0) n (s .1)) (b .1) in
+        let all : Rewalked day tasks (b .0 .tasks) = record { stops = w .stops; room = walked-room day tasks (b .0) w; known = w .known } in
+        subst (Rewalked day tasks) (Option·some-injective _ _ (rw (s .1, b .1) at e)) all
+  ]
+]

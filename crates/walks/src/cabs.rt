@@ -4,7 +4,7 @@ ghost use mathlib.Core.Bool.{_&&_};
 ghost use mathlib.Core.Option.{some};
 ghost use Prim.Native.Nat.{_+_, _<_, _≤_};
 ghost use lib.Dec.{ltb};
-ghost use Rattle.rules.specs.Fields.{loadLimit, quantity, IsAccepted};
+ghost use Rattle.rules.specs.Fields.{loadLimit, IsAccepted};
 ghost use Rattle.rules.specs.Plan.{serve, empty};
 ghost use Rattle.rules.specs.Home.{nearestTip};
 ghost use Rattle.rules.specs.Build.{doing, resting};

@@ -15,9 +15,6 @@ Inv-loop words part₀ i₀ part i = (i ≤ length words) × Wrote (take i words
 abbrev μ-loop : tie.MeasureT-loop
 μ-loop words part₀ i₀ part i = length words - i
 
-loop-holds : tie.Need-loop-holds Inv-loop μ-loop
-loop-holds c = (omega arith, wrote-none _)
-
 loop-again : tie.Need-loop-again Inv-loop μ-loop
 loop-again c = (omega (arith, c .before .loop-test .taken), copy-next _ _ _ (c .before .before .loop .inv .1) (c .before .loop-test .taken) (c .before .before .before .pre))
 
@@ -27,7 +24,7 @@ copy-words-spec =
     (tie.spec
     Inv-loop
     μ-loop
-    loop-holds
+    (λ c. (omega arith, wrote-none _))
     (λ c. search needs)
     (λ c. search needs)
     (λ c. search needs)

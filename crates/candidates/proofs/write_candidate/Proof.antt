@@ -7,9 +7,6 @@ use borrow.Author.Needs.{needs}
 use Rattle.candidates.proofs.write_candidate.Statement.{statement}
 use Rattle.candidates.proofs.write_candidate.Tie as tie
 
-returns : tie.Need-returns
-returns c = λ rounds t n. candidate-fails t n (c .before .before .before .write-rounds .ensures rounds t n) (c .if1 .taken)
-
 mul-copy-words-2 : tie.Need-mul-copy-words-2
 mul-copy-words-2 c = let s = c .before .before .before .before .before .before .before .before .before .before .before .pre .4 in let w = c .before .before .before .before .before .write-rounds .ensures (s .rounds) (s .trying) (s .counted) .written (c .before .before .if1 .left) in omega (arith, room-left (s .trying) w)
 
@@ -34,7 +31,7 @@ write-candidate-spec =
     (tie.spec
     (λ c κs. search needs)
     (λ c. search needs)
-    returns
+    (λ c. λ rounds t n. candidate-fails t n (c .before .before .before .write-rounds .ensures rounds t n) (c .if1 .taken))
     (λ c. search needs)
     (λ c. search needs)
     (λ c. search needs)

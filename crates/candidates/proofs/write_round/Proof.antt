@@ -4,9 +4,6 @@ use Rattle.candidates.proofs.CandidateLaws.{round-walkable, some-walkab
 use Rattle.candidates.proofs.write_round.Statement.{statement}
 use Rattle.candidates.proofs.write_round.Tie as tie
 
-walk-vehicle-requires : tie.Need-walk-vehicle-requires
-walk-vehicle-requires c κs = search (needs, some-walkable)
-
 returns : tie.Need-returns
 returns c = λ tasks h. round-walked _ (c .before .before .before .before .before .if1 .taken) tasks (c .before .before .walk-vehicle .ensures tasks (round-walkable (c .before .before .before .before .before .if1 .taken) tasks h))
 
@@ -18,7 +15,7 @@ write-round-spec =
     (λ c. search needs)
     (λ c. search needs)
     (λ c. search needs)
-    walk-vehicle-requires
+    (λ c κs. search (needs, some-walkable))
     (λ c. search needs)
     returns
     (λ c κs. search needs)

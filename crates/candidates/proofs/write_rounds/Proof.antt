@@ -20,9 +20,6 @@ Inv-loop day layout e one other plan starts count work₀ at₀ v₀ work at v =
 abbrev μ-loop : tie.MeasureT-loop
 μ-loop day layout e one other plan starts count work₀ at₀ v₀ work at v = count - v
 
-loop-holds : tie.Need-loop-holds Inv-loop μ-loop
-loop-holds c = (omega arith, refl, λ rounds t n. written-start)
-
 mul-next-round : tie.Need-mul-next-round Inv-loop μ-loop
 mul-next-round c = let s = c .before .before .before .before .before .before .pre .4 in let w = c .before .loop .inv .2 (s .rounds) (s .trying) (s .counted) in omega (arith, room-left (s .trying) w)
 
@@ -49,16 +46,13 @@ add-at c = let s = c .before .before .before .before .before .before .before .be
 loop-again : tie.Need-loop-again Inv-loop μ-loop
 loop-again c = (omega (arith, c .before .before .before .before .before .before .loop-test .taken), (let s = c .before .before .before .before .before .before .before .before .before .before .before .before .pre .4 in let w = c .before .before .before .before .before .before .before .loop .inv .2 (s .rounds) (s .trying) (s .counted) in let l = below (c .before .before .before .before .before .before .loop-test .taken) (s .counted) in written-next (s .trying) w l (c .before .before .before .before .next-round .ensures (s .rounds) (s .trying) l (next-room (s .trying) w l (room-is (c .before .before .before .before .before .before .before .before .before .before .before .before .pre .0) (c .before .before .before .before .before .before .before .before .before .before .before .before .pre .5))) .written (c .before .if1 .left)) .text .size), λ rounds t n. let w = c .before .before .before .before .before .before .before .loop .inv .2 rounds t n in let l = below (c .before .before .before .before .before .before .loop-test .taken) n in written-next t w l (c .before .before .before .before .next-round .ensures rounds t l (next-room t w l (room-is (c .before .before .before .before .before .before .before .before .before .before .before .before .pre .0) (c .before .before .before .before .before .before .before .before .before .before .before .before .pre .5))) .written (c .before .if1 .left)))
 
-returns-2 : tie.Need-returns-2 Inv-loop μ-loop
-returns-2 c = λ rounds t n. written-end t (c .before .loop .inv .2 rounds t n) _ _ (c .before .loop .inv .0) (c .loop-test .left) refl refl
-
 pub write-rounds-spec : {M : Type 1} → statement M
 write-rounds-spec =
     tie.close
     (tie.spec
     Inv-loop
     μ-loop
-    loop-holds
+    (λ c. (omega arith, refl, λ rounds t n. written-start))
     mul-next-round
     sub-next-round
     part-next-round-start
@@ -71,4 +65,4 @@ write-rounds-spec =
     (λ c. search needs)
     loop-again
     (λ c. search needs)
-    returns-2)
+    (λ c. λ rounds t n. written-end t (c .before .loop .inv .2 rounds t n) _ _ (c .before .loop .inv .0) (c .loop-test .left) refl refl))

@@ -6,27 +6,6 @@ use borrow.Author.Needs.{needs}
 use Rattle.edits.proofs.change_word.Statement.{statement}
 use Rattle.edits.proofs.change_word.Tie as tie
 
-add-i : tie.Need-add-i
-add-i c = let w = rw (c .before .e .given .1) at (c .before .before .before .before .pre) in omega (arith, w .0)
-
-add-j : tie.Need-add-j
-add-j c = let w = rw (c .before .e .given .1) at (c .before .before .before .before .pre) in omega (arith, w .1)
-
-add-i-2 : tie.Need-add-i-2
-add-i-2 c = let w = rw (c .before .e2 .given .1) at (c .before .before .before .before .pre) in omega (arith, w .0)
-
-add-j-2 : tie.Need-add-j-2
-add-j-2 c = let w = rw (c .before .e2 .given .1) at (c .before .before .before .before .pre) in omega (arith, w .1)
-
-add-swap-word : tie.Need-add-swap-word
-add-swap-word c = let w = rw (c .before .e3 .given .1) at (c .before .before .before .before .pre) in omega (arith, w .0)
-
-add-swap-word-2 : tie.Need-add-swap-word-2
-add-swap-word-2 c = let w = rw (c .before .e3 .given .1) at (c .before .before .before .before .pre) in omega (arith, w .1)
-
-add-tip-word : tie.Need-add-tip-word
-add-tip-word c = let w = rw (c .before .e5 .given .1) at (c .before .before .before .before .pre) in omega (arith, w)
-
 returns-2 : tie.Need-returns-2
 returns-2 c = λ day task k q n. let m = rw (c .before .before .e .given .1) at k in rw (c .before .before .e .given .1) (moved-before day _ _ _ _ (m .0) (m .1) (c .move-word .ensures .0) (c .move-word .ensures .1) task (c .before .before .before .before .if1 .left) q n)
 
@@ -48,21 +27,21 @@ change-word-spec =
     (tie.spec
     (λ c. search rest-off)
     (λ c. search needs)
-    add-i
-    add-j
+    (λ c. let w = rw (c .before .e .given .1) at (c .before .before .before .before .pre) in omega (arith, w .0))
+    (λ c. let w = rw (c .before .e .given .1) at (c .before .before .before .before .pre) in omega (arith, w .1))
     (λ c κs. search needs)
     (λ c. search needs)
-    add-i-2
-    add-j-2
+    (λ c. let w = rw (c .before .e2 .given .1) at (c .before .before .before .before .pre) in omega (arith, w .0))
+    (λ c. let w = rw (c .before .e2 .given .1) at (c .before .before .before .before .pre) in omega (arith, w .1))
     (λ c κs. search needs)
     (λ c. search needs)
-    add-swap-word
-    add-swap-word-2
+    (λ c. let w = rw (c .before .e3 .given .1) at (c .before .before .before .before .pre) in omega (arith, w .0))
+    (λ c. let w = rw (c .before .e3 .given .1) at (c .before .before .before .before .pre) in omega (arith, w .1))
     (λ c κs. search needs)
     (λ c. search needs)
     (λ c κs. search needs)
     (λ c. search needs)
-    add-tip-word
+    (λ c. let w = rw (c .before .e5 .given .1) at (c .before .before .before .before .pre) in omega (arith, w))
     (λ c κs. search needs)
     returns-2
     returns-3

@@ -13,9 +13,6 @@ Inv-loop day layout plan from end behind₀ o₀ at₀ behind o at = Filling day
 abbrev μ-loop : tie.MeasureT-loop
 μ-loop day layout plan from end behind₀ o₀ at₀ behind o at = at
 
-put-row-requires : tie.Need-put-row-requires Inv-loop μ-loop
-put-row-requires c κs = let p = c .before .before .before .before .pre in omega (arith, p .1, p .3, filling-inside (p .2) .1)
-
 loop-holds : tie.Need-loop-holds Inv-loop μ-loop
 loop-holds c = let p = c .before .before .before .before .before .before .before .pre in filling-start (p .2) (c .before .before .put-row .kept .0 ∙ p .3) (c .before .before .put-row .ensures)
 
@@ -40,7 +37,7 @@ fill-behind-spec =
     (tie.spec
     Inv-loop
     μ-loop
-    put-row-requires
+    (λ c κs. let p = c .before .before .before .before .pre in omega (arith, p .1, p .3, filling-inside (p .2) .1))
     loop-holds
     (λ c. search needs)
     mul-onward-before

@@ -5,11 +5,8 @@ use borrow.Author.Needs.{needs}
 use Rattle.onward.proofs.onward_at.Statement.{statement}
 use Rattle.onward.proofs.onward_at.Tie as tie
 
-returns : tie.Need-returns
-unfolding rowAt
-returns c = refl
-
 pub onward-at-spec : {M : Type 1} → statement M
+unfolding rowAt
 onward-at-spec =
     tie.close
     (tie.spec
@@ -28,4 +25,4 @@ onward-at-spec =
     (λ c. search needs)
     (λ c. search needs)
     (λ c. search needs)
-    returns)
+    (λ c. refl))

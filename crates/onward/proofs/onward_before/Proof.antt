@@ -5,9 +5,6 @@ use borrow.Author.Needs.{needs}
 use Rattle.onward.proofs.onward_before.Statement.{statement}
 use Rattle.onward.proofs.onward_before.Tie as tie
 
-sub-stop-first : tie.Need-sub-stop-first
-sub-stop-first c = stop-number _ _ (c .before .before .pre .1) (c .if1 .taken) .0
-
 stop-first-requires : tie.Need-stop-first-requires
 stop-first-requires c κs = let p = c .before .before .pre in let n = stop-number _ _ (p .1) (c .if1 .taken) in (p .0, n .1, omega (arith, n .2, p .0 .stopsAre), p .2, p .3)
 
@@ -18,7 +15,7 @@ pub onward-before-spec : {M : Type 1} → statement M
 onward-before-spec =
     tie.close
     (tie.spec
-    sub-stop-first
+    (λ c. stop-number _ _ (c .before .before .pre .1) (c .if1 .taken) .0)
     (λ c. search needs)
     stop-first-requires
     (λ c. search puts-stop)

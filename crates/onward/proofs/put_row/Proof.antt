@@ -6,12 +6,6 @@ use borrow.Author.Needs.{needs}
 use Rattle.onward.proofs.put_row.Statement.{statement}
 use Rattle.onward.proofs.put_row.Tie as tie
 
-slice-write-behind-2 : tie.Need-slice-write-behind-2
-slice-write-behind-2 c = simp length-set (omega arith)
-
-slice-write-behind-3 : tie.Need-slice-write-behind-3
-slice-write-behind-3 c = simp length-set (omega arith)
-
 pub put-row-spec : {M : Type 1} → statement M
 put-row-spec =
     tie.close
@@ -22,11 +16,11 @@ put-row-spec =
     (λ c. search needs)
     (λ c. search needs)
     (λ c. search needs)
-    slice-write-behind-2
+    (λ c. simp length-set (omega arith))
     (λ c. search needs)
     (λ c. search needs)
     (λ c. search needs)
-    slice-write-behind-3
+    (λ c. simp length-set (omega arith))
     (λ c. search needs)
     (λ c. search needs)
     (λ c. search needs)

@@ -22,12 +22,6 @@ returns-2 c = λ tasks q s. let w = rw (c .before .before .e2 .given .1) at (c .
 returns-3 : tie.Need-returns-3
 returns-3 c = λ tasks q s. let w = rw (c .before .before .e3 .given .1) at (c .before .before .before .before .before .before .pre .0) in let o = rw (c .before .before .e3 .given .1) at s in rw (c .before .before .e3 .given .1) (swap-span _ _ tasks q (w .0) (w .1) _ o (c .span-of-swap .ensures))
 
-returns-4 : tie.Need-returns-4
-returns-4 c = λ tasks q s. rw (c .before .before .e4 .given .1) (remove-span _ tasks q (c .span-of-word .ensures))
-
-returns-5 : tie.Need-returns-5
-returns-5 c = λ tasks q s. rw (c .before .before .e5 .given .1) (replace-span _ tasks q (c .span-of-word2 .ensures) _)
-
 pub span-of-spec : {M : Type 1} → statement M
 span-of-spec =
     tie.close
@@ -45,5 +39,5 @@ span-of-spec =
     returns
     returns-2
     returns-3
-    returns-4
-    returns-5)
+    (λ c. λ tasks q s. rw (c .before .before .e4 .given .1) (remove-span _ tasks q (c .span-of-word .ensures)))
+    (λ c. λ tasks q s. rw (c .before .before .e5 .given .1) (replace-span _ tasks q (c .span-of-word2 .ensures) _)))

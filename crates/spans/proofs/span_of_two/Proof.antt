@@ -6,12 +6,6 @@ use borrow.Author.Needs.{needs}
 use Rattle.spans.proofs.span_of_two.Statement.{statement}
 use Rattle.spans.proofs.span_of_two.Tie as tie
 
-returns : tie.Need-returns
-returns c = (whole (c .whole-span .ensures .0) (c .whole-span .ensures .1), whole (c .whole-span .ensures .0) (c .whole-span .ensures .1))
-
-returns-2 : tie.Need-returns-2
-returns-2 c = (whole (c .whole-span2 .ensures .0) (c .whole-span2 .ensures .1), whole (c .whole-span2 .ensures .0) (c .whole-span2 .ensures .1))
-
 returns-3 : tie.Need-returns-3
 returns-3 c = (place-held (c .before .before .before .before .place-of-stop .ensures) (c .before .before .if1 .left) (omega arith) (omega arith), place-held (c .before .before .before .place-of-stop2 .ensures) (c .before .if2 .left) (omega arith) (omega arith))
 
@@ -25,8 +19,8 @@ span-of-two-spec =
     (λ c κs. search needs)
     (λ c κs. search needs)
     (λ c κs. search needs)
-    returns
+    (λ c. (whole (c .whole-span .ensures .0) (c .whole-span .ensures .1), whole (c .whole-span .ensures .0) (c .whole-span .ensures .1)))
     (λ c κs. search needs)
-    returns-2
+    (λ c. (whole (c .whole-span2 .ensures .0) (c .whole-span2 .ensures .1), whole (c .whole-span2 .ensures .0) (c .whole-span2 .ensures .1)))
     returns-3
     returns-4)

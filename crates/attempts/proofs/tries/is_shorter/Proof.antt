@@ -5,9 +5,6 @@ use borrow.Author.Needs.{needs}
 use Rattle.attempts.proofs.tries.is_shorter.Statement.{statement}
 use Rattle.attempts.proofs.tries.is_shorter.Tie as tie
 
-retry-requires : tie.Need-retry-requires
-retry-requires c κs = search (needs, some-one)
-
 retry-requires-2 : tie.Need-retry-requires-2
 retry-requires-2 c κs = let p = c .before .before .before .before .before .before .before .before .before .before .before .before .before .before .before .before .pre in (p .0, p .1, p .2, p .3, some-other (p .1) (p .4), omega (arith, p .5, c .before .before .before .before .before .before .before .retry .kept .1 .1 .1 .1 .1 .1 .1 .0))
 
@@ -28,7 +25,7 @@ is-shorter-spec =
     tie.close
     (tie.spec
     (λ c. search needs)
-    retry-requires
+    (λ c κs. search (needs, some-one))
     (λ c. search needs)
     (λ c. search one-failed)
     (λ c. search needs)

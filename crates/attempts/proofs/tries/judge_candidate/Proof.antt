@@ -7,23 +7,8 @@ use borrow.Author.Needs.{needs}
 use Rattle.attempts.proofs.tries.judge_candidate.Statement.{statement}
 use Rattle.attempts.proofs.tries.judge_candidate.Tie as tie
 
-check-accepted-requires : tie.Need-check-accepted-requires
-check-accepted-requires c κs = search needs
-
-enum-known-answer : tie.Need-enum-known-answer
-enum-known-answer c = search needs
-
 returns : tie.Need-returns
 returns c = (judged-shorter _ (sym (ap answerValues (c .before .before .answer .given .1)) ∙ c .before .before .before .before .check-accepted .ensures) (c .if1 .taken) refl refl, λ _. refl)
-
-not-kept-requires : tie.Need-not-kept-requires
-not-kept-requires c κs = search needs
-
-enum-told : tie.Need-enum-told
-enum-told c = search needs
-
-not-kept-requires-2 : tie.Need-not-kept-requires-2
-not-kept-requires-2 c κs = search needs
 
 returns-2 : tie.Need-returns-2
 returns-2 c = (judged-longer _ (sym (ap answerValues (c .before .before .before .answer .given .1)) ∙ c .before .before .before .before .before .check-accepted .ensures) (c .before .if1 .left) (c .not-kept .ensures), λ y. absurd (true≢false (sym y ∙ c .not-kept .ensures)))
@@ -35,11 +20,11 @@ pub judge-candidate-spec : {M : Type 1} → statement M
 judge-candidate-spec =
     tie.close
     (tie.spec
-    check-accepted-requires
-    enum-known-answer
+    (λ c κs. search needs)
+    (λ c. search needs)
     returns
-    not-kept-requires
-    enum-told
-    not-kept-requires-2
+    (λ c κs. search needs)
+    (λ c. search needs)
+    (λ c κs. search needs)
     returns-2
     returns-3)

@@ -13,9 +13,6 @@ Inv-loop day layout i keys₀ stops j₀ keys j = (j ≤ stops) × KeysTo day i 
 abbrev μ-loop : tie.MeasureT-loop
 μ-loop day layout i keys₀ stops j₀ keys j = stops - j
 
-loop-holds : tie.Need-loop-holds Inv-loop μ-loop
-loop-holds c = (search needs, search keys-none)
-
 loop-again : tie.Need-loop-again Inv-loop μ-loop
 loop-again c = (search needs, keys-next _ _ _ _ _ (c .before .before .loop .inv .1) (omega (arith, c .before .before .before .before .before .pre .1, c .before .loop-test .taken)) (c .key-of .ensures))
 
@@ -25,7 +22,7 @@ fill-keys-spec =
     (tie.spec
     Inv-loop
     μ-loop
-    loop-holds
+    (λ c. (search needs, search keys-none))
     (λ c. search needs)
     (λ c κs. search needs)
     (λ c. search needs)

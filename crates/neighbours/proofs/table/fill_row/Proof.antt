@@ -14,9 +14,6 @@ Inv-loop keys n k i table₀ last₀ r₀ table last r = (r ≤ k) × RowBy keys
 abbrev μ-loop : tie.MeasureT-loop
 μ-loop keys n k i table₀ last₀ r₀ table last r = k - r
 
-loop-holds : tie.Need-loop-holds Inv-loop μ-loop
-loop-holds c = (search needs, row-none _ _ _ _, key-first _ _)
-
 slice-write-table : tie.Need-slice-write-table Inv-loop μ-loop
 slice-write-table c =
     let p = c .before .before .before .before .before .before .pre in
@@ -28,16 +25,13 @@ loop-again c =
     let e = key-next _ _ _ _ (c .before .before .before .loop .inv .2) (c .before .next-key .ensures) in
     (search needs, row-next _ _ _ _ _ _ _ _ (c .before .before .before .loop .inv .1) (p .3) (omega (arith, p .1, c .before .before .loop-test .taken)) (p .2) e (c .stop-of-key .ensures), e)
 
-returns : tie.Need-returns Inv-loop μ-loop
-returns c = row-all _ _ _ _ _ _ _ (c .before .loop .inv .1) (c .before .loop .inv .0) (c .loop-test .left)
-
 pub fill-row-spec : {M : Type 1} → statement M
 fill-row-spec =
     tie.close
     (tie.spec
     Inv-loop
     μ-loop
-    loop-holds
+    (λ c. (search needs, row-none _ _ _ _, key-first _ _))
     (λ c κs. search needs)
     (λ c κs. search needs)
     (λ c. search needs)
@@ -47,4 +41,4 @@ fill-row-spec =
     (λ c. search needs)
     loop-again
     (λ c. search needs)
-    returns)
+    (λ c. row-all _ _ _ _ _ _ _ (c .before .loop .inv .1) (c .before .loop .inv .0) (c .loop-test .left)))

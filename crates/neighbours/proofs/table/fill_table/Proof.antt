@@ -12,9 +12,6 @@ Inv-loop day layout k table₀ stops i₀ table i = (i ≤ stops) × RowsTo day 
 abbrev μ-loop : tie.MeasureT-loop
 μ-loop day layout k table₀ stops i₀ table i = stops - i
 
-loop-holds : tie.Need-loop-holds Inv-loop μ-loop
-loop-holds c = (search needs, search rows-none)
-
 loop-again : tie.Need-loop-again Inv-loop μ-loop
 loop-again c = (search needs, rows-next _ _ _ _ _ (c .before .before .before .before .before .before .before .before .pre .2) (c .before .before .before .before .before .loop .inv .1) (c .before .before .fill-stop .ensures))
 
@@ -24,7 +21,7 @@ fill-table-spec =
     (tie.spec
     Inv-loop
     μ-loop
-    loop-holds
+    (λ c. (search needs, search rows-none))
     (λ c. search needs)
     (λ c κs. search needs)
     (λ c. search needs)

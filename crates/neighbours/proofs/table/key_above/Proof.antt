@@ -4,13 +4,6 @@ use Rattle.neighbours.specs.Tables.{keyAbove}
 use Rattle.neighbours.proofs.table.key_above.Statement.{statement}
 use Rattle.neighbours.proofs.table.key_above.Tie as tie
 
-returns : tie.Need-returns
-unfolding keyAbove
-returns c = search branches
-
-returns-2 : tie.Need-returns-2
-unfolding keyAbove
-returns-2 c = search branches
-
 pub key-above-spec : {M : Type 1} → statement M
-key-above-spec = tie.close (tie.spec returns returns-2)
+unfolding keyAbove
+key-above-spec = tie.close (tie.spec (λ c. search branches) (λ c. search branches))

@@ -5,9 +5,6 @@ use Rattle.neighbours.proofs.KeyLaws.{key-self, key-early, key-late, ke
 use Rattle.neighbours.proofs.table.key_of.Statement.{statement}
 use Rattle.neighbours.proofs.table.key_of.Tie as tie
 
-returns : tie.Need-returns
-returns c = key-self _ _ _ (c .if1 .taken)
-
 cast-result : tie.Need-cast-result
 cast-result c =
     let p = c .before .before .before .before .before .before .before .before .before .before .before .before .before .before .before .before .before .pre in
@@ -32,7 +29,7 @@ pub key-of-spec : {M : Type 1} → statement M
 key-of-spec =
     tie.close
     (tie.spec
-    returns
+    (λ c. key-self _ _ _ (c .if1 .taken))
     (λ c κs. search needs)
     (λ c κs. search needs)
     (λ c κs. search needs)

@@ -13,19 +13,13 @@ Inv-loop keys n last best₀ j₀ best j = (j ≤ n) × (best ≡ leastAbove key
 abbrev μ-loop : tie.MeasureT-loop
 μ-loop keys n last best₀ j₀ best j = n - j
 
-loop-holds : tie.Need-loop-holds Inv-loop μ-loop
-loop-holds c = (search needs, above-none _ _)
-
-loop-again : tie.Need-loop-again Inv-loop μ-loop
-loop-again c = (search needs, search above-next)
-
 pub next-key-spec : {M : Type 1} → statement M
 next-key-spec =
     tie.close
     (tie.spec
     Inv-loop
     μ-loop
-    loop-holds
+    (λ c. (search needs, above-none _ _))
     (λ c. search needs)
     (λ c. search needs)
     (λ c. search needs)
@@ -33,5 +27,5 @@ next-key-spec =
     (λ c κs. search needs)
     (λ c. search needs)
     (λ c. search needs)
-    loop-again
+    (λ c. (search needs, search above-next))
     (λ c. search above-all))

@@ -5,13 +5,6 @@ use Rattle.neighbours.specs.Tables.{stopOfKey}
 use Rattle.neighbours.proofs.table.stop_of_key.Statement.{statement}
 use Rattle.neighbours.proofs.table.stop_of_key.Tie as tie
 
-returns : tie.Need-returns
-unfolding stopOfKey
-returns c = search branches
-
-returns-2 : tie.Need-returns-2
-unfolding stopOfKey
-returns-2 c = search branches
-
 pub stop-of-key-spec : {M : Type 1} → statement M
-stop-of-key-spec = tie.close (tie.spec returns (λ c. search needs) returns-2)
+unfolding stopOfKey
+stop-of-key-spec = tie.close (tie.spec (λ c. search branches) (λ c. search needs) (λ c. search branches))

@@ -5,11 +5,8 @@ use borrow.Author.Needs.{needs}
 use Rattle.tracks.proofs.before.cab_at.Statement.{statement}
 use Rattle.tracks.proofs.before.cab_at.Tie as tie
 
-returns : tie.Need-returns
-unfolding cabAt
-returns c = rw (c .before .before .before .before .as-place .ensures) refl
-
 pub cab-at-spec : {M : Type 1} → statement M
+unfolding cabAt
 cab-at-spec =
     tie.close
     (tie.spec
@@ -32,4 +29,4 @@ cab-at-spec =
     (λ c. search needs)
     (λ c. search needs)
     (λ c. search needs)
-    returns)
+    (λ c. rw (c .before .before .before .before .as-place .ensures) refl))

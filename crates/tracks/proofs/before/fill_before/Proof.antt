@@ -22,9 +22,6 @@ Inv-loop day layout words from before₀ part₀ c₀ i₀ before part c i = (le
 abbrev μ-loop : tie.MeasureT-loop
 μ-loop day layout words from before₀ part₀ c₀ i₀ before part c i = length words - i
 
-put-cab-requires : tie.Need-put-cab-requires Inv-loop μ-loop
-put-cab-requires c κs = search (needs, leaving-place)
-
 loop-holds : tie.Need-loop-holds Inv-loop μ-loop
 loop-holds c = (search needs, λ at l. refl, λ p ts w h. let f = c .before .before .before .before .fresh-cab .ensures in filling-start w h (f .0) (f .1) (f .2) (f .3) (c .before .before .put-cab .ensures .0))
 
@@ -51,7 +48,7 @@ fill-before-spec =
     μ-loop
     (λ c. search needs)
     (λ c κs. search needs)
-    put-cab-requires
+    (λ c κs. search (needs, leaving-place))
     loop-holds
     (λ c. search needs)
     (λ c. search needs)

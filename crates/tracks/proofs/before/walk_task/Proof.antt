@@ -4,8 +4,5 @@ use borrow.Author.Needs.{needs}
 use Rattle.tracks.proofs.before.walk_task.Statement.{statement}
 use Rattle.tracks.proofs.before.walk_task.Tie as tie
 
-walk-word-requires : tie.Need-walk-word-requires
-walk-word-requires c κs = search (needs, task-word)
-
 pub walk-task-spec : {M : Type 1} → statement M
-walk-task-spec = tie.close (tie.spec (λ c. search task-passed) walk-word-requires (λ c. search needs) (λ c. search task-walked))
+walk-task-spec = tie.close (tie.spec (λ c. search task-passed) (λ c κs. search (needs, task-word)) (λ c. search needs) (λ c. search task-walked))

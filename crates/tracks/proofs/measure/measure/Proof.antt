@@ -16,9 +16,6 @@ add-cab-at c = let s = c .before .before .before .before .before .pre .7 in omeg
 cab-at-requires : tie.Need-cab-at-requires
 cab-at-requires c κs = let s = c .before .before .before .before .before .pre .7 in (c .before .before .before .before .before .pre .4, omega (arith, c .before .before .before .before .before .pre .6, s .measurable .cuttable .outside .within, ap length (s .measurable .cuttable .walkable .are), length-map (s .tasks) taskWord))
 
-returns : tie.Need-returns
-returns c = λ ts h. measure-failed h (ap (λ x. x .stuck) (sym (c .before .before .cab-at .ensures)) ∙ c .before .if1 .taken) _ (c .failed .ensures)
-
 walk-span-requires : tie.Need-walk-span-requires
 walk-span-requires c κs = let s = c .before .before .before .before .before .before .before .before .pre .7 in let w = measure-starts (s .measurable) (c .before .before .cab-at .result) (c .before .before .cab-at .ensures) (c .before .if1 .left) (wrote-put (wrote-none _) _ (omega (arith, s .measurable .cuttable .walkable .room))) in (c .before .before .before .before .before .before .before .before .pre .0, c .before .before .before .before .before .before .before .before .pre .1, c .before .before .before .before .before .before .before .before .pre .2, c .before .before .before .before .before .before .before .before .pre .3, c .before .before .before .before .before .before .before .before .pre .5, c .before .before .before .before .before .before .before .before .pre .6, record { tasks = s .tasks; start = w .start; p = _; cuttable = s .measurable .cuttable; midway = w .midway })
 
@@ -35,7 +32,7 @@ measure-spec =
     add-cab-at
     cab-at-requires
     (λ c κs. search needs)
-    returns
+    (λ c. λ ts h. measure-failed h (ap (λ x. x .stuck) (sym (c .before .before .cab-at .ensures)) ∙ c .before .if1 .taken) _ (c .failed .ensures))
     (λ c. search needs)
     walk-span-requires
     same-length

@@ -43,9 +43,6 @@ returns-2 c = λ ts start p h m. left-drives h (c .before .before .before .befor
 walk-word-requires : tie.Need-walk-word-requires Inv-loop μ-loop
 walk-word-requires c κs = let s = c .before .before .before .before .before .before .before .before .before .before .before .before .pre .6 in (c .before .before .before .before .before .before .before .before .before .before .before .before .pre .0, c .before .before .before .before .before .before .before .before .before .before .before .before .pre .1, midway-word (c .before .before .before .before .before .before .before .before .before .before .before .before .args .e) (s .cuttable .walkable) (c .before .before .before .before .before .before .before .before .before .before .before .before .pre .3) (c .before .before .before .before .before .before .loop-test .taken) 0 (c .before .before .before .before .before .before .before .loop .inv .1 (s .tasks) (s .start) (s .p) (s .cuttable) (s .midway)) (c .before .next-turn .ensures .0))
 
-loop-less : tie.Need-loop-less Inv-loop μ-loop
-loop-less c = search turns-left
-
 loop-again : tie.Need-loop-again Inv-loop μ-loop
 loop-again c = (omega (arith, c .before .before .before .before .before .before .before .before .before .loop-test .taken, c .before .before .before .before .next-turn .ensures .1 .1), λ ts start p h m. midway-step (c .before .before .before .before .before .before .before .before .before .before .before .before .before .before .before .args .e) (h .walkable) (c .before .before .before .before .before .before .before .before .before .before .before .before .before .before .before .pre .3) (c .before .before .before .before .before .before .before .before .before .loop-test .taken) 0 (c .before .before .before .before .before .before .before .before .before .before .loop .inv .1 ts start p h m) (c .before .before .before .before .next-turn .ensures .0) (c .before .before .walk-word .ensures))
 
@@ -78,7 +75,7 @@ walk-span-spec =
     (λ c. search needs)
     (λ c κs. search needs)
     walk-word-requires
-    loop-less
+    (λ c. search turns-left)
     loop-again
     come-back-requires
     same-length-3

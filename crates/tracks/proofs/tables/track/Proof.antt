@@ -12,26 +12,17 @@ Inv-loop day layout plan starts count tracks₀ work₀ v₀ tracks work v = Tra
 abbrev μ-loop : tie.MeasureT-loop
 μ-loop day layout plan starts count tracks₀ work₀ v₀ tracks work v = count - v
 
-loop-holds : tie.Need-loop-holds Inv-loop μ-loop
-loop-holds c = search tracks-start
-
-track-vehicle-requires : tie.Need-track-vehicle-requires Inv-loop μ-loop
-track-vehicle-requires c κs = search (needs, tracks-vehicle)
-
-loop-again : tie.Need-loop-again Inv-loop μ-loop
-loop-again c = search tracks-next
-
 pub track-spec : {M : Type 1} → statement M
 track-spec =
     tie.close
     (tie.spec
     Inv-loop
     μ-loop
-    loop-holds
-    track-vehicle-requires
+    (λ c. search tracks-start)
+    (λ c κs. search (needs, tracks-vehicle))
     (λ c. search needs)
     (λ c. search needs)
-    loop-again
+    (λ c. search tracks-next)
     (λ c. search needs)
     (λ c. search needs)
     (λ c. search tracks-end))

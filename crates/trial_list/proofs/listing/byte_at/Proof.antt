@@ -5,11 +5,10 @@ use borrow.Author.Needs.{needs}
 use Rattle.trial_list.proofs.listing.byte_at.Statement.{statement}
 use Rattle.trial_list.proofs.listing.byte_at.Tie as tie
 
-cast-result : tie.Need-cast-result
-cast-result c = omega (arith, c .shared-slice-known .given (c .before .args .i))
-
-returns : tie.Need-returns
-returns c = (refl, omega (arith, c .shared-slice-known .given (c .before .args .i)))
-
 pub byte-at-spec : {M : Type 1} → statement M
-byte-at-spec = tie.close (tie.spec (λ c. search needs) cast-result returns)
+byte-at-spec =
+    tie.close
+    (tie.spec
+    (λ c. search needs)
+    (λ c. omega (arith, c .shared-slice-known .given (c .before .args .i)))
+    (λ c. (refl, omega (arith, c .shared-slice-known .given (c .before .args .i)))))

@@ -19,9 +19,6 @@ returns c =
     let step = c .before .pair-at .ensures in
     record { tells = next-found _ _ (c .before .before .before .before .loop .inv .1) (step .goes) (c .if2 .taken); first = step .first }
 
-loop-less : tie.Need-loop-less Inv-loop μ-loop
-loop-less c = c .before .before .pair-at .ensures .falls (c .before .if2 .left)
-
 loop-again : tie.Need-loop-again Inv-loop μ-loop
 loop-again c = (c .before .before .pair-at .ensures .first, pass-on _ _ (c .before .before .before .before .before .loop .inv .1) (c .before .before .pair-at .ensures .goes) (c .before .if2 .left))
 
@@ -42,7 +39,7 @@ next-pair-spec =
     (λ c. search needs)
     (λ c κs. search needs)
     returns
-    loop-less
+    (λ c. c .before .before .pair-at .ensures .falls (c .before .if2 .left))
     loop-again
     (λ c κs. search needs)
     returns-2)

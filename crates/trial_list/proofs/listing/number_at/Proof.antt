@@ -5,11 +5,11 @@ use borrow.Author.Needs.{needs}
 use Rattle.trial_list.proofs.listing.number_at.Statement.{statement}
 use Rattle.trial_list.proofs.listing.number_at.Tie as tie
 
-cast-result : tie.Need-cast-result
-cast-result c = omega (arith, c .shared-slice-known .given (c .before .args .i))
-
-returns : tie.Need-returns
-returns c = (refl, omega (arith, c .shared-slice-known .given (c .before .args .i)))
-
 pub number-at-spec : {M : Type 1} → statement M
-number-at-spec = tie.close (tie.spec (λ c. search needs) (λ c. search needs) cast-result returns)
+number-at-spec =
+    tie.close
+    (tie.spec
+    (λ c. search needs)
+    (λ c. search needs)
+    (λ c. omega (arith, c .shared-slice-known .given (c .before .args .i)))
+    (λ c. (refl, omega (arith, c .shared-slice-known .given (c .before .args .i)))))

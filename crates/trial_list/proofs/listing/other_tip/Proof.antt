@@ -5,11 +5,6 @@ use borrow.Author.Needs.{needs}
 use Rattle.trial_list.proofs.listing.other_tip.Statement.{statement}
 use Rattle.trial_list.proofs.listing.other_tip.Tie as tie
 
-returns : tie.Need-returns
-returns c = rw (eq-eqb _ _ (c .if1 .taken)) refl
-
-returns-2 : tie.Need-returns-2
-returns-2 c = rw (ne-eqb _ _ (c .if1 .left)) refl
-
 pub other-tip-spec : {M : Type 1} → statement M
-other-tip-spec = tie.close (tie.spec (λ c. search needs) returns returns-2)
+other-tip-spec =
+    tie.close (tie.spec (λ c. search needs) (λ c. rw (eq-eqb _ _ (c .if1 .taken)) refl) (λ c. rw (ne-eqb _ _ (c .if1 .left)) refl))

@@ -11,9 +11,6 @@ Inv-loop vehicles₀ k₀ vehicles k = (k ≤ 256) × Cleared k vehicles
 abbrev μ-loop : tie.MeasureT-loop
 μ-loop vehicles₀ k₀ vehicles k = 256 - k
 
-loop-again : tie.Need-loop-again Inv-loop μ-loop
-loop-again c = (search needs, search cleared-next)
-
 pub clear-spec : {M : Type 1} → statement M
 clear-spec =
     tie.close
@@ -24,6 +21,6 @@ clear-spec =
     (λ c. search needs)
     (λ c. search needs)
     (λ c. search needs)
-    loop-again
+    (λ c. (search needs, search cleared-next))
     (λ c. search needs)
     (λ c. search cleared-all))

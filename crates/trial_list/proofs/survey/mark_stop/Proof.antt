@@ -5,20 +5,14 @@ use Rattle.trial_list.proofs.RideLaws.{vehicles-first, vehicles-later, 
 use Rattle.trial_list.proofs.survey.mark_stop.Statement.{statement}
 use Rattle.trial_list.proofs.survey.mark_stop.Tie as tie
 
-slice-read-if2 : tie.Need-slice-read-if2
-slice-read-if2 c = let p = c .before .before .pre in omega (arith, p .0, p .2 (c .before .if1 .taken))
-
-slice-write-vehicles : tie.Need-slice-write-vehicles
-slice-write-vehicles c = let p = c .before .before .before .pre in omega (arith, p .0, p .2 (c .before .before .if1 .taken))
-
 pub mark-stop-spec : {M : Type 1} → statement M
 mark-stop-spec =
     tie.close
     (tie.spec
     (λ c. search needs)
     (λ c. search needs)
-    slice-read-if2
-    slice-write-vehicles
+    (λ c. let p = c .before .before .pre in omega (arith, p .0, p .2 (c .before .if1 .taken)))
+    (λ c. let p = c .before .before .before .pre in omega (arith, p .0, p .2 (c .before .before .if1 .taken)))
     (λ c. search needs)
     (λ c. search vehicles-first)
     (λ c. search vehicles-later)

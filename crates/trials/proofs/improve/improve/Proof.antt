@@ -7,9 +7,6 @@ use borrow.Author.Needs.{needs}
 use Rattle.trials.proofs.improve.improve.Statement.{statement}
 use Rattle.trials.proofs.improve.improve.Tie as tie
 
-fill-table-requires : tie.Need-fill-table-requires
-fill-table-requires c κs = let p = c .before .before .before .before .pre in (p .0, omega (arith, p .0 .stopsAre, accepted-ranges _ (p .1) .stopsMost), p .2, refl)
-
 run-trials-requires : tie.Need-run-trials-requires
 run-trials-requires c κs = let p = c .before .before .before .before .before .before .before .before .before .before .before .before .before .pre in ((p .0, p .1, p .2, c .before .before .before .before .before .before .before .before .fill-table .ensures, p .4, omega (arith, p .3)), ((p .5, p .6), (refl, refl, refl, refl)))
 
@@ -18,7 +15,7 @@ improve-spec =
     tie.close
     (tie.spec
     (λ c. search needs)
-    fill-table-requires
+    (λ c κs. let p = c .before .before .before .before .pre in (p .0, omega (arith, p .0 .stopsAre, accepted-ranges _ (p .1) .stopsMost), p .2, refl))
     (λ c. search needs)
     (λ c. search needs)
     (λ c. search needs)

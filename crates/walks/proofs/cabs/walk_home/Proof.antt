@@ -5,10 +5,7 @@ use borrow.Author.Needs.{needs}
 use Rattle.walks.proofs.cabs.walk_home.Statement.{statement}
 use Rattle.walks.proofs.cabs.walk_home.Tie as tie
 
-insert-tip-requires : tie.Need-insert-tip-requires
-insert-tip-requires c κs = search (needs, some-rested)
-
 pub walk-home-spec : {M : Type 1} → statement M
 walk-home-spec =
     tie.close
-    (tie.spec (λ c κs. search needs) (λ c. search needs) (λ c. search home-empty) insert-tip-requires (λ c. search needs) (λ c. search home-loaded))
+    (tie.spec (λ c κs. search needs) (λ c. search needs) (λ c. search home-empty) (λ c κs. search (needs, some-rested)) (λ c. search needs) (λ c. search home-loaded))

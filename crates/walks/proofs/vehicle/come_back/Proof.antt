@@ -6,9 +6,6 @@ use borrow.Author.Needs.{needs}
 use Rattle.walks.proofs.vehicle.come_back.Statement.{statement}
 use Rattle.walks.proofs.vehicle.come_back.Tie as tie
 
-walk-home-requires : tie.Need-walk-home-requires
-walk-home-requires c κs = search (needs, done-standing)
-
 leg-between-requires : tie.Need-leg-between-requires
 leg-between-requires c κs = let t = some-served _ (done-standing (c .before .before .before .before .before .before .before .before .before .pre .2) (c .before .before .before .before .before .before .if1 .left)) (c .before .before .before .before .walk-home .ensures) (c .before .if2 .left) .trip in (c .before .before .before .before .before .before .before .before .before .pre .0, omega (arith, t .place, c .before .before .before .before .before .before .before .before .before .pre .0 .placesAre), omega (arith, c .before .before .before .before .before .before .before .before .before .pre .0 .placesAre))
 
@@ -24,7 +21,7 @@ come-back-spec =
     (tie.spec
     (λ c κs. search needs)
     (λ c. search back-failed)
-    walk-home-requires
+    (λ c κs. search (needs, done-standing))
     (λ c κs. search needs)
     (λ c. search needs)
     (λ c. search back-fails)

@@ -27,9 +27,6 @@ loop-holds c = (omega arith, λ p ts w h. midway-start w h (c .fresh-cab .ensure
 walk-word-requires : tie.Need-walk-word-requires Inv-loop μ-loop
 walk-word-requires c κs = let s = c .before .before .before .before .before .before .before .before .before .pre .5 in (c .before .before .before .before .before .before .before .before .before .pre .0, c .before .before .before .before .before .before .before .before .before .pre .1, midway-word (c .before .before .before .before .before .before .before .before .before .args .e) (s .walkable) (c .before .before .before .before .before .before .before .before .before .pre .3) (c .before .before .before .loop-test .taken) 0 (c .before .before .before .before .loop .inv .1 _ (s .tasks) (wrote-put (wrote-none _) _ (omega (arith, s .walkable .room))) (s .walkable)) (c .before .next-turn .ensures .0))
 
-loop-less : tie.Need-loop-less Inv-loop μ-loop
-loop-less c = search turns-left
-
 loop-again : tie.Need-loop-again Inv-loop μ-loop
 loop-again c = (omega (arith, c .before .before .before .before .before .before .loop-test .taken, c .before .before .before .before .next-turn .ensures .1 .1), λ p ts w h. midway-step (c .before .before .before .before .before .before .before .before .before .before .before .before .args .e) h (c .before .before .before .before .before .before .before .before .before .before .before .before .pre .3) (c .before .before .before .before .before .before .loop-test .taken) 0 (c .before .before .before .before .before .before .before .loop .inv .1 p ts w h) (c .before .before .before .before .next-turn .ensures .0) (c .before .before .walk-word .ensures))
 
@@ -53,7 +50,7 @@ walk-tasks-spec =
     (λ c. search needs)
     (λ c κs. search needs)
     walk-word-requires
-    loop-less
+    (λ c. search turns-left)
     loop-again
     same-length
     returns)
