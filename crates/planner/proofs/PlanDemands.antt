@@ -1,7 +1,7 @@
 -- What demand 3 says of one call that plans with trials: on every accepted day, K from 1 to 50, any budget and buffers long enough, whatever
 -- they held. Assumes nothing.
 use Prim.Native.Nat.{ℕ, _+_, _-_, _*_, _≤_, _<_}
-use mathlib.Core.Path.{_≡_, refl, sym, ap, subst, _∙_}
+use mathlib.Core.Path.{_≡_, refl, ap, subst, _∙_}
 use mathlib.Core.Bool.{true, false}
 use mathlib.Core.List.{List, _++_, append-assoc}
 use native.Mathlib.Omega.{arith}
@@ -11,7 +11,7 @@ use borrow.Author.Tests.{le-leb}
 use Rattle.rules.specs.Answers.{given}
 use Rattle.rules.specs.Lists.{over, Every}
 use Rattle.rules.specs.Fields.{stops, IsAccepted}
-use Rattle.rules.specs.Plan.{Round, planWords, Formed}
+use Rattle.rules.specs.Plan.{Round, planWords}
 use Rattle.rules.specs.Lawful.{Loads, Timed, Lawful}
 use Rattle.rules.specs.Build.{greedyLefts}
 use Rattle.rules.specs.TrialList.{trialList}

@@ -5,16 +5,13 @@ use Rattle.checker.proofs.Answering.{day-refused, day-accepted}
 use Rattle.checker.proofs.check.Statement.{statement}
 use Rattle.checker.proofs.check.Tie as tie
 
-layout-of-requires : tie.Need-layout-of-requires
-layout-of-requires c κs = search accepted-long
-
 pub check-spec : {M : Type 1} → statement M
 check-spec =
     tie.close
     (tie.spec
     (λ c κs. search needs)
     (λ c. search needs)
-    layout-of-requires
+    (λ c κs. search accepted-long)
     (λ c κs. search needs)
     (λ c. search needs)
     (λ c. search day-accepted)

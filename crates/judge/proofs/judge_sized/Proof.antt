@@ -17,18 +17,9 @@ returns-2 : tie.Need-returns-2
 unfolding judgeSized
 returns-2 c = search branches
 
-mul-if3-3 : tie.Need-mul-if3-3
-mul-if3-3 c = let a = c .before .before .before .args in omega (arith, legs-few (a .d) (a .n) (omega arith) (omega arith))
-
-add-if3-3 : tie.Need-add-if3-3
-add-if3-3 c = let a = c .before .before .before .args in omega (arith, legs-few (a .d) (a .n) (omega arith) (omega arith))
-
 returns-3 : tie.Need-returns-3
 unfolding judgeSized
 returns-3 c = search branches
-
-judge-words-requires : tie.Need-judge-words-requires
-judge-words-requires c κs = search whole-day
 
 returns-4 : tie.Need-returns-4
 unfolding judgeSized judgedFrom
@@ -46,8 +37,8 @@ judge-sized-spec =
     (λ c. search needs)
     (λ c. search needs)
     (λ c. search needs)
-    mul-if3-3
-    add-if3-3
+    (λ c. let a = c .before .before .before .args in omega (arith, legs-few (a .d) (a .n) (omega arith) (omega arith)))
+    (λ c. let a = c .before .before .before .args in omega (arith, legs-few (a .d) (a .n) (omega arith) (omega arith)))
     returns-3
-    judge-words-requires
+    (λ c κs. search whole-day)
     returns-4)

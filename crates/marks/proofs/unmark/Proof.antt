@@ -12,15 +12,6 @@ element-copy-out-next : tie.Need-element-copy-out-next
 element-copy-out-next c =
     omega (arith, marked-within _ _ (c .pre), array-length w64 4 (c .args .m .words) _ (c .good .0 .1 .1 .0))
 
-sub-next : tie.Need-sub-next
-sub-next c = rw one-shl (bit-le _ _ (marked-bit _ _ (c .before .pre)))
-
-element-write-next : tie.Need-element-write-next
-element-write-next c = element-copy-out-next (c .before)
-
-returns : tie.Need-returns
-returns c = rw one-shl (unmark-words _ _ (c .before .pre))
-
 pub unmark-spec : {M : Type 1} → statement M
 unmark-spec =
     tie.close
@@ -28,7 +19,7 @@ unmark-spec =
     (λ c. search needs)
     element-copy-out-next
     (λ c. search needs)
-    sub-next
+    (λ c. rw one-shl (bit-le _ _ (marked-bit _ _ (c .before .pre))))
     (λ c. search needs)
-    element-write-next
-    returns)
+    (λ c. element-copy-out-next (c .before))
+    (λ c. rw one-shl (unmark-words _ _ (c .before .pre))))

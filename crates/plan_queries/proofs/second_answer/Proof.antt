@@ -5,9 +5,6 @@ use Rattle.plan_queries.proofs.PlanCalls.{rounds-same, rounds-differ, s
 use Rattle.plan_queries.proofs.second_answer.Statement.{statement}
 use Rattle.plan_queries.proofs.second_answer.Tie as tie
 
-add-t10 : tie.Need-add-t10
-add-t10 c = omega (arith, place-small _ _ (c .before .before .before .check .ensures) (c .before .answer .given .1))
-
 pub second-answer-spec : {M : Type 1} → statement M
 second-answer-spec =
     tie.close
@@ -17,6 +14,6 @@ second-answer-spec =
     (λ c κs. search needs)
     (λ c. (search rounds-same, tt))
     (λ c. search needs)
-    add-t10
+    (λ c. omega (arith, place-small _ _ (c .before .before .before .check .ensures) (c .before .answer .given .1)))
     (λ c. (search rounds-differ, tt))
     (λ c. (search second-refused, search plan-numbered)))

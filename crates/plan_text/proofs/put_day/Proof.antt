@@ -4,9 +4,6 @@ use Rattle.plan_text.proofs.PlannedLaws.{day-room, day-within, day-put}
 use Rattle.plan_text.proofs.put_day.Statement.{statement}
 use Rattle.plan_text.proofs.put_day.Tie as tie
 
-put-answer-requires : tie.Need-put-answer-requires
-put-answer-requires c κs = (search day-room, search day-within)
-
 pub put-day-spec : {M : Type 1} → statement M
 put-day-spec =
     tie.close
@@ -15,6 +12,6 @@ put-day-spec =
     (λ c. search needs)
     (λ c κs. search needs)
     (λ c. search needs)
-    put-answer-requires
+    (λ c κs. (search day-room, search day-within))
     (λ c. search needs)
     (λ c. search day-put))

@@ -4,12 +4,6 @@ use Rattle.plan_text.proofs.PrintedLaws.{file-fits, file-counted, file-
 use Rattle.plan_text.proofs.put_file.Statement.{statement}
 use Rattle.plan_text.proofs.put_file.Tie as tie
 
-array-share-prefix-words : tie.Need-array-share-prefix-words
-array-share-prefix-words c = search file-fits
-
-slice-aggregate-put-day : tie.Need-slice-aggregate-put-day
-slice-aggregate-put-day c = search file-counted
-
 pub put-file-spec : {M : Type 1} → statement M
 put-file-spec =
     tie.close
@@ -18,8 +12,8 @@ put-file-spec =
     (λ c. search needs)
     (λ c κs. search needs)
     (λ c. search needs)
-    array-share-prefix-words
-    slice-aggregate-put-day
+    (λ c. search file-fits)
+    (λ c. search file-counted)
     (λ c κs. search needs)
     (λ c. search needs)
     (λ c κs. search needs)

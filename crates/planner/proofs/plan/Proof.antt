@@ -6,20 +6,14 @@ use borrow.Author.Needs.{needs}
 use Rattle.planner.proofs.plan.Statement.{statement}
 use Rattle.planner.proofs.plan.Tie as tie
 
-layout-of-requires : tie.Need-layout-of-requires
-layout-of-requires c κs = search accepted-long
-
-plan-accepted-requires : tie.Need-plan-accepted-requires
-plan-accepted-requires c κs = (search needs, search is-accepted)
-
 pub plan-spec : {M : Type 1} → statement M
 plan-spec =
     tie.close
     (tie.spec
     (λ c κs. search needs)
     (λ c. search needs)
-    layout-of-requires
-    plan-accepted-requires
+    (λ c κs. search accepted-long)
+    (λ c κs. (search needs, search is-accepted))
     (λ c. search needs)
     (λ c. search needs)
     (λ c. search needs)

@@ -4,16 +4,13 @@ use Rattle.plan_parts.proofs.GoingThrough.{told-small, told-answer}
 use Rattle.checker.proofs.run.check_words.Statement.{statement}
 use Rattle.checker.proofs.run.check_words.Tie as tie
 
-finish-requires : tie.Need-finish-requires
-finish-requires c κs = told-small _ _ _ (c .before .all-parts .ensures) (c .if1 .taken)
-
 pub check-words-spec : {M : Type 1} → statement M
 check-words-spec =
     tie.close
     (tie.spec
     (λ c κs. search needs)
     (λ c κs. search needs)
-    finish-requires
+    (λ c κs. told-small _ _ _ (c .before .all-parts .ensures) (c .if1 .taken))
     (λ c. search told-answer)
     (λ c κs. search needs)
     (λ c. search needs))

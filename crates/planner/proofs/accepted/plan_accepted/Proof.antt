@@ -6,19 +6,13 @@ use borrow.Author.Needs.{needs}
 use Rattle.planner.proofs.accepted.plan_accepted.Statement.{statement}
 use Rattle.planner.proofs.accepted.plan_accepted.Tie as tie
 
-are-long-requires : tie.Need-are-long-requires
-are-long-requires c κs = (search needs, search few-stops)
-
-work-over-requires : tie.Need-work-over-requires
-work-over-requires c κs = (search needs, search needs, search few-is, search long-plan, search long-spare)
-
 pub plan-accepted-spec : {M : Type 1} → statement M
 plan-accepted-spec =
     tie.close
     (tie.spec
     (λ c κs. search needs)
-    are-long-requires
-    work-over-requires
+    (λ c κs. (search needs, search few-stops))
+    (λ c κs. (search needs, search needs, search few-is, search long-plan, search long-spare))
     (λ c. search needs)
     (λ c. search needs)
     (λ c. (search worked-answer, (search worked-buffer, search worked-spare)))

@@ -4,9 +4,6 @@ use borrow.Author.Needs.{needs}
 use Rattle.planner.proofs.accepted.work_over.Statement.{statement}
 use Rattle.planner.proofs.accepted.work_over.Tie as tie
 
-improve-requires : tie.Need-improve-requires
-improve-requires c κs = (search needs, search needs, search needs, search lent-long, search needs, search greedy-at, search distance-is)
-
 returns : tie.Need-returns
 returns c =
     let improved = c .before .before .before .before in
@@ -26,7 +23,7 @@ work-over-spec =
     (λ c. search needs)
     (λ c. search needs)
     (λ c. search needs)
-    improve-requires
+    (λ c κs. (search needs, search needs, search needs, search lent-long, search needs, search greedy-at, search distance-is))
     (λ c. search needs)
     (λ c. search needs)
     (λ c. search needs)

@@ -4,20 +4,14 @@ use Rattle.text.proofs.LineLaws.{words-are, words-room, plan-put, refus
 use Rattle.text.proofs.lines.put_answer.Statement.{statement}
 use Rattle.text.proofs.lines.put_answer.Tie as tie
 
-slice-aggregate-put-words : tie.Need-slice-aggregate-put-words
-slice-aggregate-put-words c = search words-are
-
-put-words-requires : tie.Need-put-words-requires
-put-words-requires c κs = search words-room
-
 pub put-answer-spec : {M : Type 1} → statement M
 put-answer-spec =
     tie.close
     (tie.spec
     (λ c. search needs)
     (λ c κs. search needs)
-    slice-aggregate-put-words
-    put-words-requires
+    (λ c. search words-are)
+    (λ c κs. search words-room)
     (λ c. search needs)
     (λ c κs. search needs)
     (λ c. search needs)

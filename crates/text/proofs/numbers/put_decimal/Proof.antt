@@ -4,9 +4,6 @@ use Rattle.text.proofs.DigitLaws.{decimal-room, decimal-put, decimal-ne
 use Rattle.text.proofs.numbers.put_decimal.Statement.{statement}
 use Rattle.text.proofs.numbers.put_decimal.Tie as tie
 
-put-bytes-requires : tie.Need-put-bytes-requires
-put-bytes-requires c κs = search decimal-room
-
 pub put-decimal-spec : {M : Type 1} → statement M
 put-decimal-spec =
     tie.close
@@ -14,6 +11,6 @@ put-decimal-spec =
     (λ c κs. search needs)
     (λ c. search needs)
     (λ c. search needs)
-    put-bytes-requires
+    (λ c κs. search decimal-room)
     (λ c. search needs)
     (λ c. (search decimal-put, search decimal-next)))

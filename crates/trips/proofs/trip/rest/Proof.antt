@@ -4,15 +4,12 @@ use Rattle.trips.proofs.Driving.{rest-again, rest-late, rest-kept}
 use Rattle.trips.proofs.trip.rest.Statement.{statement}
 use Rattle.trips.proofs.trip.rest.Tie as tie
 
-returns : tie.Need-returns
-returns c = search rest-again
-
 pub rest-spec : {M : Type 1} → statement M
 rest-spec =
     tie.close
     (tie.spec
     (λ c κs. search needs)
-    returns
+    (λ c. search rest-again)
     (λ c κs. search needs)
     (λ c κs. search needs)
     (λ c κs. search needs)

@@ -5,9 +5,6 @@ use Rattle.ways_home.proofs.HomeLaws.{tip-none, tip-home, visit-minute,
 use Rattle.ways_home.proofs.home.is_home_by_tip.Statement.{statement}
 use Rattle.ways_home.proofs.home.is_home_by_tip.Tie as tie
 
-rest-if-due-requires : tie.Need-rest-if-due-requires
-rest-if-due-requires c κs = (search needs, omega (arith, visit-minute _ _ _ _ _ (c .before .before .before .before .before .pre .1) (c .visit .ensures)))
-
 is-home-direct-requires : tie.Need-is-home-direct-requires
 is-home-direct-requires c κs =
     let pre = c .before .before .before .before .before .before .pre in
@@ -21,6 +18,6 @@ is-home-by-tip-spec =
     (λ c κs. search needs)
     (λ c κs. search needs)
     (λ c κs. search needs)
-    rest-if-due-requires
+    (λ c κs. (search needs, omega (arith, visit-minute _ _ _ _ _ (c .before .before .before .before .before .pre .1) (c .visit .ensures))))
     is-home-direct-requires
     (λ c. search tip-home))

@@ -14,9 +14,6 @@ is-home-direct-requires c κs =
 nearest-tip-requires : tie.Need-nearest-tip-requires
 nearest-tip-requires c κs = let s = rest-small _ _ _ _ (c .before .before .before .pre .1) (c .before .rest-if-due .ensures) in (search needs, omega (arith, s .place), omega (arith, s .minute))
 
-is-home-by-tip-requires : tie.Need-is-home-by-tip-requires
-is-home-by-tip-requires c κs = (search needs, rest-small _ _ _ _ (c .before .before .before .before .pre .1) (c .before .before .rest-if-due .ensures), search needs)
-
 pub is-way-home-spec : {M : Type 1} → statement M
 is-way-home-spec =
     tie.close
@@ -25,5 +22,5 @@ is-way-home-spec =
     is-home-direct-requires
     (λ c. search empty-home)
     nearest-tip-requires
-    is-home-by-tip-requires
+    (λ c κs. (search needs, rest-small _ _ _ _ (c .before .before .before .before .pre .1) (c .before .before .rest-if-due .ensures), search needs))
     (λ c. search loaded-home))

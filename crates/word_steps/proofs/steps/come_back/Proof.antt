@@ -4,9 +4,6 @@ use Rattle.word_steps.proofs.Stepping.{back-loaded, back-refused, back-
 use Rattle.word_steps.proofs.steps.come_back.Statement.{statement}
 use Rattle.word_steps.proofs.steps.come_back.Tie as tie
 
-one-back-requires : tie.Need-one-back-requires
-one-back-requires c κs = search home-fits
-
 pub come-back-spec : {M : Type 1} → statement M
 come-back-spec =
     tie.close
@@ -17,5 +14,5 @@ come-back-spec =
     (λ c κs. search needs)
     (λ c. search back-refused)
     (λ c κs. search needs)
-    one-back-requires
+    (λ c κs. search home-fits)
     (λ c. search back-home))

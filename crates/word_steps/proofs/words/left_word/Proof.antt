@@ -4,9 +4,6 @@ use Rattle.word_steps.proofs.Forming.{left-formed, left-below, left-met
 use Rattle.word_steps.proofs.words.left_word.Statement.{statement}
 use Rattle.word_steps.proofs.words.left_word.Tie as tie
 
-element-copy-out-if2 : tie.Need-element-copy-out-if2
-element-copy-out-if2 c = search left-below
-
 pub left-word-spec : {M : Type 1} → statement M
 left-word-spec =
     tie.close
@@ -16,7 +13,7 @@ left-word-spec =
     (λ c κs. search needs)
     (λ c κs. search needs)
     (λ c. search (misformed, left-formed))
-    element-copy-out-if2
+    (λ c. search left-below)
     (λ c κs. search needs)
     (λ c. search (met-again, left-formed, left-met))
     (λ c κs. search needs)

@@ -4,12 +4,6 @@ use Rattle.word_steps.proofs.Forming.{stop-formed, stop-below, known-so
 use Rattle.word_steps.proofs.words.stop_word.Statement.{statement}
 use Rattle.word_steps.proofs.words.stop_word.Tie as tie
 
-element-copy-out-if2 : tie.Need-element-copy-out-if2
-element-copy-out-if2 c = search stop-below
-
-serve-requires : tie.Need-serve-requires
-serve-requires c κs = (search needs, search needs, search needs, search known-some, search known-most)
-
 pub stop-word-spec : {M : Type 1} → statement M
 stop-word-spec =
     tie.close
@@ -18,8 +12,8 @@ stop-word-spec =
     (λ c κs. search needs)
     (λ c κs. search needs)
     (λ c. search (misformed, stop-formed))
-    element-copy-out-if2
+    (λ c. search stop-below)
     (λ c κs. search needs)
     (λ c. search (met-again, stop-formed, stop-met))
-    serve-requires
+    (λ c κs. (search needs, search needs, search needs, search known-some, search known-most))
     (λ c. search (goes-on, stop-formed, stop-unmet)))

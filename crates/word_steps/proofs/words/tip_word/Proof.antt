@@ -5,9 +5,6 @@ use Rattle.word_steps.specs.Steps.{isMetIn}
 use Rattle.word_steps.proofs.words.tip_word.Statement.{statement}
 use Rattle.word_steps.proofs.words.tip_word.Tie as tie
 
-empty-out-requires : tie.Need-empty-out-requires
-empty-out-requires c κs = (search needs, search needs, search known-some, search known-most)
-
 returns-2 : tie.Need-returns-2
 unfolding isMetIn
 returns-2 c = search (goes-on, tip-formed)
@@ -20,5 +17,5 @@ tip-word-spec =
     (λ c κs. search needs)
     (λ c κs. search needs)
     (λ c. search (misformed, tip-formed))
-    empty-out-requires
+    (λ c κs. (search needs, search needs, search known-some, search known-most))
     returns-2)
