@@ -10,6 +10,7 @@ use lib.ListN.{length, getD, take, drop, replicate}
 use lib.Seq.{drop-drop}
 use Rattle.rules.specs.Tests.{if_then_else_}
 use Rattle.rules.specs.Answers.{given, refused, isGiven, inSix}
+use Rattle.rules.specs.DayFile.{judgeDay}
 use Rattle.rules.specs.Fields.{IsAccepted}
 use Rattle.rules.specs.PlanWords.{wordOf, readPlan}
 use Rattle.rules.specs.Plan.{Round, roundWords, roundsWords}
@@ -17,6 +18,7 @@ use Rattle.rules.specs.Lawful.{Lawful}
 use Rattle.rules.specs.Check.{checkPlan}
 use Rattle.rules.specs.VehiclePlace.{isVehicle, isBack, wordsToBack, placeFrom, vehiclePlace, vehicleWords}
 use Rattle.day.specs.Accepted.{Accepted}
+use Rattle.day.proofs.Answered.{given-accepted}
 use Rattle.day.proofs.Ranges.{accepted-ranges}
 use Rattle.plan_laws.proofs.VehicleRounds.{no-vehicle, vehicle-there, vehicle-handed}
 
@@ -36,9 +38,9 @@ answer-in-six (a ∷ b ∷ c ∷ d ∷ []) h = refl
 answer-in-six (a ∷ b ∷ c ∷ d ∷ e ∷ []) h = refl
 answer-in-six (a ∷ b ∷ c ∷ d ∷ e ∷ f ∷ values) h = absurd (omega arith)
 
--- an accepted day has every range of document 01, and every index below its length
-pub accepted-day : (day : List ℕ) → IsAccepted day → Accepted day
-accepted-day = accepted-ranges
+-- a day that the judge accepts has every range of document 01, and every index below its length
+pub accepted-day : (day : List ℕ) (n d : ℕ) → judgeDay day ≡ given (n ∷ d ∷ []) → Accepted day
+accepted-day day n d e = accepted-ranges day (given-accepted day (sym e))
 
 module _ (day plan : List ℕ) (accepted : IsAccepted day) (l : Lawful day plan) where
   -- 15 where the plan has no vehicle of this number

@@ -2,18 +2,18 @@
 use Prim.Native.Nat.{ℕ, _+_, _*_, _≤_, _<_}
 use mathlib.Core.Path.{_≡_}
 use mathlib.Core.Bool.{false}
-use mathlib.Core.List.{List, []}
+use mathlib.Core.List.{List, [], List·Memᴰ}
 use native.Mathlib.Omega.{arith}
 use lib.ListN.{length}
 use Rattle.rules.specs.Answers.{given}
-use Rattle.rules.specs.Lists.{Every, total}
+use Rattle.rules.specs.Lists.{total}
 use Rattle.rules.specs.Fields.{stops, IsAccepted}
 use Rattle.rules.specs.Plan.{stopsOnAll}
 use Rattle.rules.specs.Lawful.{Lawful, totals}
 use Rattle.rules.specs.Check.{checkPlan}
 use Rattle.rules.specs.Home.{nearestTip}
 use Rattle.rules.specs.Build.{Truck, resting, fleet, greedyRounds, greedyLefts, greedyPlan, couldTakeFirst}
-use Rattle.laws.proofs.Fresh.{unmet-most}
+use Rattle.laws.proofs.Fresh.{unmet-most, every-mem}
 use Rattle.greedy_laws.specs.Reached.{Reached}
 use Rattle.greedy_laws.specs.Rooms.{emptiesIn}
 use Rattle.greedy_laws.proofs.Fleets.{fleet-more}
@@ -39,8 +39,8 @@ pub tips-at-most-stops : (day : List ℕ) → total emptiesIn (greedyRounds day)
 tips-at-most-stops day = greedy-tips day
 
 -- a stop left out is one that no fresh vehicle could take first
-pub left-out-with-reason : (day : List ℕ) → Every (λ k. couldTakeFirst day k ≡ false) (greedyLefts day)
-left-out-with-reason day = left-out-justified day
+pub left-out-with-reason : (day : List ℕ) (k : ℕ) → List·Memᴰ k (greedyLefts day) → couldTakeFirst day k ≡ false
+left-out-with-reason day k = every-mem (λ j. couldTakeFirst day j ≡ false) (greedyLefts day) k (left-out-justified day)
 
 -- n(r,T) exists wherever the build asks for it: a vehicle on its way with a load, after the rest, has an open tip
 pub tip-is-there : (day before : List ℕ) → IsAccepted day → (v : Truck) → Reached day before v → 0 < resting day v .cargo .load

@@ -5,4 +5,4 @@ use Rattle.promises.proofs.calls.read.Statement.{statement}
 use Rattle.promises.proofs.calls.read.Tie as tie
 
 pub read-spec : {M : Type 1} → statement M
-read-spec = tie.close (tie.spec (λ c κs. search needs) (λ c. search needs) (λ c. (search read-answers, search read-keeps)))
+read-spec = tie.close (tie.spec (λ c κs. search needs) (λ c. search needs) (λ c. (search needs, (search needs, (search read-answers, search read-keeps)))))

@@ -5,4 +5,4 @@ use Rattle.promises.proofs.calls.vehicle_place.Statement.{statement}
 use Rattle.promises.proofs.calls.vehicle_place.Tie as tie
 
 pub vehicle-place-spec : {M : Type 1} → statement M
-vehicle-place-spec = tie.close (tie.spec (λ c κs. search needs) (λ c. search vehicle-answers))
+vehicle-place-spec = tie.close (tie.spec (λ c κs. search needs) (λ c. (search needs, search vehicle-answers)))
