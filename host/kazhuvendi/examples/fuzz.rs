@@ -1,11 +1,10 @@
 //! Compares the library with the second implementation on random files, plans and days to plan, for
 //! some seconds.
-//! The seed comes from the clock where none is given, and is printed so that a run can be repeated.
 
 use std::error::Error;
-use std::time::{Duration, Instant, SystemTime};
 
 use reference::random::Random;
+use reference::run::Run;
 
 #[path = "../tests/compare/builds.rs"]
 mod builds;
@@ -21,20 +20,13 @@ mod trials;
 mod written;
 
 fn main() -> Result<(), Box<dyn Error>> {
-    let mut settings = std::env::args().skip(1);
-    let seconds = settings.next().ok_or("give the seconds to run for")?.parse()?;
-    let seed = match settings.next() {
-        Some(seed) => seed.parse()?,
-        None => SystemTime::now().duration_since(SystemTime::UNIX_EPOCH)?.as_nanos() as u64,
-    };
-    println!("seed {seed}");
-    let mut random = Random::new(seed);
+    let run = Run::told(std::env::args().skip(1))?;
+    let mut random = Random::new(run.seed);
     let mut tally = compare::Tally::default();
     let mut tallies = plans::Tallies::default();
     let mut built = compare::Tally::default();
     let mut planned = compare::Tally::default();
-    let end = Instant::now() + Duration::from_secs(seconds);
-    while Instant::now() < end {
+    while run.goes_on() {
         days::round(&mut random, &mut tally);
         plans::round(&mut random, &mut tallies);
         builds::round(&mut random, &mut built);

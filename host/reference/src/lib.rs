@@ -30,6 +30,7 @@ pub mod plan_damage;
 pub mod planning;
 pub mod random;
 pub mod rounds;
+pub mod run;
 pub mod samples;
 pub mod timetable;
 pub mod trial_days;
