@@ -53,7 +53,11 @@ module _ (day : List ℕ) (place minute : ℕ) where
       → next ≡ better (openTip day place minute) (legMinutes day place) (k + 1) best → next ≡ least (openTip day place minute) (legMinutes day place) (k + 1)
   tips-next k best e n = n ∙ ap (better _ _ (k + 1)) e ∙ sym (least-suc _ _ k)
 
-  pub tips-all : (layout : Layout) (k best : ℕ) → LayoutOf day layout → best ≡ least (openTip day place minute) (legMinutes day place) k → k ≤ layout .tips → layout .tips ≤ k
+  pub tips-first : (k count best : ℕ) → best ≡ least (openTip day place minute) (legMinutes day place) k → k ≤ count → count ≤ k
+      → best ≡ least (openTip day place minute) (legMinutes day place) count
+  tips-first k count best e a b = let all : k ≡ count = omega arith in e ∙ ap (least _ _) all
+
+  pub tips-all : (layout : Layout) (best : ℕ) → LayoutOf day layout → best ≡ least (openTip day place minute) (legMinutes day place) (layout .tips)
       → best ≡ nearestTip day place minute
   unfolding nearestTip
-  tips-all layout k best h e a b = let all : k ≡ tips day = omega (arith, h .tipsAre) in e ∙ ap (least _ _) all
+  tips-all layout best h e = e ∙ ap (least _ _) (h .tipsAre)

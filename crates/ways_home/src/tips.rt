@@ -1,7 +1,7 @@
 // The nearest open tip, in one pass over the tips.
 ghost use mathlib.Core.Path.{_≡_};
 ghost use Prim.Native.Nat.{_<_, _≤_};
-ghost use Rattle.rules.specs.Tests.{better};
+ghost use Rattle.rules.specs.Tests.{better, least};
 ghost use Rattle.rules.specs.Fields.{legMinutes};
 ghost use Rattle.rules.specs.Home.{openTip, nearestTip};
 ghost use Rattle.day.specs.Layout.{LayoutOf};
@@ -56,20 +56,35 @@ fn better_tip(
     }
 }
 
-// The nearest tip that is open on arrival, the lowest number among equals, 0 where none is open.
-pub fn nearest_tip(day: &[u32], layout: Layout, place: usize, minute: u32) -> usize
-    requires { ⌜ LayoutOf (now day) layout × (place < layout .places) × (minute < 268435456) ⌝ }
-    ensures { λ r. ⌜ (r ≡ nearestTip (now (day .entry)) place minute) × (r ≤ layout .tips) ⌝ }
+// The tip carried along once the first tips are looked at, so many of them: the nearest that is open on arrival, with its minutes.
+pub fn nearest_of_first(
+    day: &[u32],
+    layout: Layout,
+    place: usize,
+    minute: u32,
+    count: usize,
+) -> Best
+    requires { ⌜ LayoutOf (now day) layout × (place < layout .places) × (minute < 268435456) × (count ≤ layout .tips) ⌝ }
+    ensures carried { λ r. ⌜ BestBy (legMinutes (now (day .entry)) place) (layout .tips) r ⌝ }
+    ensures rule { λ r. ⌜ r .number ≡ least (openTip (now (day .entry)) place minute) (legMinutes (now (day .entry)) place) count ⌝ }
 {
-    let tips = layout.tips;
     let mut best = Best {
         number: 0,
         key: NO_KEY,
     };
     let mut k: usize = 0;
-    while k < tips {
+    while k < count {
         best = better_tip(day, layout, place, minute, k + 1, best);
         k += 1;
     }
+    best
+}
+
+// The nearest tip that is open on arrival, the lowest number among equals, 0 where none is open.
+pub fn nearest_tip(day: &[u32], layout: Layout, place: usize, minute: u32) -> usize
+    requires { ⌜ LayoutOf (now day) layout × (place < layout .places) × (minute < 268435456) ⌝ }
+    ensures { λ r. ⌜ (r ≡ nearestTip (now (day .entry)) place minute) × (r ≤ layout .tips) ⌝ }
+{
+    let best = nearest_of_first(day, layout, place, minute, layout.tips);
     best.number
 }
