@@ -1,6 +1,7 @@
 // What is promised of the calls, as small clients that make them. Here demand 3: a day is planned with trials twice, and what is owed of the
 // two plans is the client's contract.
 pub mod calls;
+pub mod tips;
 
 ghost use lib.ListN.{length};
 ghost use Rattle.rules.specs.AnswerValues.{planValues};

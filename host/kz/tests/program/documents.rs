@@ -102,7 +102,7 @@ fn every_promise_is_a_statement_of_the_crate_of_promises() {
     let texts: Vec<String> = paths
         .filter(|path| path.is_file())
         .map(|path| std::fs::read_to_string(path).expect("a text"))
-        .chain(["lib", "calls"].map(|name| read(&format!("crates/promises/src/{name}.rt"))))
+        .chain(["lib", "calls", "tips"].map(|name| read(&format!("crates/promises/src/{name}.rt"))))
         .collect();
     let said = |name: &str| {
         let (law, client) = (format!("pub {name} :"), format!("pub fn {name}("));
