@@ -24,9 +24,9 @@ pub fn rows(table: &mut Table) {
     build(table, "build for 60 stops, judging the day", 60);
     build(table, "build for 120 stops, judging the day", 120);
     build(table, "build for 240 stops, judging the day", 240);
-    build_alone(table, "build for 60 stops, day not counted", 60);
-    build_alone(table, "build for 120 stops, day not counted", 120);
-    build_alone(table, "build for 240 stops, day not counted", 240);
+    alone(table, "build for 60 stops, day not counted", 5 * 60, &day_of(60), 60);
+    alone(table, "build for 120 stops, day not counted", 5 * 120, &day_of(120), 120);
+    alone(table, "build for 240 stops, day not counted", 5 * 240, &day_of(240), 240);
 }
 
 fn day_of(stops: usize) -> Vec<u32> {
@@ -45,20 +45,19 @@ fn build(table: &mut Table, name: &str, stops: usize) {
     assert!(library == plain, "{name}: the plans differ");
 }
 
-/// The time of the library's judge is taken off, which plain Rust gets before it too, as for the
-/// check of a plan.
-fn build_alone(table: &mut Table, name: &str, stops: usize) {
-    let day = day_of(stops);
+/// The build by itself, on an accepted day. The time of the library's judge is taken off, which plain
+/// Rust gets before it too, as for the check of a plan.
+pub fn alone(table: &mut Table, name: &str, count: usize, day: &[u32], stops: usize) {
     let (mut library, mut plain) = (vec![0; 5 * stops], vec![0; 5 * stops]);
-    let judge = || kazhuvendi::judge(black_box(&day)).is_ok();
+    let judge = || kazhuvendi::judge(black_box(day)).is_ok();
     table.row_less(
         name,
-        5 * stops,
+        count,
         judge,
-        || library_build(black_box(&day), black_box(&mut library)),
+        || library_build(black_box(day), black_box(&mut library)),
         || {
             black_box(judge());
-            answer(plain::build_accepted(black_box(&day), black_box(&mut plain)))
+            answer(plain::build_accepted(black_box(day), black_box(&mut plain)))
         },
     );
     assert!(library == plain, "{name}: the plans differ");

@@ -4,6 +4,7 @@ mod build;
 mod check;
 mod day;
 mod table;
+mod tips;
 mod trials;
 
 use table::Table;
@@ -14,6 +15,9 @@ fn main() {
     check::rows(&mut words);
     build::rows(&mut words);
     print!("{words}\n{}{}\n", check::NOTE, build::NOTE);
+    let mut tips = Table::of("tip");
+    tips::rows(&mut tips);
+    print!("{tips}\n{}\n", tips::NOTE);
     let mut trials = Table::of("trial");
     trials::rows(&mut trials);
     print!("{trials}\n{}", trials::NOTE);
