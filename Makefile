@@ -10,6 +10,7 @@
 # make examples  writes the sample days and the plan of day M anew
 # make manual    writes the manual page and the completions anew
 # make pictures  writes the pictures of the guide anew
+# make guides    writes the pictures anew, and what the commands of README, GUIDE and INTEGRATE print
 # make clean   removes all that was made
 
 SECONDS ?= 60
@@ -28,7 +29,7 @@ CHART := target/demo.svg
 PLACE := $(DESTDIR)$(PREFIX)
 DOCUMENTS := $(PLACE)/share/doc/kazhuvendi
 
-.PHONY: lib kz test demo install bench figures fuzz examples manual pictures clean
+.PHONY: lib kz test demo install bench figures fuzz examples manual pictures guides clean
 
 lib: $(LIBRARY)
 
@@ -82,6 +83,9 @@ manual: lib
 pictures: kz
 	@$(KZ) build examples/depot.txt | $(KZ) chart examples/depot.txt - -o docs/pictures/greedy.svg
 	@$(KZ) demo -o docs/pictures/settled.svg > /dev/null
+
+guides: pictures
+	@cd host && WRITE_PAGES=yes cargo test --release --offline --quiet -p kz --test program guides::the_commands
 
 clean:
 	rm -rf target host/target

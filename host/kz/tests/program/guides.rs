@@ -47,22 +47,39 @@ fn printed(commands: &str, folder: &Scratch) -> String {
     String::from_utf8(ran.expect("bash is there").stdout).expect("what is printed is UTF-8")
 }
 
-/// Runs a page's blocks of `sh` in turn. Each prints the block of `text` behind it, or nothing.
+/// Runs a page's blocks of `sh` in turn. Each prints the block of `text` behind it, or nothing. With
+/// `make guides` the page is written anew with what is printed.
 fn follow(name: &str) -> Scratch {
     let folder = root();
-    let blocks = blocks(&read(name));
+    let page = read(name);
+    let mut parts: Vec<String> = page.split("\n```").map(str::to_string).collect();
+    let blocks = blocks(&page);
     assert!(blocks.iter().any(|block| block.language == "sh"), "{name} has commands");
     let none = [Block { language: String::new(), text: String::new(), link: None }];
-    for (block, next) in blocks.iter().zip(blocks[1..].iter().chain(&none)) {
+    for (i, (block, next)) in blocks.iter().zip(blocks[1..].iter().chain(&none)).enumerate() {
         let shown = if next.language == "text" { next.text.as_str() } else { "" };
         match block.language.as_str() {
-            "sh" => assert_eq!(printed(&block.text, &folder), shown, "{name}: {}", block.text),
+            "sh" => {
+                let printed = printed(&block.text, &folder);
+                if writes_pages() && !shown.is_empty() {
+                    parts[2 * (i + 1) + 1] = format!("text\n{}", printed.trim_end_matches('\n'));
+                } else {
+                    assert_eq!(printed, shown, "{name}: {}", block.text);
+                }
+            }
             "text" | "c" | "rust" => {}
             other => panic!("{name} has a block of {other:?}"),
         }
         assert!(block.language == "sh" || shown.is_empty(), "{name}: nothing prints {shown}");
     }
+    if writes_pages() {
+        fs::write(Path::new(ROOT).join(name), parts.join("\n```")).expect("the page is written");
+    }
     folder
+}
+
+fn writes_pages() -> bool {
+    std::env::var_os("WRITE_PAGES").is_some()
 }
 
 #[test]
