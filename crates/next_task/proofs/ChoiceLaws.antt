@@ -1,6 +1,6 @@
 -- Which stop is taken next: one law for each way through the functions that choose.
 -- Assumes nothing.
-use Prim.Native.Nat.{ℕ, _+_, _-_, _^_, _≤_, _<_}
+use Prim.Native.Nat.{ℕ, _+_, _-_, _*_, _^_, _≤_, _<_}
 use mathlib.Core.Path.{_≡_, refl, sym, ap, _∙_}
 use mathlib.Core.Bool.{Bool, true, false, not, _&&_, and-false, and-true, and-assoc}
 use mathlib.Core.List.{List}
@@ -110,13 +110,13 @@ key-small true day t k = omega arith
 key-small false day t k = omega arith
 
 -- the key as it is read
-pub near-key : (near : Bool) (day : List ℕ) (layout : Layout) (t : Trip) (k : ℕ) (leg : Leg) → LayoutOf day layout → near ≡ true
-    → LegOf day (t .place) (layout .tips + k) leg → leg .minutes ≡ keyOf near day t k
-near-key near day layout t k leg l e takes = rw e (rw (l .tipsAre) at (takes .takes))
+pub near-key : (near : Bool) (day : List ℕ) (layout : Layout) (t : Trip) (k : ℕ) (leg : Leg) (hours : Window) → LayoutOf day layout → near ≡ true
+    → LegOf day (t .place) (layout .tips + k) leg → WindowOf day (stopPlace day k) hours → leg .minutes * 4096 + hours .closing ≡ keyOf near day t k
+near-key near day layout t k leg hours l e takes opens = rw (e, takes .takes, l .tipsAre, opens .closes) refl
 
 pub open-key : (near : Bool) (day : List ℕ) (t : Trip) (k : ℕ) (hours : Window) → near ≡ false → WindowOf day (stopPlace day k) hours
-    → hours .opening ≡ keyOf near day t k
-open-key near day t k hours e opens = rw e (opens .opens)
+    → hours .opening * 4096 + hours .closing ≡ keyOf near day t k
+open-key near day t k hours e opens = rw (e, opens .opens, opens .closes) refl
 
 -- a candidate: no stop, past the stops, not less, not fitting, and else by the minute
 module _ (near : Bool) (day : List ℕ) (t : Trip) (c : Cargo) (n most k : ℕ) where

@@ -60,15 +60,17 @@ fn is_timely(day: &[u32], layout: Layout, trip: Trip, near: bool, stop: usize) -
     minute < hours.opening
 }
 
-// What stops are compared by: the minutes to a stop, where near ones are wanted, and else its opening.
+// What stops are compared by: the minutes to a stop, where near ones are wanted, and else its opening; then its closing.
 fn key_of(day: &[u32], layout: Layout, trip: Trip, near: bool, stop: usize) -> u32
     requires { ⌜ LayoutOf (now day) layout × SmallTrip (now day) 2147483648 trip × (0 < stop) × (stop ≤ layout .stops) ⌝ }
     ensures { λ r. ⌜ (r ≡ keyOf near (now (day .entry)) trip stop) × (r < keysEnd) ⌝ }
 {
+    let hours = day::fields::stop_window(day, layout, stop);
     if near {
-        return day::fields::leg_between(day, layout, trip.place, layout.tips + stop).minutes;
+        let leg = day::fields::leg_between(day, layout, trip.place, layout.tips + stop);
+        return leg.minutes * 4096 + hours.closing;
     }
-    day::fields::stop_window(day, layout, stop).opening
+    hours.opening * 4096 + hours.closing
 }
 
 // Whether a stop is worth asking for a way home: it is a stop, its key is less than `most`, it fits, and it is reached at the right time.

@@ -1,3 +1,4 @@
 pub mod Carried
 pub mod Exactly
 pub mod Supposed
+pub mod Ties

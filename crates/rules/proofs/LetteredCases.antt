@@ -1,4 +1,4 @@
--- The lettered cases of document 01, gathered into one theorem, by computation. Assumes nothing.
+-- The lettered cases of document 01, gathered into one theorem, by computation; (c) and (g) as document 02, Q-1, has them. Assumes nothing.
 use Prim.Native.Nat.{ℕ}
 use mathlib.Core.Path.{_≡_, refl}
 use mathlib.Core.List.{List, [], _∷_}
@@ -38,6 +38,10 @@ planning = tt
 abbrev pub oneRound : List ℕ
 oneRound = 0xA0000001 ∷ 0xB0000001 ∷ 0xC0000001 ∷ 0xD0000000 ∷ 0xB0000002 ∷ 0xC0000001 ∷ 0xE0000000 ∷ []
 
+-- the same with the second stop first
+abbrev pub secondFirst : List ℕ
+secondFirst = 0xA0000001 ∷ 0xB0000002 ∷ 0xC0000001 ∷ 0xD0000000 ∷ 0xB0000001 ∷ 0xC0000001 ∷ 0xE0000000 ∷ []
+
 -- two vehicles with a stop each
 abbrev pub twoRounds : List ℕ
 twoRounds =
@@ -55,7 +59,7 @@ minutesH day = earliestMinutes day (opening day 0) (serve 1 ∷ empty 1 ∷ [])
 pub record Lettered : Type 0 where
   pub a : (answer (dayM 100 30 60 60 50) 6 ≡ given (35 ∷ 6 ∷ 1 ∷ 0 ∷ 7 ∷ [])) × (words (dayM 100 30 60 60 50) 6 ≡ oneRound)
   pub b : (answer (dayM 100 30 60 60 50) 5 ≡ given (35 ∷ 5 ∷ 0 ∷ 0 ∷ 7 ∷ [])) × (words (dayM 100 30 60 60 50) 5 ≡ oneRound)
-  pub c : (answer (dayM 100 30 60 60 49) 6 ≡ given (42 ∷ 4 ∷ 1 ∷ 0 ∷ 10 ∷ [])) × (words (dayM 100 30 60 60 49) 6 ≡ twoRounds)
+  pub c : (answer (dayM 100 30 60 60 49) 6 ≡ given (35 ∷ 6 ∷ 1 ∷ 0 ∷ 7 ∷ [])) × (words (dayM 100 30 60 60 49) 6 ≡ secondFirst)
   pub d : (answer (dayM 100 30 60 100 50) 6 ≡ given (35 ∷ 6 ∷ 1 ∷ 0 ∷ 7 ∷ [])) × (words (dayM 100 30 60 100 50) 6 ≡ oneRound)
   pub e : (answer (dayM 100 30 60 101 50) 6 ≡ given (21 ∷ 1 ∷ 1 ∷ 1 ∷ 6 ∷ [])) × (words (dayM 100 30 60 101 50) 6 ≡ secondAlone)
   pub f : (answer (dayM 80 30 60 60 50) 6 ≡ given (35 ∷ 6 ∷ 1 ∷ 0 ∷ 7 ∷ [])) × (words (dayM 80 30 60 60 50) 6 ≡ oneRound)

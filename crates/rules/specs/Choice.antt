@@ -1,5 +1,5 @@
--- Which stop a vehicle takes next: document 01, "Greedy build", steps 3 and 5. Assumes nothing.
-use Prim.Native.Nat.{ℕ, _*_}
+-- Which stop a vehicle takes next: document 01, "Greedy build", steps 3 and 5, with the ties of document 02, Q-1. Assumes nothing.
+use Prim.Native.Nat.{ℕ, _+_, _*_}
 use mathlib.Core.Bool.{Bool, false, not, _&&_, _||_}
 use mathlib.Core.List.{List}
 use lib.Dec.{ltb, leb, eqb}
@@ -30,13 +30,17 @@ takeable day t c k =
 unfoldable pub waitable : List ℕ → Trip → Cargo → ℕ → Bool
 waitable day t c k = ltb (arrival day t (stopPlace day k)) (opening day (stopPlace day k)) && suits day t c k
 
--- step 3 takes "the least t; ties, lowest number"
-abbrev pub nearKey : List ℕ → Trip → ℕ → ℕ
-nearKey day t k = legMinutes day (t .place) (stopPlace day k)
+-- "where travel minutes tie in step 3, or openings tie in step 5, take the earlier closing, and then the lower number"; a closing is below 4,096
+abbrev pub shutsFirst : List ℕ → (minutes k : ℕ) → ℕ
+shutsFirst day minutes k = minutes * 4096 + closing day (stopPlace day k)
 
--- step 5 takes "the stop of least opening; ties, lowest number"
+-- step 3 takes "the least t"
+abbrev pub nearKey : List ℕ → Trip → ℕ → ℕ
+nearKey day t k = shutsFirst day (legMinutes day (t .place) (stopPlace day k)) k
+
+-- step 5 takes "the stop of least opening"
 abbrev pub openKey : List ℕ → ℕ → ℕ
-openKey day k = opening day (stopPlace day k)
+openKey day k = shutsFirst day (opening day (stopPlace day k)) k
 
 -- the nearest unrouted stop that can be taken, 0 for none
 unfoldable pub nearestStop : List ℕ → Trip → Cargo → List ℕ → ℕ

@@ -7,7 +7,7 @@ use Rattle.ways_home.specs.declared.best.Best.{Best}
 
 -- past every key
 abbrev pub keysEnd : ℕ
-keysEnd = 4096
+keysEnd = 0x1000000
 
 -- the best is none, 0, or one of 1..n, and its key is carried with it
 pub record BestBy (key : ℕ → ℕ) (n : ℕ) (best : Best) : Type 0 where

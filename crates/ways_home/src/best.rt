@@ -6,5 +6,5 @@ pub struct Best {
     pub key: u32,
 }
 
-// Past every key: keys are minutes of a day file, below 4,096.
-pub const NO_KEY: u32 = 4096;
+// Past every key: minutes of a day file, or such minutes and a closing behind them, of twelve bits each.
+pub const NO_KEY: u32 = 0x1000000;

@@ -182,7 +182,7 @@ fn large_days_are_planned_as_the_reference_plans_them() {
 #[test]
 fn random_and_damaged_days_are_planned_as_the_reference_plans_them() {
     let mut tally = Tally::default();
-    for seed in 330..335 {
+    for seed in 330..336 {
         let mut random = Random::new(seed);
         for _ in 0..1_000 {
             round(&mut random, &mut tally);

@@ -6,7 +6,7 @@ use std::collections::BTreeMap;
 use reference::{build, check, day, planning, rounds};
 
 /// One question a line, its answer behind " = "; a line `day` has the day of the lines that follow.
-const VECTORS: &str = include_str!("vectors/base.txt");
+const VECTORS: &str = include_str!("vectors/after-Q-1.txt");
 
 /// Room for the plan of any day.
 const ROOM: usize = 5 * 240;

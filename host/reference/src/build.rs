@@ -66,12 +66,15 @@ fn one_vehicle(day: &Day, unrouted: &[u32]) -> Vec<Word> {
     }
 }
 
-/// The stop of least minutes. A choice that is dropped is not replaced by another one.
+/// The stop of least minutes; "the earlier closing, and then the lower number". A choice that is
+/// dropped is not replaced by another one.
 fn step_3(day: &Day, done: &[Word], free: &[u32]) -> Option<Word> {
     let here = replay(day, done).place;
     let open = free.iter().filter(|stop| within_window(day, done, **stop));
-    let (minutes, stop) =
-        least(open.map(|stop| (minutes_to(day, here, Word::Stop(*stop)), *stop)))?;
+    let (minutes, _, stop) = least(open.map(|&stop| {
+        let word = Word::Stop(stop);
+        (minutes_to(day, here, word), window_of(day, word).closing, stop)
+    }))?;
     let dropped = near_capacity(day, done) && {
         let tip = nearest_open_tip(day, done).expect("the last stop was taken with a way home");
         minutes > minutes_to(day, here, tip)
@@ -85,16 +88,19 @@ fn step_4(day: &Day, done: &[Word]) -> Option<Word> {
         .then(|| nearest_open_tip(day, done).expect("the last stop was taken with a way home"))
 }
 
-/// The stop of least opening.
+/// The stop of least opening; ties as in step 3.
 fn step_5(day: &Day, done: &[Word], free: &[u32]) -> Option<Word> {
     let shut = free.iter().filter(|stop| before_opening(day, done, **stop));
-    let (_, stop) = least(shut.map(|stop| (window_of(day, Word::Stop(*stop)).opening, *stop)))?;
+    let (_, _, stop) = least(shut.map(|&stop| {
+        let window = window_of(day, Word::Stop(stop));
+        (window.opening, window.closing, stop)
+    }))?;
     Some(Word::Stop(stop))
 }
 
-/// The first in the order of the keys; "ties, lowest number".
-fn least(candidates: impl Iterator<Item = (u32, u32)>) -> Option<(u32, u32)> {
-    let mut candidates: Vec<(u32, u32)> = candidates.collect();
+/// The first in the order of the keys, which end in the number.
+fn least<Key: Copy + Ord>(candidates: impl Iterator<Item = Key>) -> Option<Key> {
+    let mut candidates: Vec<Key> = candidates.collect();
     candidates.sort_unstable();
     candidates.first().copied()
 }

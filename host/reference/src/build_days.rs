@@ -49,13 +49,15 @@ fn twist_rest(random: &mut Random, day: &mut Day) {
     }
 }
 
-/// Stops that open at a few times of the day, and tips of which each is open for a while.
+/// Stops that open at a few times of the day, and tips of which each is open for a while. Those that
+/// open together need not close together.
 fn twist_openings(random: &mut Random, day: &mut Day) {
     let width = random.one_of(&[0, 15, 60, 240]);
     let first = day.depot.opening;
     let later = |random: &mut Random, step: u32| {
         let opening = (first + step * random.within(0..=4)).min(1_440);
-        Window { opening, closing: (opening + width).min(1_440) }
+        let longer = random.one_of(&[0, 0, 1, 30]);
+        Window { opening, closing: (opening + width + longer).min(1_440) }
     };
     if random.once_in(2) {
         let step = random.one_of(&[30, 90, 150]);

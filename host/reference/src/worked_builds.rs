@@ -1,5 +1,5 @@
 //! Greedy plans of day M, and of day M with some words changed, worked out by hand from
-//! document 01.
+//! document 01, with the ties of document 02, Q-1.
 
 use crate::worked::with_words;
 use crate::worked_plans::{A1, A2, B1, B2, C1, D, E, F1, F2, PLAN_M};
@@ -11,6 +11,12 @@ pub type WorkedBuild = (&'static str, &'static [(usize, u32)], &'static [u32], (
 /// A vehicle for each stop. Each is at leisure to rest behind its tip, at 30.
 pub const ONE_EACH: [u32; 10] = [A1, B1, C1, D, E, A2, B2, C1, D, E];
 
+/// The same with stop 2 first.
+const ONE_EACH_2_FIRST: [u32; 10] = [A1, B2, C1, D, E, A2, B1, C1, D, E];
+
+/// Both stops on one vehicle, stop 2 first.
+pub const STOP_2_FIRST: [u32; 7] = [A1, B2, C1, D, B1, C1, E];
+
 /// Both stops before the tip. The rest is due at 30, behind the second of them.
 const BOTH_FIRST: [u32; 6] = [A1, B1, B2, D, C1, E];
 
@@ -18,13 +24,19 @@ const BOTH_FIRST: [u32; 6] = [A1, B1, B2, D, C1, E];
 /// the rounds invite.
 pub const BUILDS: &[WorkedBuild] = &[
     ("(a)", &[], &PLAN_M, (35, 0)),
-    ("(c) stop 2 closes at 49", &[(12, 0x5000_0031)], &ONE_EACH, (42, 0)),
+    ("(c) stop 2 closes at 49", &[(12, 0x5000_0031)], &STOP_2_FIRST, (35, 0)),
     ("(d) 100 kg at stop 1", &[(11, 0x8000_0064)], &PLAN_M, (35, 0)),
     ("(e) 101 kg at stop 1", &[(11, 0x8000_0065)], &[A1, B2, C1, D, E, F1], (21, 1)),
     ("(f) back at 80, the depot's closing", &[(4, 0x5000_0050)], &PLAN_M, (35, 0)),
     ("(g) home with lunch is at 80, not by 79", &[(4, 0x5000_004F)], &ONE_EACH, (42, 0)),
-    // least minutes
+    // least minutes, whichever closes first
     ("stop 2 is nearer", &[(18, 0x9009_0007)], &[A1, B2, C1, B1, D, C1, E], (35, 0)),
+    (
+        "stop 2 is nearer, stop 1 closes at 49",
+        &[(18, 0x9009_0007), (9, 0x5000_0031)],
+        &[A1, B2, C1, B1, D, C1, E],
+        (35, 0),
+    ),
     // rests
     ("a rest at the depot", &[(5, 0x6000_003C)], &[A1, D, B1, C1, B2, C1, E], (35, 0)),
     ("a rest of no minutes is written", &[(6, 0x7000_0000)], &PLAN_M, (35, 0)),
@@ -78,14 +90,26 @@ pub const BUILDS: &[WorkedBuild] = &[
         &[A1, B1, B2, D, E],
         (21, 0),
     ),
-    // step 5: least opening, and no rest while waiting
+    // step 5: least opening, whichever closes first, and no rest while waiting
     (
         "stop 1 opens at 20, stop 2 at 15",
         &[(9, 0x5001_4032), (12, 0x5000_F032)],
-        &[A1, B2, C1, D, E, A2, B1, C1, D, E],
+        &ONE_EACH_2_FIRST,
+        (42, 0),
+    ),
+    (
+        "stop 1 opens at 20 and closes at 30, stop 2 opens at 15",
+        &[(9, 0x5001_401E), (12, 0x5000_F032)],
+        &ONE_EACH_2_FIRST,
         (42, 0),
     ),
     ("both open at 15", &[(9, 0x5000_F032), (12, 0x5000_F032)], &ONE_EACH, (42, 0)),
+    (
+        "both open at 15, stop 2 closes at 49",
+        &[(9, 0x5000_F032), (12, 0x5000_F031)],
+        &ONE_EACH_2_FIRST,
+        (42, 0),
+    ),
 ];
 
 /// Day M with the changes of a worked build.

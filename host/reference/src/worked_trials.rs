@@ -1,8 +1,8 @@
-//! The lettered cases of document 01 that speak of planning with trials, as it gives them: day M
-//! with some words changed, K 5.
+//! The lettered cases of document 01 that speak of planning with trials, as it gives them, (c) as
+//! document 02, Q-1, does: day M with some words changed, K 5.
 
 use crate::worked::with_words;
-use crate::worked_builds::ONE_EACH;
+use crate::worked_builds::{ONE_EACH, STOP_2_FIRST};
 use crate::worked_plans::{A1, B2, C1, D, E, F1, PLAN_M};
 
 /// K in each of the cases.
@@ -17,7 +17,7 @@ pub type WorkedTrials =
 pub const PLANS: &[WorkedTrials] = &[
     ("(a)", &[], 6, (&PLAN_M, 35, 0), Some((6, true))),
     ("(b) budget 5", &[], 5, (&PLAN_M, 35, 0), Some((5, false))),
-    ("(c) stop 2 closes at 49", &[(12, 0x5000_0031)], 6, (&ONE_EACH, 42, 0), None),
+    ("(c) stop 2 closes at 49", &[(12, 0x5000_0031)], 6, (&STOP_2_FIRST, 35, 0), None),
     ("(d) 100 kg at stop 1", &[(11, 0x8000_0064)], 6, (&PLAN_M, 35, 0), Some((6, true))),
     ("(e) 101 kg at stop 1", &[(11, 0x8000_0065)], 6, (&[A1, B2, C1, D, E, F1], 21, 1), None),
     ("(f) L0 = 80", &[(4, 0x5000_0050)], 6, (&PLAN_M, 35, 0), Some((6, true))),

@@ -15,8 +15,9 @@ pub const COMMAND: Command = Command {
     operands: &[DAY],
     options: &[&OUTPUT, &HEX],
     about: &[
-        "The greedy plan is lawful, and leaves out only stops that no fresh vehicle could take \
-         first. `kz plan` makes it shorter.",
+        "Each vehicle goes to the nearest stop that fits, and of equally near ones to the one that \
+         closes first. The greedy plan is lawful, and leaves out only stops that no fresh vehicle \
+         could take first. `kz plan` makes it shorter.",
         "The words go to FILE, or to standard output, where a terminal gets them in hexadecimal. \
          What the plan comes to is said on standard output, or on standard error where the words \
          are there.",

@@ -54,10 +54,10 @@ fn without_k_plan_and_demo_try_50_neighbours() {
         let answer = kz(&[arguments, &["--json"]].concat()).json();
         (answer.at("distance").number(), answer.at("trials").number())
     };
-    assert_eq!(trials(&["plan", depot, "--k", "10"]), (157_747, 22_063));
-    assert_eq!(trials(&["plan", depot, "--k", "50"]), (153_887, 66_705));
-    assert_eq!(trials(&["plan", depot]), (153_887, 66_705));
-    assert_eq!(trials(&["demo"]), (153_887, 66_705));
+    assert_eq!(trials(&["plan", depot, "--k", "10"]), (168_276, 11_502));
+    assert_eq!(trials(&["plan", depot, "--k", "50"]), (165_776, 32_517));
+    assert_eq!(trials(&["plan", depot]), (165_776, 32_517));
+    assert_eq!(trials(&["demo"]), (165_776, 32_517));
 }
 
 #[test]

@@ -126,43 +126,46 @@ impl<'a> Builder<'a> {
     }
 
     /// The nearest stop that can be taken now, unless a tip is nearer and the vehicle nearly full.
+    /// Of equally near ones the first to close.
     fn nearest_stop(&self) -> Option<usize> {
         let fields = &self.fields;
-        let (mut best, mut least) = (None, u32::MAX);
+        let (mut best, mut least) = (None, (u32::MAX, u32::MAX));
         for stop in 1..=fields.stops {
             if self.routed[stop] {
                 continue;
             }
             let minutes = fields.leg(self.trip.place, fields.tips + stop).0;
-            if minutes >= least {
+            let window = fields.stop_window(stop);
+            if (minutes, window.closing) >= least {
                 continue;
             }
-            let (window, arrival) = (fields.stop_window(stop), self.trip.minute + minutes);
+            let arrival = self.trip.minute + minutes;
             if window.opening <= arrival && arrival <= window.closing && self.suits(stop) {
-                (best, least) = (Some(stop), minutes);
+                (best, least) = (Some(stop), (minutes, window.closing));
             }
         }
         if best.is_some() && fields.near_capacity(self.cargo) {
             let tip = fields.nearest_tip(self.trip).expect("the last stop has a way home");
-            if least > fields.leg(self.trip.place, tip).0 {
+            if least.0 > fields.leg(self.trip.place, tip).0 {
                 return None;
             }
         }
         best
     }
 
-    /// The stop that opens first among those reached before they open.
+    /// The stop that opens first among those reached before they open. Of those that open together
+    /// the first to close.
     fn earliest_stop(&self) -> Option<usize> {
         let fields = &self.fields;
-        let (mut best, mut least) = (None, u32::MAX);
+        let (mut best, mut least) = (None, (u32::MAX, u32::MAX));
         for stop in 1..=fields.stops {
-            let opening = fields.stop_window(stop).opening;
-            if self.routed[stop] || opening >= least {
+            let window = fields.stop_window(stop);
+            if self.routed[stop] || (window.opening, window.closing) >= least {
                 continue;
             }
             let minutes = fields.leg(self.trip.place, fields.tips + stop).0;
-            if self.trip.minute + minutes < opening && self.suits(stop) {
-                (best, least) = (Some(stop), opening);
+            if self.trip.minute + minutes < window.opening && self.suits(stop) {
+                (best, least) = (Some(stop), (window.opening, window.closing));
             }
         }
         best
