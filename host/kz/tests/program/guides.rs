@@ -8,7 +8,7 @@ use std::process::{Command, Stdio};
 use crate::page::{blocks, links, read, Block, ROOT};
 use crate::scratch::Scratch;
 
-pub const PAGES: [&str; 13] = [
+pub const PAGES: [&str; 14] = [
     "CONTRIBUTING.md",
     "README.md",
     "docs/DECISIONS.md",
@@ -18,6 +18,7 @@ pub const PAGES: [&str; 13] = [
     "docs/NEXT.md",
     "docs/PROMISES.md",
     "docs/WRONG-PROGRAMS.md",
+    "docs/changes/Q-1.md",
     "docs/changes/Q-3.md",
     "docs/changes/promises.md",
     "docs/changes/rules.md",
