@@ -5,7 +5,8 @@ use Rattle.rules.specs.Lawful.{distanceFrom}
 use Rattle.rules.specs.Neighbours.{compatible, neighbourKey, behind, nextNeighbour, neighboursAfter, neighbours}
 use Rattle.rules.specs.Edits.{changeStop, changeTip, change, changed, touches}
 use Rattle.rules.specs.TrialList.{each, rising, vehicleFrom, pairTrials, stopTrials, otherTip, taskTrials, roundTrials, tipTrials, trialList}
-use Rattle.rules.specs.Attempts.{inserting, emptiedFirst, exceeds, servingThen, walkTask, walkNext, walkOn, walkHome, doneBy, walkedAgain, retried, joined, triedFrom, distanceOf, isLawful, keptIf, attempt}
+use Rattle.rules.specs.Attempts.{inserting, emptiedFirst, exceeds, servingThen, walkTask, walkNext, walkOn, walkHome, doneBy, walkedAgain}
+use Rattle.rules.specs.Attempts.{retried, joined, triedFrom, distanceOf, isLawful, keptIf, attempt}
 use Rattle.rules.specs.Search.{run, improve, searched}
 use Rattle.rules.proofs.BuildCases.{built}
 
