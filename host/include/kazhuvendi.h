@@ -112,7 +112,7 @@ void kz_same_rounds(const uint32_t *day, size_t n, const uint32_t *first, size_t
  * Judges a day of n words and writes its greedy plan into the beginning of a
  * buffer of `room` words, of which it needs 5 for each stop of the day. From
  * the plan's end to there the buffer is then zero; beyond it stays as it was.
- * Of equally near stops a vehicle takes the one that closes first.
+ * Of equally near stops that fit a vehicle chooses the one that closes first.
  *
  *   out[1]   the distance, the sum over the legs driven
  *   out[2]   the trials made: 0

@@ -19,8 +19,8 @@ pub struct Planned {
 
 /// Writes the greedy plan of a day into `plan`, which needs 5 words for each stop of the day. From
 /// the plan's end to there the buffer is zero then, and as it was beyond. The plan is lawful, and
-/// leaves out only stops that no fresh vehicle could take first. Of equally near stops a vehicle
-/// takes the one that closes first.
+/// leaves out only stops that no fresh vehicle could take first. Of equally near stops that fit a
+/// vehicle chooses the one that closes first.
 ///
 /// # Errors
 ///
