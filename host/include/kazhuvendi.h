@@ -142,6 +142,16 @@ void kz_build(const uint32_t *day, size_t n, uint32_t *plan, size_t room, uint64
 void kz_plan(const uint32_t *day, size_t n, uint64_t k, uint64_t budget, uint32_t *plan,
              size_t room, uint32_t *work, size_t work_room, uint64_t out[6]);
 
+/*
+ * As kz_plan, with growing neighbour sets: trials begin with the 5 nearest
+ * neighbours of each stop. Where none of them is kept, those with the 10, the
+ * 25 and the 50 nearest follow, which have the earlier ones again; a trial that
+ * is kept returns to the 5 nearest. One budget covers all. out[3] is 1 if all
+ * trials of the plan were made with each of the four, and none kept.
+ */
+void kz_plan_growing(const uint32_t *day, size_t n, uint64_t budget, uint32_t *plan, size_t room,
+                     uint32_t *work, size_t work_room, uint64_t out[6]);
+
 #ifdef __cplusplus
 }
 #endif

@@ -8,7 +8,7 @@ ghost use Rattle.rules.specs.Check.{checkPlan};
 ghost use Rattle.rules.specs.Bytes.{readAnswer, readBuffer};
 ghost use Rattle.rules.specs.VehiclePlace.{vehiclePlace};
 ghost use Rattle.rules.specs.SameRounds.{sameRounds};
-ghost use Rattle.rules.specs.Planned.{buildAnswer, buildBuffer, planAnswer, planBuffer, SpareKept};
+ghost use Rattle.rules.specs.Planned.{buildAnswer, buildBuffer, planAnswer, planBuffer, growingAnswer, growingBuffer, SpareKept};
 use answer_numbers::write_answer;
 use answer_numbers::write_day_answer;
 use answer_numbers::write_place_answer;
@@ -80,5 +80,21 @@ pub extern "C" fn kz_plan(
     ensures spare { λ r. ⌜ SpareKept (planAnswer (now (day .entry)) k budget (length (now (plan .entry))) (length (now (work .entry)))) (now (work .entry)) (now (work .exit)) ⌝ }
 {
     let answer = planner::plan(day, k, budget, plan, work);
+    write_plan_answer(answer, out)
+}
+
+#[no_mangle]
+pub extern "C" fn kz_plan_growing(
+    day: &[u32],
+    budget: u64,
+    plan: &mut [u32],
+    work: &mut [u32],
+    out: &mut [u64; 6],
+)
+    ensures answer { λ r. ⌜ now (out .exit) ≡ inSix (growingAnswer (now (day .entry)) budget (length (now (plan .entry))) (length (now (work .entry)))) ⌝ }
+    ensures buffer { λ r. ⌜ now (plan .exit) ≡ growingBuffer (now (day .entry)) budget (length (now (work .entry))) (now (plan .entry)) ⌝ }
+    ensures spare { λ r. ⌜ SpareKept (growingAnswer (now (day .entry)) budget (length (now (plan .entry))) (length (now (work .entry)))) (now (work .entry)) (now (work .exit)) ⌝ }
+{
+    let answer = planner::plan_growing(day, budget, plan, work);
     write_plan_answer(answer, out)
 }

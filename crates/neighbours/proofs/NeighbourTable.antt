@@ -9,8 +9,9 @@ use native.Mathlib.Decide.{ℕ-discrete}
 use native.Mathlib.Nat.{eq-zero-or-pos, eq-or-lt-of-le}
 use native.Mathlib.Omega.{arith}
 use native.Mathlib.Numerals.{add-one}
-use lib.ListN.{length, getD, set, length-set}
-use lib.Seq.{getD-set-same, getD-set-other}
+use lib.Dec.{eqb}
+use lib.ListN.{length, getD, set, length-set, take}
+use lib.Seq.{getD-set-same, getD-set-other, getD-take}
 use borrow.Author.Tests.{eq-eqb, ne-eqb}
 use Rattle.rules.specs.Tests.{least}
 use Rattle.laws.specs.Least.{IsLeast}
@@ -207,3 +208,23 @@ rows-next day K n before table few t w = record {
 
 pub rows-all : (day : List ℕ) (layout : Layout) (K n : ℕ) (table : List ℕ) → LayoutOf day layout → RowsTo day K n table → n ≤ layout .stops → layout .stops ≤ n → TableOf day K table
 rows-all day layout K n table lay t a b = record { size = t .size; rows = λ i r p l g. t .rows i r p (omega (arith, lay .stopsAre)) g }
+
+-- the first K of more neighbours are the neighbours for K
+fewer-after : (day : List ℕ) (i K more last : ℕ) → K ≤ more → neighboursAfter day i K last ≡ take K (neighboursAfter day i more last)
+unfolding neighboursAfter
+fewer-after day i zero more last h = refl
+fewer-after day i (suc K) zero last h = absurd (omega arith)
+fewer-after day i (suc K) (suc more) last h = elim (known (eqb (nextNeighbour day i last) 0)) [
+  | inl e ↦ rw (e, neighboursAfter) refl
+  | inr e ↦ rw (e, neighboursAfter)
+      (ap (λ (js : List ℕ). nextNeighbour day i last ∷ js) (fewer-after day i K more (neighbourKey day i (nextNeighbour day i last)) (omega arith)))
+]
+
+-- so that a table serves every smaller K
+pub table-fewer : {day : List ℕ} {more : ℕ} {table : List ℕ} → TableOf day more table → (K : ℕ) → K ≤ more → TableOf day K table
+unfolding neighbours
+table-fewer {day} {more} t K h = record {
+  size = t .size;
+  rows = λ i r p l g. t .rows i r p l (omega arith)
+      ∙ sym (ap (λ (js : List ℕ). getD js r 0) (fewer-after day i K more 0 h) ∙ getD-take K (neighbours day more i) r 0 g);
+}

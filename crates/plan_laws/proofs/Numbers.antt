@@ -15,11 +15,11 @@ use Rattle.rules.specs.PlanWords.{Word, vehicle, stop, tip, rest, back, left, s
 use Rattle.rules.specs.Cargo.{loaded, overLimits, cargoFault}
 use Rattle.rules.specs.Trip.{arrival, visitStart, restStart, visitFault, restFault, backFault, tripFault}
 use Rattle.rules.specs.Check.{Walk, start, wellFormed, metAgain, faultAt, walkAfter, finished, checkFrom, checkWords, checkPlan}
-use Rattle.rules.specs.Search.{searched}
+use Rattle.rules.specs.Search.{searched, growingSets}
 use Rattle.rules.specs.Bytes.{readAnswer}
 use Rattle.rules.specs.VehiclePlace.{isVehicle, wordsToBack, placeFrom, vehiclePlace}
 use Rattle.rules.specs.SameRounds.{behind, secondAnswer, sameRounds}
-use Rattle.rules.specs.Planned.{builtAnswer, buildAnswer, fewNeighbours, longEnough, resultValues, plannedAnswer, planAnswer}
+use Rattle.rules.specs.Planned.{builtAnswer, buildAnswer, fewNeighbours, longEnough, resultValues, searchAnswer, planAnswer, growingAnswer}
 use Rattle.rules.specs.Demands.{AnswersBy, answer, refusal}
 use Rattle.rules.specs.declared.walk.Cargo.{Cargo}
 use Rattle.rules.specs.declared.walk.Trip.{Trip}
@@ -198,10 +198,23 @@ build-numbers day room =
     by-if (isGiven (judgeDay day)) (by-if (ltb room (5 * stops day)) (refusal 14 (5 * stops day) refl) (answer _))
     (by-more dayNumbers (1 ∷ 2 ∷ 3 ∷ 4 ∷ 5 ∷ 14 ∷ []) refl (judge-numbers day))
 
--- planning with trials: 1 to 5, 13, 14
+-- planning with trials, with these K, on an accepted day: 14
+search-numbers : (numbers day Ks : List ℕ) (budget room spare : ℕ) → mem 14 numbers ≡ true → AnswersBy numbers (searchAnswer day Ks budget room spare)
+unfolding searchAnswer
+search-numbers numbers day Ks budget room spare e =
+    by-if (longEnough day room spare) (answer (resultValues day (searched day Ks budget))) (refusal 14 (5 * stops day) e)
+
+-- with one K: 1 to 5, 13, 14
 pub plan-numbers : (day : List ℕ) (K budget room spare : ℕ) → AnswersBy (1 ∷ 2 ∷ 3 ∷ 4 ∷ 5 ∷ 13 ∷ 14 ∷ []) (planAnswer day K budget room spare)
-unfolding planAnswer plannedAnswer mem allIn
+unfolding planAnswer mem allIn
 plan-numbers day K budget room spare =
     by-if (isGiven (judgeDay day))
-    (by-if (fewNeighbours K) (by-if (longEnough day room spare) (answer (resultValues day (searched day K budget))) (refusal 14 (5 * stops day) refl)) (refusal 13 K refl))
+    (by-if (fewNeighbours K) (search-numbers _ day (K ∷ []) budget room spare refl) (refusal 13 K refl))
     (by-more dayNumbers (1 ∷ 2 ∷ 3 ∷ 4 ∷ 5 ∷ 13 ∷ 14 ∷ []) refl (judge-numbers day))
+
+-- with growing neighbour sets: 1 to 5, 14
+pub growing-numbers : (day : List ℕ) (budget room spare : ℕ) → AnswersBy (1 ∷ 2 ∷ 3 ∷ 4 ∷ 5 ∷ 14 ∷ []) (growingAnswer day budget room spare)
+unfolding growingAnswer mem allIn
+growing-numbers day budget room spare =
+    by-if (isGiven (judgeDay day)) (search-numbers _ day growingSets budget room spare refl)
+    (by-more dayNumbers (1 ∷ 2 ∷ 3 ∷ 4 ∷ 5 ∷ 14 ∷ []) refl (judge-numbers day))

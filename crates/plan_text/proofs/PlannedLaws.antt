@@ -3,7 +3,7 @@
 use Prim.Native.Nat.{ℕ, _+_, _*_, _≤_}
 use mathlib.Core.Path.{_≡_, refl, sym, ap, ap₂, _∙_}
 use mathlib.Core.Bool.{Bool, true, false, false≢true}
-use mathlib.Core.List.{List}
+use mathlib.Core.List.{List, [], _∷_}
 use native.Mathlib.Omega.{arith}
 use lib.ListN.{length, length-replicate, getD}
 use Rattle.rules.specs.Tests.{if_then_else_}
@@ -11,10 +11,10 @@ use Rattle.rules.specs.Answers.{given, refused, isGiven}
 use Rattle.rules.specs.DayFile.{judgeDay}
 use Rattle.rules.specs.Fields.{stops, IsAccepted}
 use Rattle.rules.specs.Search.{searched}
-use Rattle.rules.specs.Planned.{fewNeighbours, longEnough, resultValues, plannedAnswer, planAnswer, planBuffer}
+use Rattle.rules.specs.Planned.{fewNeighbours, longEnough, resultValues, searchAnswer, planAnswer, planBuffer}
 use Rattle.day.proofs.Answered.{judged-accepted}
 use Rattle.day.proofs.Ranges.{accepted-ranges}
-use Rattle.search_steps.proofs.Promises.{promised-one}
+use Rattle.search_steps.proofs.Promises.{promised}
 use Rattle.text.specs.Lines.{answerText, Within}
 use Rattle.text.specs.Put.{Put}
 use Rattle.text.proofs.PutLaws.{put-same}
@@ -40,17 +40,17 @@ long-within : (t : Bool) (values : List ℕ) (need : ℕ) → getD values 4 0 �
 long-within true values need few h = few
 long-within false values need few h = absurd (false≢true h)
 
-accepted-within : (day : List ℕ) → IsAccepted day → Within (plannedAnswer day 5 6 1200 1200) 1200
-unfolding plannedAnswer fewNeighbours resultValues
+accepted-within : (day : List ℕ) → IsAccepted day → Within (searchAnswer day (5 ∷ []) 6 1200 1200) 1200
+unfolding searchAnswer resultValues
 accepted-within day a =
-    let fits = promised-one day 5 6 a .fits in
-    long-within (longEnough day 1200 1200) (resultValues day (searched day 5 6)) (5 * stops day) (omega (arith, fits, accepted-ranges day a .stopsMost))
+    let fits = promised day (5 ∷ []) 6 a .fits in
+    long-within (longEnough day 1200 1200) (resultValues day (searched day (5 ∷ []) 6)) (5 * stops day) (omega (arith, fits, accepted-ranges day a .stopsMost))
 
 pub planned-within : (day : List ℕ) → Within (printedAnswer day) 1200
-unfolding printedAnswer planAnswer
+unfolding printedAnswer planAnswer fewNeighbours
 planned-within day = go (isGiven (judgeDay day)) refl
   where
-    go : (b : Bool) → isGiven (judgeDay day) ≡ b → Within (if b then plannedAnswer day 5 6 1200 1200 else judgeDay day) 1200
+    go : (b : Bool) → isGiven (judgeDay day) ≡ b → Within (if b then searchAnswer day (5 ∷ []) 6 1200 1200 else judgeDay day) 1200
     go true e = accepted-within day (judged-accepted day e)
     go false e = λ h. absurd (false≢true (sym e ∙ h))
 

@@ -1,4 +1,4 @@
--- The call that plans with trials answers, and leaves the plan's buffer, as the definitions say. Assumes nothing.
+-- The calls that plan with trials answer, and leave the plan's buffer, as the definitions say. Assumes nothing.
 use Prim.Native.Nat.{ℕ, _-_, _*_, _≤_, _<_}
 use mathlib.Core.Path.{_≡_, refl, sym, ap, _∙_}
 use mathlib.Core.Bool.{Bool, true, false, true≢false}
@@ -17,23 +17,25 @@ use Rattle.rules.specs.Fields.{stops, IsAccepted}
 use Rattle.rules.specs.Plan.{Round, planWords}
 use Rattle.rules.specs.Build.{greedyRounds, greedyLefts, greedyPlan}
 use Rattle.rules.specs.Attempts.{distanceOf}
-use Rattle.rules.specs.Search.{Result, searched}
+use Rattle.rules.specs.Search.{Result, searched, growingSets}
 use Rattle.rules.specs.AnswerValues.{dayValues, planValues}
-use Rattle.rules.specs.Planned.{builtAnswer, planned, builtBuffer, fewNeighbours, longEnough, resultValues, plannedAnswer, plannedBuffer, planAnswer, planBuffer, SpareKept}
+use Rattle.rules.specs.Planned.{builtAnswer, planned, builtBuffer, fewNeighbours, longEnough, resultValues, SpareKept}
+use Rattle.rules.specs.Planned.{searchAnswer, searchBuffer, planAnswer, planBuffer, growingAnswer, growingBuffer}
 use Rattle.rules.specs.declared.answers.DayAnswer.{DayAnswer}
 use Rattle.rules.specs.declared.answers.DayAnswer.the-variants as Days
 use Rattle.rules.specs.declared.answers.PlanAnswer.{PlanAnswer}
 use Rattle.rules.specs.declared.answers.PlanAnswer.the-variants as Plans
 use Rattle.laws.proofs.Buffer.{over-drop}
 use Rattle.laws.proofs.Tests.{both-true}
-use Rattle.day.proofs.Answered.{refused-not-given, refused-day, accepted-day}
+use Rattle.day.proofs.Answered.{refused-not-given, refused-day}
 use Rattle.day.proofs.Ranges.{accepted-ranges}
 use Rattle.day.specs.Layout.{LayoutOf}
 use Rattle.day.specs.declared.fields.Layout.{Layout}
 use Rattle.greedy_laws.proofs.GreedyRoom.{greedy-room}
 use Rattle.trial_list.proofs.Shapes.{greedy-shaped}
-use Rattle.search_steps.specs.Searches.{PlanAt}
+use Rattle.search_steps.specs.Searches.{PlanAt, SetsFit}
 use Rattle.search_steps.specs.declared.steps.Search.{Search}
+use Rattle.search_steps.specs.declared.steps.Setting.{Setting}
 use Rattle.trials.specs.Improvements.{Improved}
 use Rattle.planner.specs.WorkedOver.{WorkedOver}
 
@@ -46,9 +48,16 @@ pub few-most : (K : ℕ) → 1 ≤ K → leb K 50 ≡ fewNeighbours K
 unfolding fewNeighbours
 few-most K l = rw (le-leb 1 K l) refl
 
-pub few-is : (K : ℕ) {few : Bool} → few ≡ fewNeighbours K → few ≡ true → K ≤ 50
+few-is : (K : ℕ) {few : Bool} → few ≡ fewNeighbours K → few ≡ true → K ≤ 50
 unfolding fewNeighbours
 few-is K e y = leb-true K 50 (both-true (leb 1 K) (leb K 50) (sym e ∙ y) .1)
+
+-- so the settings that are asked for fit
+pub one-fits : (K budget : ℕ) {few : Bool} → few ≡ fewNeighbours K → few ≡ true → SetsFit (record { k = K; growing = false; budget = budget })
+one-fits K budget e y = record { most = few-is K e y; greatest = λ n. absurd (true≢false (sym n)) }
+
+pub sets-fit : (set : Setting) → set .k ≤ 50 → 25 ≤ set .k → SetsFit set
+sets-fit set most least = record { most = most; greatest = λ _. least }
 
 module _ {day : List ℕ} {layout : Layout} (h : LayoutOf day layout) where
   pub few-stops : IsAccepted day → layout .stops ≤ 240
@@ -139,12 +148,12 @@ module _ (day plan : List ℕ) {layout : Layout} (h : LayoutOf day layout) (l : 
           }
 
       -- the plan that was worked over
-      module _ {buffer : List ℕ} {K budget : ℕ} {last : Search} (i : Improved day K budget buffer last)
+      module _ {buffer Ks : List ℕ} {budget : ℕ} {last : Search} (i : Improved day Ks budget buffer last)
           (kept : length buffer ≡ length (take (5 * layout .stops - 0) (drop 0 now))) where
         size : length buffer ≡ 5 * layout .stops
         size = kept ∙ lent-long
 
-        result-is : searched day K budget ≡ record { plan = i .rounds; trials = last .made; settled = last .settled }
+        result-is : searched day Ks budget ≡ record { plan = i .rounds; trials = last .made; settled = last .settled }
         result-is = sym (i .is)
 
         abbrev improved : List ℕ
@@ -162,7 +171,7 @@ module _ (day plan : List ℕ) {layout : Layout} (h : LayoutOf day layout) (l : 
             ap (λ (k : ℕ). putMid 0 k now buffer) n ∙ ap (λ (ws : List ℕ). buffer ++ ws) behind-is
             ∙ sym (over-drop buffer plan (5 * layout .stops) size) ∙ ap (λ (ws : List ℕ). over ws plan) filled
 
-        pub worked-over : WorkedOver day K budget plan (putMid 0 (5 * layout .stops - 0) now buffer)
+        pub worked-over : WorkedOver day Ks budget plan (putMid 0 (5 * layout .stops - 0) now buffer)
             (given (last .distance ∷ last .made ∷ (if last .settled then 1 else 0) ∷ left ∷ last .words ∷ []))
         unfolding resultValues
         worked-over =
@@ -171,61 +180,88 @@ module _ (day plan : List ℕ) {layout : Layout} (h : LayoutOf day layout) (l : 
               buffer = put-back ∙ ap (λ (x : Result (List Round)). planned day (planWords (x .plan) (greedyLefts day)) plan) (sym result-is);
             }
 
--- the answer and the buffers on an accepted day, by the tests of K and of the buffers' lengths
-module _ (day : List ℕ) (K budget spare : ℕ) (plan : List ℕ) {few : Bool} (e : few ≡ fewNeighbours K) where
+-- the answer and the buffers on an accepted day with these K, by the test of the buffers' lengths
+module _ (day Ks : List ℕ) (budget spare : ℕ) (plan : List ℕ) {long : Bool} (f : long ≡ longEnough day (length plan) spare) where
+  pub short-answer : {layout : Layout} → LayoutOf day layout → long ≡ false → refused 14 (5 * layout .stops) ≡ searchAnswer day Ks budget (length plan) spare
+  unfolding searchAnswer
+  short-answer h n = rw (← f, n, h .stopsAre)
+
+  pub short-buffer : long ≡ false → plan ≡ searchBuffer day Ks budget spare plan
+  unfolding searchBuffer
+  short-buffer n = rw (← f, n)
+
+  module _ (z : long ≡ true) where
+    pub worked-answer : {now answer : List ℕ} → WorkedOver day Ks budget plan now answer → answer ≡ searchAnswer day Ks budget (length plan) spare
+    unfolding searchAnswer
+    worked-answer w = rw (← f, z) (w .values)
+
+    pub worked-buffer : {now answer : List ℕ} → WorkedOver day Ks budget plan now answer → now ≡ searchBuffer day Ks budget spare plan
+    unfolding searchBuffer
+    worked-buffer w = rw (← f, z) (w .buffer)
+
+    -- the working buffer is as it was where the day is not planned
+    pub worked-spare : {before after : List ℕ} → SpareKept (searchAnswer day Ks budget (length plan) spare) before after
+    unfolding searchAnswer
+    worked-spare n = absurd (true≢false (rw (← f, z) at n))
+
+-- with one K, by the test of K
+module _ (day : List ℕ) (ok : IsAccepted day) (K budget spare : ℕ) (plan : List ℕ) {few : Bool} (e : few ≡ fewNeighbours K) where
   module _ (n : few ≡ false) where
-    pub outside-answer : refused 13 K ≡ plannedAnswer day K budget (length plan) spare
-    unfolding plannedAnswer
-    outside-answer = rw (← e, n)
-
-    pub outside-buffer : plan ≡ plannedBuffer day K budget spare plan
-    unfolding plannedBuffer
-    outside-buffer = rw (← e, n)
-
-  module _ (y : few ≡ true) {long : Bool} (f : long ≡ longEnough day (length plan) spare) where
-    pub short-answer : {layout : Layout} → LayoutOf day layout → long ≡ false → refused 14 (5 * layout .stops) ≡ plannedAnswer day K budget (length plan) spare
-    unfolding plannedAnswer
-    short-answer h n = rw (← e, y, ← f, n, h .stopsAre)
-
-    pub short-buffer : long ≡ false → plan ≡ plannedBuffer day K budget spare plan
-    unfolding plannedBuffer
-    short-buffer n = rw (← e, y, ← f, n)
-
-    module _ (z : long ≡ true) where
-      pub worked-answer : {now answer : List ℕ} → WorkedOver day K budget plan now answer → answer ≡ plannedAnswer day K budget (length plan) spare
-      unfolding plannedAnswer
-      worked-answer w = rw (← e, y, ← f, z) (w .values)
-
-      pub worked-buffer : {now answer : List ℕ} → WorkedOver day K budget plan now answer → now ≡ plannedBuffer day K budget spare plan
-      unfolding plannedBuffer
-      worked-buffer w = rw (← e, y, ← f, z) (w .buffer)
-
-      -- the working buffer is as it was where the day is not planned
-      pub worked-spare : {before after : List ℕ} → SpareKept (plannedAnswer day K budget (length plan) spare) before after
-      unfolding plannedAnswer
-      worked-spare n = absurd (true≢false (rw (← e, y, ← f, z) at n))
-
--- and on any day
-module _ (day : List ℕ) (K budget spare : ℕ) (plan : List ℕ) {judged : DayAnswer} (e : dayValues judged ≡ judgeDay day) where
-  module _ {number place : ℕ} (r : judged ≡ Days.Refused number place) where
-    pub refused-plan-answer : refused number place ≡ planAnswer day K budget (length plan) spare
+    pub outside-answer : refused 13 K ≡ planAnswer day K budget (length plan) spare
     unfolding planAnswer
-    refused-plan-answer = let same = refused-day day judged e r in rw (refused-not-given day same) same
+    outside-answer = rw (ok, ← e, n)
 
-    pub refused-plan-buffer : plan ≡ planBuffer day K budget spare plan
+    pub outside-buffer : plan ≡ planBuffer day K budget spare plan
     unfolding planBuffer
-    refused-plan-buffer = rw (refused-not-given day (refused-day day judged e r)) refl
+    outside-buffer = rw (ok, ← e, n)
 
-  module _ {n d : ℕ} (a : judged ≡ Days.Accepted n d) where
-    pub accepted-plan-answer : (answer : List ℕ) → answer ≡ plannedAnswer day K budget (length plan) spare → answer ≡ planAnswer day K budget (length plan) spare
+  module _ (y : few ≡ true) where
+    pub few-answer : {answer : List ℕ} → answer ≡ searchAnswer day (K ∷ []) budget (length plan) spare → answer ≡ planAnswer day K budget (length plan) spare
     unfolding planAnswer
-    accepted-plan-answer answer h = rw (← accepted-day day judged e a) h
+    few-answer h = rw (ok, ← e, y) h
 
-    pub accepted-plan-spare : {before after : List ℕ} → SpareKept (plannedAnswer day K budget (length plan) spare) before after
+    pub few-buffer : {now : List ℕ} → now ≡ searchBuffer day (K ∷ []) budget spare plan → now ≡ planBuffer day K budget spare plan
+    unfolding planBuffer
+    few-buffer h = rw (ok, ← e, y) h
+
+    pub few-spare : {before after : List ℕ} → SpareKept (searchAnswer day (K ∷ []) budget (length plan) spare) before after
         → SpareKept (planAnswer day K budget (length plan) spare) before after
     unfolding planAnswer
-    accepted-plan-spare h = rw (← accepted-day day judged e a) h
+    few-spare h = rw (ok, ← e, y) h
 
-    pub accepted-plan-buffer : (now : List ℕ) → now ≡ plannedBuffer day K budget spare plan → now ≡ planBuffer day K budget spare plan
-    unfolding planBuffer
-    accepted-plan-buffer now h = rw (← accepted-day day judged e a) h
+-- with growing neighbour sets
+module _ (day : List ℕ) (ok : IsAccepted day) (budget spare : ℕ) (plan : List ℕ) where
+  pub growing-answer : {answer : List ℕ} → answer ≡ searchAnswer day growingSets budget (length plan) spare → answer ≡ growingAnswer day budget (length plan) spare
+  unfolding growingAnswer
+  growing-answer h = rw ok h
+
+  pub growing-buffer : {now : List ℕ} → now ≡ searchBuffer day growingSets budget spare plan → now ≡ growingBuffer day budget spare plan
+  unfolding growingBuffer
+  growing-buffer h = rw ok h
+
+  pub growing-spare : {before after : List ℕ} → SpareKept (searchAnswer day growingSets budget (length plan) spare) before after
+      → SpareKept (growingAnswer day budget (length plan) spare) before after
+  unfolding growingAnswer
+  growing-spare h = rw ok h
+
+-- on a day that is refused
+module _ (day : List ℕ) (budget spare : ℕ) (plan : List ℕ) {judged : DayAnswer} (e : dayValues judged ≡ judgeDay day) {number place : ℕ}
+    (r : judged ≡ Days.Refused number place) where
+  same : refused number place ≡ judgeDay day
+  same = refused-day day judged e r
+
+  pub refused-plan-answer : (K : ℕ) → refused number place ≡ planAnswer day K budget (length plan) spare
+  unfolding planAnswer
+  refused-plan-answer K = rw (refused-not-given day same) same
+
+  pub refused-plan-buffer : (K : ℕ) → plan ≡ planBuffer day K budget spare plan
+  unfolding planBuffer
+  refused-plan-buffer K = rw (refused-not-given day same) refl
+
+  pub refused-growing-answer : refused number place ≡ growingAnswer day budget (length plan) spare
+  unfolding growingAnswer
+  refused-growing-answer = rw (refused-not-given day same) same
+
+  pub refused-growing-buffer : plan ≡ growingBuffer day budget spare plan
+  unfolding growingBuffer
+  refused-growing-buffer = rw (refused-not-given day same) refl

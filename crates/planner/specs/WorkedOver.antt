@@ -9,6 +9,6 @@ use Rattle.rules.specs.Search.{searched}
 use Rattle.rules.specs.Planned.{planned, resultValues}
 
 -- the answer and the buffer of a plan that was worked over
-pub record WorkedOver (day : List ℕ) (K budget : ℕ) (plan now answer : List ℕ) : Type 0 where
-  pub values : answer ≡ given (resultValues day (searched day K budget))
-  pub buffer : now ≡ planned day (planWords (searched day K budget .plan) (greedyLefts day)) plan
+pub record WorkedOver (day Ks : List ℕ) (budget : ℕ) (plan now answer : List ℕ) : Type 0 where
+  pub values : answer ≡ given (resultValues day (searched day Ks budget))
+  pub buffer : now ≡ planned day (planWords (searched day Ks budget .plan) (greedyLefts day)) plan

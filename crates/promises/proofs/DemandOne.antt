@@ -12,10 +12,10 @@ use Rattle.rules.specs.Check.{checkPlan}
 use Rattle.rules.specs.Bytes.{readAnswer, readBuffer}
 use Rattle.rules.specs.VehiclePlace.{vehiclePlace}
 use Rattle.rules.specs.SameRounds.{sameRounds}
-use Rattle.rules.specs.Planned.{buildAnswer, buildBuffer, planAnswer, planBuffer, SpareKept}
+use Rattle.rules.specs.Planned.{buildAnswer, buildBuffer, planAnswer, planBuffer, growingAnswer, growingBuffer, SpareKept}
 use Rattle.rules.specs.Demands.{AnswersBy}
-use Rattle.plan_laws.proofs.Numbers.{read-numbers, judge-numbers, check-numbers, vehicle-numbers, same-numbers, build-numbers, plan-numbers}
-use Rattle.plan_laws.proofs.Refused.{read-kept, build-kept, plan-kept}
+use Rattle.plan_laws.proofs.Numbers.{read-numbers, judge-numbers, check-numbers, vehicle-numbers, same-numbers, build-numbers, plan-numbers, growing-numbers}
+use Rattle.plan_laws.proofs.Refused.{read-kept, build-kept, plan-kept, growing-kept}
 
 -- "an answer or one of refusals": byte reading 1, 14
 pub read-answers : (bytes answer : List ℕ) (room : ℕ) → answer ≡ readAnswer bytes room → AnswersBy (1 ∷ 14 ∷ []) answer
@@ -49,6 +49,11 @@ pub plan-answers : (day answer : List ℕ) (K budget room spare : ℕ) → answe
     → AnswersBy (1 ∷ 2 ∷ 3 ∷ 4 ∷ 5 ∷ 13 ∷ 14 ∷ []) answer
 plan-answers day answer K budget room spare e = rw e (plan-numbers day K budget room spare)
 
+-- with growing neighbour sets 1 to 5, 14
+pub growing-answers : (day answer : List ℕ) (budget room spare : ℕ) → answer ≡ growingAnswer day budget room spare
+    → AnswersBy (1 ∷ 2 ∷ 3 ∷ 4 ∷ 5 ∷ 14 ∷ []) answer
+growing-answers day answer budget room spare e = rw e (growing-numbers day budget room spare)
+
 -- "after a refusal every lent buffer holds what it held before": byte reading's words
 pub read-keeps : (bytes words now answer : List ℕ) → answer ≡ readAnswer bytes (length words) → now ≡ readBuffer bytes words
     → isGiven answer ≡ false → now ≡ words
@@ -59,10 +64,14 @@ pub build-keeps : (day plan now answer : List ℕ) → answer ≡ buildAnswer da
     → isGiven answer ≡ false → now ≡ plan
 build-keeps day plan now answer e buffer nothing = buffer ∙ build-kept day plan (sym (ap isGiven e) ∙ nothing)
 
--- the plan of planning with trials, and the working buffer
+-- the plan of planning with trials, with one K or growing sets, and the working buffer
 pub plan-keeps : (day plan now answer : List ℕ) (K budget spare : ℕ) → answer ≡ planAnswer day K budget (length plan) spare
     → now ≡ planBuffer day K budget spare plan → isGiven answer ≡ false → now ≡ plan
 plan-keeps day plan now answer K budget spare e buffer nothing = buffer ∙ plan-kept day K budget spare plan (sym (ap isGiven e) ∙ nothing)
+
+pub growing-keeps : (day plan now answer : List ℕ) (budget spare : ℕ) → answer ≡ growingAnswer day budget (length plan) spare
+    → now ≡ growingBuffer day budget spare plan → isGiven answer ≡ false → now ≡ plan
+growing-keeps day plan now answer budget spare e buffer nothing = buffer ∙ growing-kept day budget spare plan (sym (ap isGiven e) ∙ nothing)
 
 pub plan-keeps-work : (answer told work now : List ℕ) → answer ≡ told → SpareKept told work now → isGiven answer ≡ false → now ≡ work
 plan-keeps-work answer told work now e kept nothing = kept (sym (ap isGiven e) ∙ nothing)

@@ -12,7 +12,7 @@ ghost use Rattle.rules.specs.Bytes.{readAnswer, readBuffer};
 ghost use Rattle.rules.specs.VehiclePlace.{vehiclePlace};
 ghost use Rattle.rules.specs.SameRounds.{sameRounds};
 ghost use Rattle.rules.specs.AnswerValues.{wordsValues, dayValues, answerValues, placeValues, roundsValues, planValues};
-ghost use Rattle.rules.specs.Planned.{buildAnswer, buildBuffer, planAnswer, planBuffer};
+ghost use Rattle.rules.specs.Planned.{buildAnswer, buildBuffer, planAnswer, planBuffer, growingAnswer, growingBuffer};
 ghost use Rattle.rules.specs.Demands.{AnswersBy};
 ghost use Rattle.promises.specs.Exactly.{DemandTwo, SaysSame};
 use rules::answers::Answer;
@@ -85,4 +85,15 @@ pub fn plan(day: &[u32], k: u64, budget: u64, plan: &mut [u32], work: &mut [u32]
     ensures spare { λ r. ⌜ (isGiven (planValues r) ≡ false → now (work .exit) ≡ now (work .entry)) ⌝ }
 {
     planner::plan(day, k, budget, plan, work)
+}
+
+// Planning with growing neighbour sets: 1 to 5, 14.
+pub fn plan_growing(day: &[u32], budget: u64, plan: &mut [u32], work: &mut [u32]) -> PlanAnswer
+    ensures answer { λ r. ⌜ planValues r ≡ growingAnswer (now (day .entry)) budget (length (now (plan .entry))) (length (now (work .entry))) ⌝ }
+    ensures buffer { λ r. ⌜ now (plan .exit) ≡ growingBuffer (now (day .entry)) budget (length (now (work .entry))) (now (plan .entry)) ⌝ }
+    ensures numbers { λ r. ⌜ AnswersBy (1 ∷ 2 ∷ 3 ∷ 4 ∷ 5 ∷ 14 ∷ []) (planValues r) ⌝ }
+    ensures kept { λ r. ⌜ (isGiven (planValues r) ≡ false → now (plan .exit) ≡ now (plan .entry)) ⌝ }
+    ensures spare { λ r. ⌜ (isGiven (planValues r) ≡ false → now (work .exit) ≡ now (work .entry)) ⌝ }
+{
+    planner::plan_growing(day, budget, plan, work)
 }

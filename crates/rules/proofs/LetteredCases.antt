@@ -9,7 +9,7 @@ use Rattle.rules.specs.Timetable.{starts, calls, earliestMinutes}
 use Rattle.rules.specs.Check.{checkPlan}
 use Rattle.rules.specs.Build.{greedyLefts}
 use Rattle.rules.specs.Search.{searched}
-use Rattle.rules.specs.Planned.{fewNeighbours, longEnough, resultValues, plannedAnswer, planAnswer}
+use Rattle.rules.specs.Planned.{fewNeighbours, longEnough, resultValues, searchAnswer, planAnswer}
 use Rattle.rules.proofs.DayM.{dayM, legTo, legBack, windowWord}
 use Rattle.rules.proofs.CheckCases.{computed, planH}
 use Rattle.rules.proofs.TrialCases.{tried}
@@ -23,7 +23,7 @@ dayJ =
 
 -- the words of the plan with K 5
 unfoldable pub words : List ℕ → ℕ → List ℕ
-words day budget = planWords (searched day 5 budget .plan) (greedyLefts day)
+words day budget = planWords (searched day (5 ∷ []) budget .plan) (greedyLefts day)
 
 -- the answer with K 5, in buffers of ten words
 unfoldable pub answer : List ℕ → ℕ → List ℕ
@@ -31,7 +31,7 @@ answer day budget = planAnswer day 5 budget 10 10
 
 -- all that the call computes by
 unfoldable pub planning : Unit {0}
-unfolding tried computed fewNeighbours longEnough resultValues plannedAnswer planAnswer words answer
+unfolding tried computed fewNeighbours longEnough resultValues searchAnswer planAnswer words answer
 planning = tt
 
 -- one vehicle that empties its load between the stops

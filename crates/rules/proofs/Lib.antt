@@ -4,4 +4,5 @@ pub mod BuildCases
 pub mod TrialCases
 pub mod LawfulCases
 pub mod LetteredCases
+pub mod GrowingCases
 pub mod RefusalCases

@@ -1,5 +1,5 @@
 -- What the calls that build and that plan with trials say, and what the plan's buffer then holds: document 01, "Trials" and "What can be
--- refused". Assumes nothing.
+-- refused"; document 02, Q-12. Assumes nothing.
 use Prim.Native.Nat.{ℕ, _-_, _*_}
 use mathlib.Core.Path.{_≡_}
 use mathlib.Core.Bool.{Bool, false, _&&_}
@@ -15,7 +15,7 @@ use Rattle.rules.specs.Plan.{Round, planWords}
 use Rattle.rules.specs.Lawful.{distanceFrom}
 use Rattle.rules.specs.Build.{greedyRounds, greedyLefts, greedyPlan}
 use Rattle.rules.specs.Attempts.{distanceOf}
-use Rattle.rules.specs.Search.{Result, searched}
+use Rattle.rules.specs.Search.{Result, searched, growingSets}
 
 -- what the build answers on an accepted day: "14 lent buffer too short (place: words needed; planning needs 5n in the plan buffer)", else the
 -- values of the greedy plan
@@ -52,24 +52,29 @@ unfoldable pub resultValues : List ℕ → Result (List Round) → List ℕ
 resultValues day r =
     distanceOf day (r .plan) ∷ r .trials ∷ (if r .settled then 1 else 0) ∷ length (greedyLefts day) ∷ length (planWords (r .plan) (greedyLefts day)) ∷ []
 
--- what planning with trials answers on an accepted day: 13, then 14 ("place: words needed"), else what the search hands over
-unfoldable pub plannedAnswer : List ℕ → (K budget room spare : ℕ) → List ℕ
-plannedAnswer day K budget room spare =
-    if fewNeighbours K
-    then (if longEnough day room spare then given (resultValues day (searched day K budget)) else refused 14 (5 * stops day))
-    else refused 13 K
+-- what planning with trials answers on an accepted day, with these K: 14 ("place: words needed"), else what the search hands over
+unfoldable pub searchAnswer : (day Ks : List ℕ) (budget room spare : ℕ) → List ℕ
+searchAnswer day Ks budget room spare = if longEnough day room spare then given (resultValues day (searched day Ks budget)) else refused 14 (5 * stops day)
 
 -- "after success the plan buffer is zero from the plan's end to 5n, as before beyond"; "each refusal changes no buffer"
-unfoldable pub plannedBuffer : List ℕ → (K budget spare : ℕ) → List ℕ → List ℕ
-plannedBuffer day K budget spare plan =
-    if fewNeighbours K && longEnough day (length plan) spare then planned day (planWords (searched day K budget .plan) (greedyLefts day)) plan else plan
+unfoldable pub searchBuffer : (day Ks : List ℕ) (budget spare : ℕ) → List ℕ → List ℕ
+searchBuffer day Ks budget spare plan =
+    if longEnough day (length plan) spare then planned day (planWords (searched day Ks budget .plan) (greedyLefts day)) plan else plan
 
--- and on any day: refusals 1 to 5 first
+-- and on any day, with one K: refusals 1 to 5 first, then 13
 unfoldable pub planAnswer : List ℕ → (K budget room spare : ℕ) → List ℕ
-planAnswer day K budget room spare = if isGiven (judgeDay day) then plannedAnswer day K budget room spare else judgeDay day
+planAnswer day K budget room spare =
+    if isGiven (judgeDay day) then (if fewNeighbours K then searchAnswer day (K ∷ []) budget room spare else refused 13 K) else judgeDay day
 
 unfoldable pub planBuffer : List ℕ → (K budget spare : ℕ) → List ℕ → List ℕ
-planBuffer day K budget spare plan = if isGiven (judgeDay day) then plannedBuffer day K budget spare plan else plan
+planBuffer day K budget spare plan = if isGiven (judgeDay day) && fewNeighbours K then searchBuffer day (K ∷ []) budget spare plan else plan
+
+-- with growing neighbour sets: no 13
+unfoldable pub growingAnswer : List ℕ → (budget room spare : ℕ) → List ℕ
+growingAnswer day budget room spare = if isGiven (judgeDay day) then searchAnswer day growingSets budget room spare else judgeDay day
+
+unfoldable pub growingBuffer : List ℕ → (budget spare : ℕ) → List ℕ → List ℕ
+growingBuffer day budget spare plan = if isGiven (judgeDay day) then searchBuffer day growingSets budget spare plan else plan
 
 -- "each refusal changes no buffer"; after an answer "the working buffer's words are free"
 abbrev pub SpareKept : (answer before after : List ℕ) → Type 0

@@ -1,2 +1,2 @@
-pub mod Neighbourhoods
 pub mod Outcomes
+pub mod Promised

@@ -1,4 +1,5 @@
 pub mod BeginLaws
 pub mod Promises
 pub mod SearchSteps
+pub mod SetLaws
 pub mod TakeOverLaws

@@ -1,7 +1,7 @@
 // The search but for the making of a trial: it begins with the greedy plan, lists the next trial, takes a plan over, and ends.
 ghost use mathlib.Core.Path.{_≡_};
 ghost use mathlib.Core.Bool.{not};
-ghost use Prim.Native.Nat.{_-_, _≤_, _*_};
+ghost use Prim.Native.Nat.{_-_, _≤_, _<_, _*_};
 ghost use lib.ListN.{length, take, drop};
 ghost use Rattle.rules.specs.Fields.{IsAccepted};
 ghost use Rattle.rules.specs.Build.{greedyRounds};
@@ -9,7 +9,7 @@ ghost use Rattle.rules.specs.Attempts.{distanceOf};
 ghost use Rattle.day.specs.Layout.{LayoutOf};
 ghost use Rattle.trial_list.specs.Listing.{PlanTables, CursorFits, ListAnswer};
 ghost use Rattle.tracks.specs.Tables.{tracksWords};
-ghost use Rattle.search_steps.specs.Searches.{PlanAt, SomePlanAt, TakesOver, BeginsAll, endedBy, goingOn};
+ghost use Rattle.search_steps.specs.Searches.{PlanAt, SomePlanAt, TakesOver, BeginsAll, setsOf, kAt, endedBy, goingOn, atList, nextList};
 use crate::held::Held;
 use crate::held::make_tables;
 use candidates::copy_words;
@@ -19,19 +19,21 @@ use trial_list::listing::Listed;
 use trial_list::listing::first_trial;
 use trial_list::listing::next_trial;
 
-// What is asked for: K, and how many trials may be made.
+// What is asked for: K, whether 5, 10 and 25 come before it, and how many trials may be made.
 pub struct Setting {
     pub k: usize,
+    pub growing: bool,
     pub budget: u64,
 }
 
-// The plan held: its words, its vehicles and how far it drives; how many trials were made, where the list goes on, and whether the search
-// has ended, settled or not.
+// The plan held: its words, its vehicles and how far it drives; how many trials were made, which K is at hand, where its list goes on, and
+// whether the search has ended, settled or not.
 pub struct Search {
     pub words: usize,
     pub count: usize,
     pub distance: u32,
     pub made: u64,
+    pub stage: usize,
     pub cursor: Cursor,
     pub ended: bool,
     pub settled: bool,
@@ -76,6 +78,7 @@ pub fn end(s: Search, settled: bool) -> Search
         count: s.count,
         distance: s.distance,
         made: s.made,
+        stage: s.stage,
         cursor,
         ended: true,
         settled,
@@ -83,18 +86,82 @@ pub fn end(s: Search, settled: bool) -> Search
 }
 
 // The search goes on with a plan held.
-pub fn going(words: usize, count: usize, distance: u32, made: u64, cursor: Cursor) -> Search
-    ensures { λ r. ⌜ r ≡ goingOn words count distance made cursor ⌝ }
+pub fn going(
+    words: usize,
+    count: usize,
+    distance: u32,
+    made: u64,
+    stage: usize,
+    cursor: Cursor,
+) -> Search
+    ensures { λ r. ⌜ r ≡ goingOn words count distance made stage cursor ⌝ }
 {
     Search {
         words,
         count,
         distance,
         made,
+        stage,
         cursor,
         ended: false,
         settled: false,
     }
+}
+
+// How many K are asked for.
+fn sets_in(set: Setting) -> usize
+    ensures { λ r. ⌜ r ≡ length (setsOf set) ⌝ }
+{
+    if set.growing {
+        return 4;
+    }
+    1
+}
+
+// The K at hand.
+fn k_at(set: Setting, stage: usize) -> usize
+    requires { ⌜ stage < length (setsOf set) ⌝ }
+    ensures { λ r. ⌜ r ≡ kAt (setsOf set) stage ⌝ }
+{
+    if set.growing {
+        if stage == 0 {
+            return 5;
+        }
+        if stage == 1 {
+            return 10;
+        }
+        if stage == 2 {
+            return 25;
+        }
+        return set.k;
+    }
+    set.k
+}
+
+// The search with another list at hand, or behind the last.
+fn at_list(s: Search, stage: usize, cursor: Cursor, past: bool) -> Search
+    ensures { λ r. ⌜ r ≡ atList s stage cursor past ⌝ }
+{
+    Search {
+        words: s.words,
+        count: s.count,
+        distance: s.distance,
+        made: s.made,
+        stage,
+        cursor,
+        ended: past,
+        settled: past,
+    }
+}
+
+// The list at hand is at its end: that of the next K begins, or behind the last the search has ended, settled.
+pub fn next_list(set: Setting, s: Search) -> Search
+    requires { ⌜ s .stage < 4 ⌝ }
+    ensures { λ r. ⌜ r ≡ nextList set s ⌝ }
+{
+    let stage = s.stage + 1;
+    let past = stage == sets_in(set);
+    at_list(s, stage, first_trial(), past)
 }
 
 // The next trial of the plan held, or none.
@@ -107,15 +174,15 @@ pub fn list_next(
     plan: &[u32],
     s: Search,
 ) -> Listed
-    requires { ⌜ PlanTables layout (set .k) (now table) (now starts) (now vehicles) (take (s .words - 0) (drop 0 (now plan))) (s .count) × CursorFits (now starts) (s .count) (s .cursor) × (s .words ≤ length (now plan)) ⌝ }
-    ensures { λ r. ⌜ ListAnswer layout (set .k) (now (table .entry)) (now (starts .entry)) (now (vehicles .entry)) (take (s .words - 0) (drop 0 (now (plan .entry)))) (s .count) (s .cursor) r ⌝ }
+    requires { ⌜ (s .stage < length (setsOf set)) × PlanTables layout (kAt (setsOf set) (s .stage)) (now table) (now starts) (now vehicles) (take (s .words - 0) (drop 0 (now plan))) (s .count) × CursorFits (now starts) (s .count) (s .cursor) × (s .words ≤ length (now plan)) ⌝ }
+    ensures { λ r. ⌜ ListAnswer layout (kAt (setsOf set) (s .stage)) (now (table .entry)) (now (starts .entry)) (now (vehicles .entry)) (take (s .words - 0) (drop 0 (now (plan .entry)))) (s .count) (s .cursor) r ⌝ }
 {
     let words = s.words;
     let cursor = s.cursor;
     let held = &plan[0..words];
     next_trial(
         layout,
-        set.k,
+        k_at(set, s.stage),
         table,
         starts,
         vehicles,
@@ -154,5 +221,5 @@ pub fn begin(
     let words = held.words;
     let front = &plan[0..words];
     let count = make_tables(day, layout, front, starts, vehicles, driven, tracks, work);
-    going(words, count, held.distance, 0, first_trial())
+    going(words, count, held.distance, 0, 0, first_trial())
 }

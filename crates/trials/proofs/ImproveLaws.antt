@@ -13,8 +13,8 @@ use Rattle.search_steps.proofs.TakeOverLaws.{plan-words}
 use Rattle.trials.specs.Improvements.{Improved}
 
 -- the plan is handed over
-pub improved : {day : List ℕ} {K budget : ℕ} {plan now starts vehicles distances tracks : List ℕ} {s : Search} → Searching day K budget plan starts vehicles distances tracks s → s .ended ≡ true
-    → now ≡ (take (s .words) plan ++ replicate (length plan - s .words) 0) ++ drop (length plan) plan → length now ≡ length plan → Improved day K budget now s
+pub improved : {day Ks : List ℕ} {budget : ℕ} {plan now starts vehicles distances tracks : List ℕ} {s : Search} → Searching day Ks budget plan starts vehicles distances tracks s → s .ended ≡ true
+    → now ≡ (take (s .words) plan ++ replicate (length plan - s .words) 0) ++ drop (length plan) plan → length now ≡ length plan → Improved day Ks budget now s
 improved {day} {plan = plan} {now = now} {s = s} h e x n =
     record {
       rounds = h .rounds;

@@ -15,15 +15,15 @@ use Rattle.search_steps.specs.Searches.{Ahead}
 use Rattle.search_steps.specs.declared.steps.Search.{Search}
 
 -- a trial that was listed and could be made was made
-pub record AfterTrial (day : List ℕ) (K budget : ℕ) (work plan starts vehicles distances tracks : List ℕ) (s : Search) (next : Cursor) (tried : Tried) : Type 0 where
+pub record AfterTrial (day Ks : List ℕ) (budget : ℕ) (work plan starts vehicles distances tracks : List ℕ) (s : Search) (next : Cursor) (tried : Tried) : Type 0 where
   pub m : Trial
-  pub ahead : Ahead day K budget plan starts vehicles distances tracks s m next
+  pub ahead : Ahead day Ks budget plan starts vehicles distances tracks s m next
   pub triedAs : TriedAs day m (ahead .rounds) work tried
 
 -- the plan that the search hands over fills the buffer, with zeros behind it
-pub record Improved (day : List ℕ) (K budget : ℕ) (plan : List ℕ) (r : Search) : Type 0 where
+pub record Improved (day Ks : List ℕ) (budget : ℕ) (plan : List ℕ) (r : Search) : Type 0 where
   pub rounds : List Round
-  pub is : record { plan = rounds; trials = r .made; settled = r .settled } ≡ searched day K budget
+  pub is : record { plan = rounds; trials = r .made; settled = r .settled } ≡ searched day Ks budget
   pub count : r .words ≡ length (planWords rounds (greedyLefts day))
   pub distance : r .distance ≡ distanceOf day rounds
   pub text : plan ≡ planWords rounds (greedyLefts day) ++ replicate (length plan - r .words) 0

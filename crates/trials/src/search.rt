@@ -1,4 +1,4 @@
-// The search: trial after trial, from the start of the list again once a plan is kept.
+// The search: trial after trial, list after list, from the start of the first list again once a plan is kept.
 ghost use mathlib.Core.Path.{_≡_};
 ghost use mathlib.Core.Bool.{true, false};
 ghost use mathlib.Core.List.{List};
@@ -14,7 +14,7 @@ ghost use Rattle.edits.specs.EditWords.{EditKnown, EditSmall};
 ghost use Rattle.trial_list.specs.TrialRest.{listedTrial};
 ghost use Rattle.tracks.specs.Tables.{tracksWords};
 ghost use Rattle.attempts.specs.Tries.{Made, SomeMade, TriedAs};
-ghost use Rattle.search_steps.specs.Searches.{PlanAt, NextTrial, Searching};
+ghost use Rattle.search_steps.specs.Searches.{PlanAt, NextTrial, Searching, setsOf, SetsFit, stepsLeft};
 ghost use Rattle.trials.specs.Improvements.{AfterTrial};
 use attempts::tries::Tried;
 use attempts::tries::make_trial;
@@ -27,6 +27,7 @@ use search_steps::steps::end;
 use search_steps::steps::going;
 use search_steps::steps::is_going;
 use search_steps::steps::list_next;
+use search_steps::steps::next_list;
 use search_steps::steps::take_over;
 use trial_list::listing::Cursor;
 use trial_list::listing::Listed;
@@ -48,8 +49,8 @@ fn after_trial(
     next: Cursor,
     tried: Tried,
 ) -> Search
-    requires { ⌜ LayoutOf (now day) layout × IsAccepted (now day) × (5 * layout .stops ≤ length (now plan)) × (5 * layout .stops ≤ length (now work)) × AfterTrial (now day) (set .k) (set .budget) (now work) (now plan) (now starts) (now vehicles) (now driven) (now tracks) s next tried ⌝ }
-    ensures { λ r. ⌜ Searching (now (day .entry)) (set .k) (set .budget) (now (plan .exit)) (now (starts .exit)) (now (vehicles .exit)) (now (driven .exit)) (now (tracks .exit)) r × (s .made < r .made) ⌝ }
+    requires { ⌜ LayoutOf (now day) layout × IsAccepted (now day) × (5 * layout .stops ≤ length (now plan)) × (5 * layout .stops ≤ length (now work)) × AfterTrial (now day) (setsOf set) (set .budget) (now work) (now plan) (now starts) (now vehicles) (now driven) (now tracks) s next tried ⌝ }
+    ensures { λ r. ⌜ Searching (now (day .entry)) (setsOf set) (set .budget) (now (plan .exit)) (now (starts .exit)) (now (vehicles .exit)) (now (driven .exit)) (now (tracks .exit)) r × (stepsLeft (set .budget) r < stepsLeft (set .budget) s) ⌝ }
 {
     if tried.kept {
         let words = tried.words;
@@ -64,9 +65,9 @@ fn after_trial(
             driven,
             tracks,
         );
-        return going(words, count, tried.distance, s.made + 1, first_trial());
+        return going(words, count, tried.distance, s.made + 1, 0, first_trial());
     }
-    going(s.words, s.count, s.distance, s.made + 1, next)
+    going(s.words, s.count, s.distance, s.made + 1, s.stage, next)
 }
 
 // A trial of the plan held is made.
@@ -113,8 +114,8 @@ fn step_on(
     s: Search,
     listed: Listed,
 ) -> Search
-    requires { ⌜ LayoutOf (now day) layout × IsAccepted (now day) × (5 * layout .stops ≤ length (now work)) × (5 * layout .stops ≤ length (now plan)) × NextTrial (now day) (set .k) (set .budget) (now plan) (now starts) (now vehicles) (now driven) (now tracks) s listed ⌝ }
-    ensures { λ r. ⌜ Searching (now (day .entry)) (set .k) (set .budget) (now (plan .exit)) (now (starts .exit)) (now (vehicles .exit)) (now (driven .exit)) (now (tracks .exit)) r × (s .made < r .made) ⌝ }
+    requires { ⌜ LayoutOf (now day) layout × IsAccepted (now day) × (5 * layout .stops ≤ length (now work)) × (5 * layout .stops ≤ length (now plan)) × NextTrial (now day) (setsOf set) (set .budget) (now plan) (now starts) (now vehicles) (now driven) (now tracks) s listed ⌝ }
+    ensures { λ r. ⌜ Searching (now (day .entry)) (setsOf set) (set .budget) (now (plan .exit)) (now (starts .exit)) (now (vehicles .exit)) (now (driven .exit)) (now (tracks .exit)) r × (stepsLeft (set .budget) r < stepsLeft (set .budget) s) ⌝ }
 {
     let t = listed.trial;
     let next = listed.next;
@@ -135,7 +136,8 @@ fn step_on(
     )
 }
 
-// The next trial is made, or the search ends: at the end of the list it is settled, else once the budget is gone it is not.
+// The next trial is made, or the search ends, not settled, once the budget is gone; at the end of a list that of the next K begins, or the
+// search ends, settled.
 fn next_step(
     day: &[u32],
     layout: Layout,
@@ -149,9 +151,9 @@ fn next_step(
     tracks: &mut [u32],
     s: Search,
 ) -> Search
-    requires { ⌜ LayoutOf (now day) layout × IsAccepted (now day) × (set .k ≤ 50) × TableOf (now day) (set .k) (now table) × (5 * layout .stops ≤ length (now work)) × (5 * layout .stops ≤ length (now plan)) ⌝ }
-    requires { ⌜ Searching (now day) (set .k) (set .budget) (now plan) (now starts) (now vehicles) (now driven) (now tracks) s × (s .ended ≡ false) ⌝ }
-    ensures { λ r. ⌜ Searching (now (day .entry)) (set .k) (set .budget) (now (plan .exit)) (now (starts .exit)) (now (vehicles .exit)) (now (driven .exit)) (now (tracks .exit)) r × (r .ended ≡ false → s .made < r .made) ⌝ }
+    requires { ⌜ LayoutOf (now day) layout × IsAccepted (now day) × SetsFit set × TableOf (now day) (set .k) (now table) × (5 * layout .stops ≤ length (now work)) × (5 * layout .stops ≤ length (now plan)) ⌝ }
+    requires { ⌜ Searching (now day) (setsOf set) (set .budget) (now plan) (now starts) (now vehicles) (now driven) (now tracks) s × (s .ended ≡ false) ⌝ }
+    ensures { λ r. ⌜ Searching (now (day .entry)) (setsOf set) (set .budget) (now (plan .exit)) (now (starts .exit)) (now (vehicles .exit)) (now (driven .exit)) (now (tracks .exit)) r × (stepsLeft (set .budget) r < stepsLeft (set .budget) s) ⌝ }
 {
     let listed = list_next(layout, set, table, starts, vehicles, plan, s);
     if listed.found {
@@ -172,7 +174,7 @@ fn next_step(
             listed,
         );
     }
-    end(s, true)
+    next_list(set, s)
 }
 
 // Trials of the greedy plan, and of the plans that come of it, are made until the search ends.
@@ -189,10 +191,10 @@ pub(crate) fn run_trials(
     driven: &mut [u32],
     tracks: &mut [u32],
 ) -> Search
-    requires { ⌜ LayoutOf (now day) layout × IsAccepted (now day) × (set .k ≤ 50) × TableOf (now day) (set .k) (now table) × (5 * layout .stops ≤ length (now work)) × (5 * layout .stops ≤ length (now plan)) ⌝ }
+    requires { ⌜ LayoutOf (now day) layout × IsAccepted (now day) × SetsFit set × TableOf (now day) (set .k) (now table) × (5 * layout .stops ≤ length (now work)) × (5 * layout .stops ≤ length (now plan)) ⌝ }
     requires { ⌜ PlanAt (now day) (now plan) (held .words) (greedyRounds (now day)) × (held .distance ≡ distanceOf (now day) (greedyRounds (now day))) ⌝ }
     requires { ⌜ (length (now starts) ≡ 256) × (length (now vehicles) ≡ 256) × (length (now driven) ≡ 256) × (length (now tracks) ≡ tracksWords) ⌝ }
-    ensures { λ r. ⌜ Searching (now (day .entry)) (set .k) (set .budget) (now (plan .exit)) (now (starts .exit)) (now (vehicles .exit)) (now (driven .exit)) (now (tracks .exit)) r × (r .ended ≡ true) ⌝ }
+    ensures { λ r. ⌜ Searching (now (day .entry)) (setsOf set) (set .budget) (now (plan .exit)) (now (starts .exit)) (now (vehicles .exit)) (now (driven .exit)) (now (tracks .exit)) r × (r .ended ≡ true) ⌝ }
 {
     let mut s = begin(
         day,

@@ -29,7 +29,7 @@ mod trials;
 pub use build::{build, Planned};
 pub use plan::{check, same_rounds, vehicle, vehicle_place, Totals};
 pub use refusal::Refusal;
-pub use trials::plan;
+pub use trials::{plan, plan_growing};
 
 /// How large an accepted day is.
 #[derive(Clone, Copy, Debug, PartialEq, Eq)]

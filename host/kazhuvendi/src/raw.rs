@@ -35,6 +35,16 @@ extern "C" {
         work_room: usize,
         out: *mut [u64; 6],
     );
+    fn kz_plan_growing(
+        day: *const u32,
+        n: usize,
+        budget: u64,
+        plan: *mut u32,
+        room: usize,
+        work: *mut u32,
+        work_room: usize,
+        out: *mut [u64; 6],
+    );
 }
 
 pub fn read_words(bytes: &[u8], words: &mut [u32], out: &mut [u64; 6]) {
@@ -81,6 +91,19 @@ pub fn plan(
     let (plan, work) = (plan.as_mut_ptr(), work.as_mut_ptr());
     // SAFETY: as above; `plan`, `work` and `out` are written.
     unsafe { kz_plan(day.as_ptr(), n, k, budget, plan, room, work, work_room, out) }
+}
+
+pub fn plan_growing(
+    day: &[u32],
+    budget: u64,
+    plan: &mut [u32],
+    work: &mut [u32],
+    out: &mut [u64; 6],
+) {
+    let (n, room, work_room) = (day.len(), plan.len(), work.len());
+    let (plan, work) = (plan.as_mut_ptr(), work.as_mut_ptr());
+    // SAFETY: as above; `plan`, `work` and `out` are written.
+    unsafe { kz_plan_growing(day.as_ptr(), n, budget, plan, room, work, work_room, out) }
 }
 
 #[cfg(test)]
@@ -192,6 +215,26 @@ mod tests {
         assert_eq!(out, [14, 10, 0, 0, 0, 0]);
         let mut out = BEFORE;
         super::plan(&DAY_M[..30], 0, 6, &mut [], &mut [], &mut out);
+        assert_eq!(out, [4, 30, 0, 0, 0, 0]);
+    }
+
+    #[test]
+    fn planning_with_growing_sets_writes_all_of_out() {
+        let (mut plan, mut work) = ([0; 10], [0; 10]);
+        let mut out = BEFORE;
+        super::plan_growing(&DAY_M, 24, &mut plan, &mut work, &mut out);
+        assert_eq!(out, [0, 35, 24, 1, 0, 7]);
+        let mut out = BEFORE;
+        super::plan_growing(&DAY_M, 23, &mut plan, &mut work, &mut out);
+        assert_eq!(out, [0, 35, 23, 0, 0, 7]);
+        let mut out = BEFORE;
+        super::plan_growing(&DAY_M, 24, &mut plan[..9], &mut work, &mut out);
+        assert_eq!(out, [14, 10, 0, 0, 0, 0]);
+        let mut out = BEFORE;
+        super::plan_growing(&DAY_M, 24, &mut plan, &mut work[..9], &mut out);
+        assert_eq!(out, [14, 10, 0, 0, 0, 0]);
+        let mut out = BEFORE;
+        super::plan_growing(&DAY_M[..30], 24, &mut [], &mut [], &mut out);
         assert_eq!(out, [4, 30, 0, 0, 0, 0]);
     }
 }

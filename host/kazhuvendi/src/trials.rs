@@ -48,3 +48,37 @@ pub fn plan(
     raw::plan(day, k, budget, plan, work, &mut out);
     planned(out)
 }
+
+/// As [`plan`], with growing neighbour sets: trials begin with the 5 nearest neighbours of each
+/// stop. Where none of them is kept, those with the 10, the 25 and the 50 nearest follow, which have
+/// the earlier ones again; a trial that is kept returns to the 5 nearest. One budget covers all. A
+/// plan is settled where no trial with any of the four would be kept.
+///
+/// # Errors
+///
+/// The first of refusals 1 to 5 that applies to the day; then 14 where `plan` or `work` is too
+/// short.
+///
+/// ```
+/// # let bytes = std::fs::read("../../examples/day-m.day")?;
+/// # let mut day = [0; 31];
+/// # kazhuvendi::read_words(&bytes, &mut day)?;
+/// // Day M has two stops, so that each of the four has the same six trials.
+/// let (mut plan, mut work) = ([9; 11], [0; 10]);
+/// let planned = kazhuvendi::plan_growing(&day, 24, &mut plan, &mut work)?;
+/// assert_eq!((planned.distance, planned.trials, planned.settled), (35, 24, true));
+///
+/// let planned = kazhuvendi::plan_growing(&day, 23, &mut plan, &mut work)?;
+/// assert_eq!((planned.distance, planned.trials, planned.settled), (35, 23, false));
+/// # Ok::<(), Box<dyn std::error::Error>>(())
+/// ```
+pub fn plan_growing(
+    day: &[u32],
+    budget: u64,
+    plan: &mut [u32],
+    work: &mut [u32],
+) -> Result<Planned, Refusal> {
+    let mut out = [0; 6];
+    raw::plan_growing(day, budget, plan, work, &mut out);
+    planned(out)
+}

@@ -1,7 +1,7 @@
 -- `planner::plan` meets its contract.
 use mathlib.Core.Path.{refl}
 use Rattle.day.proofs.Answered.{is-accepted, accepted-long}
-use Rattle.planner.proofs.PlanCalls.{refused-plan-answer, refused-plan-buffer, accepted-plan-answer, accepted-plan-buffer, accepted-plan-spare}
+use Rattle.planner.proofs.PlanCalls.{refused-plan-answer, refused-plan-buffer}
 use borrow.Author.Needs.{needs}
 use Rattle.planner.proofs.plan.Statement.{statement}
 use Rattle.planner.proofs.plan.Tie as tie
@@ -17,5 +17,5 @@ plan-spec =
     (λ c. search needs)
     (λ c. search needs)
     (λ c. search needs)
-    (λ c. (search accepted-plan-answer, (search accepted-plan-buffer, search accepted-plan-spare)))
+    (λ c. search needs)
     (λ c. (search refused-plan-answer, (search refused-plan-buffer, λ _. refl))))

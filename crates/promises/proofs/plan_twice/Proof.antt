@@ -10,7 +10,7 @@ returns c =
     let one = two .before .before .before .before .before .before .before in
     let first = one .plan .ensures in
     let second = two .plan2 .ensures in
-    λ s. demand-three _ _ s (search needs) (first .0) (first .1 .0) (second .0) (second .1 .0)
+    λ l m s. demand-three _ _ l m s (search needs) (first .0) (first .1 .0) (second .0) (second .1 .0)
 
 pub plan-twice-spec : {M : Type 1} → statement M
 plan-twice-spec =

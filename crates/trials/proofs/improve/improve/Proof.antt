@@ -15,7 +15,7 @@ improve-spec =
     tie.close
     (tie.spec
     (λ c. search needs)
-    (λ c κs. let p = c .before .before .before .before .pre in (p .0, omega (arith, p .0 .stopsAre, accepted-ranges _ (p .1) .stopsMost), p .2, refl))
+    (λ c κs. let p = c .before .before .before .before .pre in (p .0, omega (arith, p .0 .stopsAre, accepted-ranges _ (p .1) .stopsMost), p .2 .most, refl))
     (λ c. search needs)
     (λ c. search needs)
     (λ c. search needs)

@@ -1,29 +1,30 @@
 -- `trials::search::run_trials` meets its contract.
 use borrow.Author.Needs.{needs}
-use Prim.Native.Nat.{_+_, _-_}
 use mathlib.Core.Path.{_≡_, refl, sym, _∙_}
 use native.Mathlib.Omega.{arith}
 use lib.ListN.{length}
-use Rattle.rules.specs.Tests.{if_then_else_}
-use Rattle.search_steps.specs.Searches.{Searching}
-use Rattle.search_steps.proofs.SearchSteps.{is-on, is-off, fewer-left}
+use Rattle.search_steps.specs.Searches.{Searching, setsOf, stepsLeft}
+use Rattle.search_steps.proofs.SetLaws.{sets-some}
+use Rattle.search_steps.proofs.SearchSteps.{is-on, is-off}
 use Rattle.trials.proofs.search.run_trials.Statement.{statement}
 use Rattle.trials.proofs.search.run_trials.Tie as tie
 
 abbrev Inv-loop : tie.InvT-loop
-Inv-loop day layout set table work₀ plan₀ starts₀ vehicles₀ driven₀ tracks₀ s₀ work plan starts vehicles driven tracks s = Searching day (set .k) (set .budget) plan starts vehicles driven tracks s × (length plan ≡ length plan₀) × (length work ≡ length work₀)
+Inv-loop day layout set table work₀ plan₀ starts₀ vehicles₀ driven₀ tracks₀ s₀ work plan starts vehicles driven tracks s = Searching day (setsOf set) (set .budget) plan starts vehicles driven tracks s × (length plan ≡ length plan₀) × (length work ≡ length work₀)
 
 abbrev μ-loop : tie.MeasureT-loop
-μ-loop day layout set table work₀ plan₀ starts₀ vehicles₀ driven₀ tracks₀ s₀ work plan starts vehicles driven tracks s = if s .ended then 0 else set .budget - s .made + 1
+μ-loop day layout set table work₀ plan₀ starts₀ vehicles₀ driven₀ tracks₀ s₀ work plan starts vehicles driven tracks s = stepsLeft (set .budget) s
 
 loop-holds : tie.Need-loop-holds Inv-loop μ-loop
-loop-holds c = (c .before .before .before .before .before .before .before .before .before .before .begin .ensures _ _, refl, refl)
+loop-holds c =
+    let begun = c .before .before .before .before .before .before .before .before .before .before in
+    (begun .begin .ensures _ _ (sets-some (begun .before .before .before .before .before .before .before .before .before .before .before .before .before .before .before .args .set)), refl, refl)
 
 next-step-requires : tie.Need-next-step-requires Inv-loop μ-loop
 next-step-requires c κs = ((c .before .before .before .before .before .before .before .before .before .before .before .before .before .before .before .before .before .before .before .before .before .before .before .before .before .before .before .before .before .before .before .before .before .before .pre .0 .0, c .before .before .before .before .before .before .before .before .before .before .before .before .before .before .before .before .before .before .before .before .before .before .before .before .before .before .before .before .before .before .before .before .before .before .pre .0 .1, c .before .before .before .before .before .before .before .before .before .before .before .before .before .before .before .before .before .before .before .before .before .before .before .before .before .before .before .before .before .before .before .before .before .before .pre .0 .2, c .before .before .before .before .before .before .before .before .before .before .before .before .before .before .before .before .before .before .before .before .before .before .before .before .before .before .before .before .before .before .before .before .before .before .pre .0 .3, omega (arith, c .before .before .before .before .before .before .before .before .before .before .before .before .before .before .before .before .before .before .before .before .before .before .before .before .before .before .before .before .before .before .before .before .before .before .pre .0 .4, c .before .before .before .before .before .before .before .before .loop .inv .2, c .before .before .before .before .before .before .before .before .before .before .before .before .before .before .before .before .before .before .before .begin .kept .1 .1 .1 .1 .1 .1 .1 .1 .0), omega (arith, c .before .before .before .before .before .before .before .before .before .before .before .before .before .before .before .before .before .before .before .before .before .before .before .before .before .before .before .before .before .before .before .before .before .before .pre .0 .5, c .before .before .before .before .before .before .before .before .loop .inv .1)), (c .before .before .before .before .before .before .before .before .loop .inv .0, is-on (c .before .before .before .before .before .before .before .is-going .ensures) (c .before .before .before .before .before .before .if1 .taken)))
 
 loop-less : tie.Need-loop-less Inv-loop μ-loop
-loop-less c = search (is-on, fewer-left)
+loop-less c = search needs
 
 loop-again : tie.Need-loop-again Inv-loop μ-loop
 loop-again c = (c .before .before .before .before .before .before .before .before .before .before .before .before .next-step .ensures .0, search needs, search needs)
