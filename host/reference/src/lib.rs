@@ -32,6 +32,7 @@ pub mod random;
 pub mod rounds;
 pub mod run;
 pub mod samples;
+pub mod sets;
 pub mod timetable;
 pub mod trial_days;
 pub mod trials;

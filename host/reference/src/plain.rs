@@ -12,7 +12,7 @@ use crate::Refusal;
 
 pub use build::{build, build_accepted, Planned};
 pub use check::{check, check_accepted};
-pub use trials::plan;
+pub use trials::{plan, plan_growing};
 
 /// The stops and tips of an accepted day, or the first of refusals 1 to 5.
 pub fn judge(day: &[u32]) -> Result<(usize, usize), Refusal> {

@@ -4,15 +4,15 @@ use crate::build_days::build_day;
 use crate::damage::file_of;
 use crate::day::{self, Day};
 use crate::lent::random_room;
-use crate::plain;
 use crate::random::Random;
+use crate::sets::Sets;
 use crate::workdays::usual_day;
 
 /// What planning is asked for beside the day.
 #[derive(Clone, Copy, Debug)]
 pub struct Setting {
-    /// K, the neighbours of each stop.
-    pub k: u64,
+    /// The neighbours that the trials are made with.
+    pub sets: Sets,
     /// The trials that may be made.
     pub budget: u64,
     /// The words of the plan buffer.
@@ -42,12 +42,20 @@ pub fn random_trial_day(random: &mut Random) -> Day {
     build_day(random, stops, tips)
 }
 
-/// A setting for a day, accepted or not. Many budgets are about as many trials as there are to the
-/// end; of some the low bits would end them at once.
-pub fn random_setting(random: &mut Random, words: &[u32]) -> Setting {
+/// Growing neighbour sets, or the K nearest.
+pub fn random_sets(random: &mut Random) -> Sets {
+    if random.once_in(3) {
+        Sets::Growing
+    } else {
+        Sets::Nearest(random_neighbours(random))
+    }
+}
+
+/// A setting with these neighbours for a day, accepted or not. Many budgets are about as many trials
+/// as there are to the end; of some the low bits would end them at once.
+pub fn random_setting(random: &mut Random, words: &[u32], sets: Sets) -> Setting {
     let needed = 5 * day::read(words).map_or(0, |day| day.stops.len());
-    let k = random_neighbours(random);
-    let to_the_end = trials_to_the_end(words, k, needed);
+    let to_the_end = trials_to_the_end(words, sets, needed);
     let budget = match random.below(8) {
         0 => random.below(2) as u64,
         _ if to_the_end > MOST_TRIALS => random.below(200) as u64,
@@ -64,7 +72,7 @@ pub fn random_setting(random: &mut Random, words: &[u32]) -> Setting {
         2 => (random_room(random, needed), random_room(random, needed)),
         _ => (needed, needed),
     };
-    Setting { k, budget, room, work_room }
+    Setting { sets, budget, room, work_room }
 }
 
 /// Most are within 1..50. Some others have the low bits of one that is.
@@ -80,9 +88,9 @@ fn random_neighbours(random: &mut Random) -> u64 {
 
 /// How many trials are made where the budget does not end them, or one more than there is time for;
 /// none where planning is refused.
-fn trials_to_the_end(words: &[u32], k: u64, needed: usize) -> u64 {
+fn trials_to_the_end(words: &[u32], sets: Sets, needed: usize) -> u64 {
     let (mut plan, mut work) = (vec![0; needed], vec![0; needed]);
-    let planned = plain::plan(words, k, MOST_TRIALS + 1, &mut plan, &mut work);
+    let planned = sets.plan_plainly(words, MOST_TRIALS + 1, &mut plan, &mut work);
     planned.map_or(0, |planned| planned.trials)
 }
 

@@ -96,6 +96,17 @@ static void plan(const char *name, uint64_t k, uint64_t budget, size_t room, siz
     print_words(work + 10, 2);
 }
 
+static void plan_growing(const char *name, uint64_t budget, size_t room, size_t work_room)
+{
+    uint32_t words[12] = {7, 7, 7, 7, 7, 7, 7, 7, 7, 7, 7, 7};
+    uint32_t work[12] = {7, 7, 7, 7, 7, 7, 7, 7, 7, 7, 7, 7};
+    uint64_t out[6] = {99, 99, 99, 99, 99, 99};
+    kz_plan_growing(day_m, 31, budget, words, room, work, work_room, out);
+    print(name, out);
+    print_words(words, 12);
+    print_words(work + 10, 2);
+}
+
 static void read_words(const char *name, size_t n, size_t room)
 {
     uint32_t words[9] = {7, 7, 7, 7, 7, 7, 7, 7, 7};
@@ -134,6 +145,10 @@ int main(void)
     plan("neighbours", 51, 6, 9, 9);
     plan("tight", 50, 6, 9, 10);
     plan("working", 50, 6, 10, 9);
+    plan_growing("growing", 24, 11, 10);
+    plan_growing("ended", 23, 10, 10);
+    plan_growing("slim", 24, 9, 10);
+    plan_growing("scarce", 24, 10, 9);
     day_m[11] = 0x80000065;
     build("left", 10);
     day_m[5] = 0x6003C01E;
@@ -141,6 +156,7 @@ int main(void)
     check("day", plan_m, 7);
     build("before", 0);
     plan("first", 0, 6, 0, 0);
+    plan_growing("also", 24, 0, 0);
     day_m[4] = 0x40000064;
     judge("kind", day_m, 31);
     day_m[0] = 0x10000002;

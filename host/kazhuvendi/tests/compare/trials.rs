@@ -3,17 +3,38 @@
 use kazhuvendi::{Planned, Refusal};
 use reference::lent::Lent;
 use reference::random::Random;
-use reference::trial_days::{random_setting, random_trial_file, Setting};
+use reference::sets::Sets;
+use reference::trial_days::{random_sets, random_setting, random_trial_file, Setting};
 use reference::{build, day, planning};
 
 use crate::compare::{as_refusal, Tally};
 use crate::written::{assert_lawful, words_of_no_meaning, write_plan};
 
-/// A day, accepted or not, and a setting for it.
+/// A day, accepted or not, and a setting for it, with the K nearest or with growing neighbour sets.
 pub fn round(random: &mut Random, tally: &mut Tally) {
+    let sets = random_sets(random);
+    round_with(sets, random, tally);
+}
+
+/// The same with these neighbours.
+pub fn round_with(sets: Sets, random: &mut Random, tally: &mut Tally) {
     let words = random_trial_file(random);
-    let by = random_setting(random, &words);
+    let by = random_setting(random, &words, sets);
     plan_alike(&words, by, random, tally);
+}
+
+/// The library's answer.
+pub fn plan_with(
+    sets: Sets,
+    day: &[u32],
+    budget: u64,
+    plan: &mut [u32],
+    work: &mut [u32],
+) -> Result<Planned, Refusal> {
+    match sets {
+        Sets::Nearest(k) => kazhuvendi::plan(day, k, budget, plan, work),
+        Sets::Growing => kazhuvendi::plan_growing(day, budget, plan, work),
+    }
 }
 
 /// The buffers hold words of no meaning before. After a plan the plan buffer is zero from the plan's
@@ -25,9 +46,9 @@ pub fn plan_alike(words: &[u32], by: Setting, random: &mut Random, tally: &mut T
     let mut lent_plan = Lent::new(&plan, random.below(8));
     let mut lent_work = Lent::new(&work, random.below(8));
     let (plan_words, work_words) = (lent_plan.items_mut(), lent_work.items_mut());
-    let answer = kazhuvendi::plan(lent_day.items(), by.k, by.budget, plan_words, work_words);
+    let answer = plan_with(by.sets, lent_day.items(), by.budget, plan_words, work_words);
     let expected = day::read(words).and_then(|day| {
-        let planned = planning::plan(&day, by.k, by.budget, by.room, by.work_room)?;
+        let planned = by.sets.plan(&day, by.budget, by.room, by.work_room)?;
         write_plan(&mut plan, &planned.words, day.stops.len());
         note(&day, &planned, tally);
         Ok(planned)

@@ -22,21 +22,43 @@ pub fn plan(
     work: &mut [u32],
 ) -> Result<Planned, Refusal> {
     judge(day)?;
-    let fields = Fields::new(day);
-    let needed = 5 * fields.stops;
     if !(1..=50).contains(&k) {
         return Err(Refusal { number: 13, place: k });
     }
+    plan_accepted(day, &[k], budget, plan, work)
+}
+
+/// The same with growing neighbour sets, or the first of refusals 1 to 5 and 14.
+pub fn plan_growing(
+    day: &[u32],
+    budget: u64,
+    plan: &mut [u32],
+    work: &mut [u32],
+) -> Result<Planned, Refusal> {
+    judge(day)?;
+    plan_accepted(day, &[5, 10, 25, 50], budget, plan, work)
+}
+
+/// K rises from list to list, so that the neighbours of each are the first of those of the last.
+fn plan_accepted(
+    day: &[u32],
+    each_k: &[u64],
+    budget: u64,
+    plan: &mut [u32],
+    work: &mut [u32],
+) -> Result<Planned, Refusal> {
+    let fields = Fields::new(day);
+    let needed = 5 * fields.stops;
     if plan.len() < needed || work.len() < needed {
         return refuse(14, needed);
     }
     let planned = build_accepted(day, plan)?;
-    let neighbours = neighbours(&fields, k as usize);
+    let neighbours = neighbours(&fields, each_k[each_k.len() - 1] as usize);
     let (plan, candidate) = (&mut plan[..needed], Candidate { words: work, length: 0 });
     let (vehicles, vehicle_of, order) = (Vec::new(), [None; 256], Vec::new());
     let mut search =
         Search { day, fields, plan, candidate, order, vehicles, vehicle_of, planned, budget };
-    search.run(&neighbours);
+    search.run(&neighbours, each_k);
     let planned = search.planned;
     plan[planned.words..].fill(0);
     Ok(planned)
@@ -94,10 +116,10 @@ struct Search<'a> {
 }
 
 impl Search<'_> {
-    fn run(&mut self, neighbours: &[Vec<usize>]) {
+    fn run(&mut self, neighbours: &[Vec<usize>], each_k: &[u64]) {
         loop {
             self.find_vehicles();
-            match self.whole_list(neighbours) {
+            match each_k.iter().try_for_each(|k| self.whole_list(neighbours, *k as usize)) {
                 ControlFlow::Continue(()) => {
                     self.planned.settled = true;
                     return;
@@ -121,10 +143,10 @@ impl Search<'_> {
         }
     }
 
-    fn whole_list(&mut self, neighbours: &[Vec<usize>]) -> ControlFlow<Left> {
+    fn whole_list(&mut self, neighbours: &[Vec<usize>], k: usize) -> ControlFlow<Left> {
         for (i, near) in (1..).zip(neighbours) {
             let Some(one) = self.vehicle_of[i] else { continue };
-            for &j in near {
+            for &j in near.iter().take(k) {
                 let Some(other) = self.vehicle_of[j] else { continue };
                 self.trials_of_pair((i, one), (j, other))?;
             }
