@@ -3,10 +3,13 @@
 mod build;
 mod check;
 mod day;
+mod rounds;
+mod settled;
 mod table;
 mod tips;
 mod trials;
 
+use settled::Settled;
 use table::Table;
 
 fn main() {
@@ -20,5 +23,6 @@ fn main() {
     print!("{tips}\n{}\n", tips::NOTE);
     let mut trials = Table::of("trial");
     trials::rows(&mut trials);
-    print!("{trials}\n{}", trials::NOTE);
+    print!("{trials}\n{}\n", trials::NOTE);
+    print!("{}\n{}", Settled::of_each_day(), settled::NOTE);
 }
