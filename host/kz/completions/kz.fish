@@ -36,7 +36,7 @@ complete -c kz -n '__kz_command_is build' -l hex -d 'write words as hexadecimal 
 complete -c kz -n '__kz_command_is build' -l json -d 'print the answer, or the refusal, as one JSON object on standard output'
 complete -c kz -n '__kz_command_is build' -s h -l help -d 'print this text'
 complete -c kz -n '__kz_command_is plan' -F
-complete -c kz -n '__kz_command_is plan' -l k -x -d 'try each stop beside its K nearest stops, 1 to 50; 50 where nothing is said'
+complete -c kz -n '__kz_command_is plan' -l k -x -d 'try each stop beside its K nearest stops, 1 to 50; 5-50: beside 5, then 10, 25 and 50; without --k both 5-50 and 50'
 complete -c kz -n '__kz_command_is plan' -l trials -x -d 'stop after N trials, though more might still make the plan shorter'
 complete -c kz -n '__kz_command_is plan' -l settle -d 'go on until no trial makes the plan shorter; this is what is done without --trials'
 complete -c kz -n '__kz_command_is plan' -s o -l output -r -F -d 'write there instead of to standard output, which is also what - stands for'

@@ -1,5 +1,6 @@
-//! Measures `kz plan` on days of 60, 120 and 240 stops, and prints the table of docs/INTEGRATE.md.
-//! The program to be measured is named by the first argument.
+//! Measures `kz plan` on days of 60, 120 and 240 stops, and prints the tables of docs/INTEGRATE.md:
+//! first what each way to plan comes to, then time and memory. The program to be measured is named
+//! by the first argument.
 
 use std::io::{self, Error};
 use std::path::{Path, PathBuf};
@@ -8,6 +9,8 @@ use std::time::Instant;
 use std::{env, fs};
 
 use kz::clock::grouped;
+use kz::depot;
+use kz::neighbours::Neighbours;
 use reference::bytes;
 use reference::day::Day;
 use reference::random::Random;
@@ -30,6 +33,7 @@ fn main() -> io::Result<()> {
     let folder = env::temp_dir().join(format!("kz-figures-{}", std::process::id()));
     fs::create_dir_all(&folder)?;
     let bench = Bench { program: program.into(), folder };
+    compare_ways();
     println!("| Stops | Rounds | Trials until settled | Time | Nine at once | Memory |");
     println!("|---|---|---|---|---|---|");
     for (rounds, maker) in KINDS {
@@ -38,6 +42,44 @@ fn main() -> io::Result<()> {
         }
     }
     fs::remove_dir_all(&bench.folder)
+}
+
+/// K 10, K 50 and growing sets, each until the plan is settled.
+const WAYS: [Neighbours; 3] = [Neighbours::Fixed(10), Neighbours::Fixed(50), Neighbours::Growing];
+
+/// Prints what each way comes to, the days of a kind added up.
+fn compare_ways() {
+    println!("| Days | K 10 | K 50 | K 5-50 | The shorter of the last two | K 5-50 is shorter |");
+    println!("|---|---|---|---|---|---|");
+    println!("| the sample day | {} |", ways_row(&[depot::sample().words]));
+    for (rounds, maker) in KINDS {
+        for stops in [60, 120, 240] {
+            let day = |seed| maker(&mut Random::new(seed), stops, TIPS).words();
+            let days: Vec<Vec<u32>> = (1..=DEPOTS).map(day).collect();
+            println!("| nine of {stops} stops, {rounds} | {} |", ways_row(&days));
+        }
+    }
+    println!();
+}
+
+fn ways_row(days: &[Vec<u32>]) -> String {
+    let (mut distances, mut trials, mut shorter, mut of_days) = ([0; 3], [0; 3], 0, 0);
+    for day in days {
+        let mut each = [0; 3];
+        for (index, way) in WAYS.iter().enumerate() {
+            let (mut plan, mut work) = (vec![0; 1_200], vec![0; 1_200]);
+            let planned = way.plan(day, u64::MAX, &mut plan, &mut work).expect("it is planned");
+            each[index] = planned.distance;
+            distances[index] += planned.distance;
+            trials[index] += planned.trials;
+        }
+        shorter += each[1].min(each[2]);
+        of_days += usize::from(each[2] < each[1]);
+    }
+    let way =
+        |index: usize| format!("{}, {} trials", grouped(distances[index]), grouped(trials[index]));
+    let ways = [way(0), way(1), way(2)].join(" | ");
+    format!("{ways} | {} | on {of_days} of {}", grouped(shorter), days.len())
 }
 
 struct Bench {
@@ -90,17 +132,21 @@ impl Bench {
         told.trim().parse().map_err(|_| Error::other(format!("/usr/bin/time says {told}")))
     }
 
+    /// The trials of both ways.
     fn trials(&self, day: &Path) -> io::Result<u64> {
         let mut plan = self.plan(Command::new(&self.program), day);
         let told = plan.arg("--json").stdout(Stdio::piped()).output()?.stdout;
         let told = String::from_utf8_lossy(&told);
-        let trials = told.split_once("\"trials\": ").and_then(|(_, rest)| rest.split_once(", "));
-        match trials {
-            Some((digits, rest)) if rest.starts_with("\"settled\": true") => {
-                digits.parse().map_err(|_| Error::other(format!("no number of trials: {told}")))
+        let mut trials = 0;
+        for way in told.split("\"trials\": ").skip(1) {
+            match way.split_once(", ") {
+                Some((digits, rest)) if rest.starts_with("\"settled\": true") => {
+                    trials += digits.parse::<u64>().map_err(Error::other)?;
+                }
+                _ => return Err(Error::other(format!("not settled: {told}"))),
             }
-            _ => Err(Error::other(format!("not settled: {told}"))),
         }
+        Ok(trials)
     }
 
     /// The call that plans a day until it is settled.

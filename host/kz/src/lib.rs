@@ -17,6 +17,7 @@ pub mod interrupt;
 pub mod json;
 pub mod made_for;
 pub mod manual;
+pub mod neighbours;
 pub mod output;
 pub mod planning;
 pub mod plans;

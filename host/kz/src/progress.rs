@@ -4,6 +4,7 @@ use std::env;
 use std::io::{self, IsTerminal, Write};
 
 use crate::clock::shortened;
+use crate::neighbours::Neighbours;
 use crate::planning::Outcome;
 
 /// A line of so many characters never goes on to a second one on a terminal of 80 columns, which
@@ -34,11 +35,12 @@ impl Progress {
         }
     }
 
-    /// Shows a step.
-    pub fn show(self, outcome: &Outcome) {
+    /// Shows a step of this way.
+    pub fn show(self, way: Neighbours, outcome: &Outcome) {
+        let line = line(way, outcome);
         match self {
-            Progress::OneLine => say(&format!("{CLEARED}{}", shortened(&line(outcome), WIDTH))),
-            Progress::Lines => say(&format!("{}\n", line(outcome))),
+            Progress::OneLine => say(&format!("{CLEARED}{}", shortened(&line, WIDTH))),
+            Progress::Lines => say(&format!("{line}\n")),
             Progress::Hidden => {}
         }
     }
@@ -51,13 +53,14 @@ impl Progress {
     }
 }
 
-fn line(outcome: &Outcome) -> String {
-    let planned = outcome.best.planned;
-    let saved = outcome.greedy - planned.distance;
-    let (kept, steps) = (outcome.kept, outcome.steps);
+/// The trials of the step, and the shortest plan of all steps.
+fn line(way: Neighbours, outcome: &Outcome) -> String {
+    let step = outcome.last.iter().find(|last| last.neighbours == way);
+    let trials = step.map_or(0, |step| step.planned.trials);
+    let distance = outcome.best().planned.distance;
+    let (saved, kept, steps) = (outcome.greedy - distance, outcome.kept, outcome.steps);
     format!(
-        "{} trials, distance {}, {saved} saved, shorter in {kept} of {steps} steps",
-        planned.trials, planned.distance
+        "{way}: {trials} trials, distance {distance}, {saved} saved, {kept} of {steps} steps shorter"
     )
 }
 
@@ -80,16 +83,17 @@ mod tests {
 
     /// The most that there can be: 1,200 legs, and as many trials as always settle.
     #[test]
-    fn the_longest_line_says_all_numbers_but_the_last() {
-        let (greedy, trials) = (1_200 * 65_535, 1_200 * 65_535 * 240 * 115);
+    fn the_longest_line_says_all_numbers() {
+        let (greedy, trials) = (1_200 * 65_535, 1_200 * 65_535 * 240 * 240);
         let planned =
             Planned { distance: 10_000_000, trials, settled: false, left_out: 0, words: 0 };
-        let best = Step { planned, words: vec![] };
-        let outcome = Outcome { best, greedy, steps: 55, kept: 55, interrupted: false };
-        let shown = shortened(&line(&outcome), WIDTH);
+        let step = Step { neighbours: Neighbours::Growing, planned, words: vec![] };
+        let outcome =
+            Outcome { last: vec![step], greedy, steps: 110, kept: 110, interrupted: false };
+        let shown = shortened(&line(Neighbours::Growing, &outcome), WIDTH);
         assert_eq!(
             shown,
-            "2170519200000 trials, distance 10000000, 68642000 saved, shorter in 55 of 55 s\u{2026}"
+            "K 5-50: 4529779200000 trials, distance 10000000, 68642000 saved, 110 of 110 st\u{2026}"
         );
     }
 }

@@ -9,7 +9,8 @@ use crate::day::Day;
 use crate::depot;
 use crate::inputs::{GivenDay, Named};
 use crate::json::Json;
-use crate::planning::{self, Outcome, SETTLE, USUAL_NEIGHBOURS};
+use crate::neighbours::USUAL;
+use crate::planning::{self, Outcome, SETTLE};
 use crate::sheet::Sheet;
 use crate::sheet_json;
 use crate::table;
@@ -32,9 +33,10 @@ fn run(call: &Call) -> Result<Answer, Failure> {
     let sample = depot::sample();
     let file = Named { name: "the sample day".into(), bytes: vec![] };
     let given = GivenDay::of(sample.words, Some(sample.names), &file)?;
-    let outcome = planning::run(&given, USUAL_NEIGHBOURS, SETTLE, |_| {})?;
+    let outcome = planning::run(&given, USUAL, SETTLE, |_, _| {})?;
+    let best = outcome.best();
     let day = Day::of(&given.words);
-    let sheet = Sheet::of(&day, &outcome.best.words);
+    let sheet = Sheet::of(&day, &best.words);
     let product = call.has(&OUTPUT).then(|| Product::Text(chart::svg(&day, &given.names, &sheet)));
     let vehicle = table::vehicle_table(&day, &given.names, &sheet, 1);
     let report = format!("{}\n{vehicle}{}", distances(&given, &outcome), chart_place(call));
@@ -42,20 +44,21 @@ fn run(call: &Call) -> Result<Answer, Failure> {
         ("stop_count", given.stops.into()),
         ("tip_count", given.tips.into()),
         ("greedy_distance", outcome.greedy.into()),
-        ("distance", outcome.best.planned.distance.into()),
-        ("trials", outcome.best.planned.trials.into()),
-        ("settled", outcome.best.planned.settled.into()),
-        ("plan", Json::words(&outcome.best.words)),
+        ("distance", best.planned.distance.into()),
+        ("k", best.neighbours.json()),
+        ("trials", best.planned.trials.into()),
+        ("settled", best.planned.settled.into()),
+        ("plan", Json::words(&best.words)),
         ("sheet", sheet_json::round(&sheet.rounds[0], &given.names)),
     ]);
     Ok(Answer { product, ..Answer::told(report, json) })
 }
 
 fn distances(given: &GivenDay, outcome: &Outcome) -> String {
-    let planned = outcome.best.planned;
+    let (planned, way) = (outcome.best().planned, outcome.best().neighbours);
     let ended = if planned.settled { "settled plan:" } else { "best so far: " };
     format!(
-        "{}: {} stops, {} tips\ngreedy plan:  distance {}\n{ended} distance {}, {} trials\n",
+        "{}: {} stops, {} tips\ngreedy plan:  distance {}\n{ended} distance {}, {way}, {} trials\n",
         given.names.day(),
         given.stops,
         given.tips,

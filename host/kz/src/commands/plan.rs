@@ -6,7 +6,8 @@ use crate::catalogue::{Command, Flag, DAY, HEX, OUTPUT};
 use crate::inputs;
 use crate::json::Json;
 use crate::made_for::MadeFor;
-use crate::planning::{self, Outcome, SETTLE, USUAL_NEIGHBOURS};
+use crate::neighbours::{Neighbours, GROWING, USUAL};
+use crate::planning::{self, Outcome, Step, SETTLE};
 use crate::plans;
 use crate::progress::Progress;
 
@@ -14,7 +15,9 @@ const NEIGHBOURS: Flag = Flag {
     name: "--k",
     letter: None,
     value: Some("K"),
-    about: "try each stop beside its K nearest stops, 1 to 50; 50 where nothing is said",
+    about:
+        "try each stop beside its K nearest stops, 1 to 50; 5-50: beside 5, then 10, 25 and 50; \
+            without --k both 5-50 and 50",
 };
 
 const TRIALS: Flag = Flag {
@@ -49,15 +52,20 @@ pub const COMMAND: Command = Command {
          lawful and shorter. A plan is settled when no trial would be kept.",
         "K says how many nearest stops each stop is tried beside: those with the shortest drive \
          from it, of all whose windows let a vehicle go on to them. A larger K means more trials, \
-         most often a shorter plan, and more time. With K 50, the most, a day of 60 stops settles \
-         within a tenth of a second, one of 240 within two seconds.",
-        "--trials is for a plan that is wanted sooner: planning ends after N trials at the latest. \
-         The plan is lawful, and never longer than with a smaller N. It is called `not settled` \
-         where more trials might still make it shorter.",
+         most often a shorter plan, and more time. With K 5-50 the set grows: planning begins with \
+         5; where no trial is kept it goes on to 10, 25 and 50, and from each trial that is kept \
+         back to 5.",
+        "Without --k the day is planned both with K 5-50 and with K 50, and the shorter plan is \
+         kept: neither is the better one on every day. The answer says which it is, and what the \
+         other way came to. A day of 60 stops settles both ways within a tenth of a second, one of \
+         240 within a few seconds.",
+        "--trials is for a plan that is wanted sooner: planning ends after N trials at the latest, \
+         of each way where there are two. The plan is lawful, and never longer than with a smaller \
+         N. It is called `not settled` where more trials might still make it shorter.",
         "Planning goes in steps: first the greedy plan, then with a budget of trials that doubles \
-         from step to step, each time from the beginning. On a terminal standard error shows the \
-         trials made, the distance so far, how far it is below the greedy plan's, and in how many \
-         steps a shorter plan was kept.",
+         from step to step, each time from the beginning. On a terminal standard error shows K, \
+         the trials made, the shortest distance so far, how far it is below the greedy plan's, and \
+         how many steps gave a shorter plan.",
         "It can be interrupted at any time (Ctrl-C): the best plan so far is then written, this is \
          said, and the exit status is 0. That is sound because the plan of every budget is lawful \
          and never longer than the plan of a smaller budget: this is proved. So the plan of the \
@@ -71,51 +79,95 @@ pub const COMMAND: Command = Command {
 };
 
 fn run(call: &Call) -> Result<Answer, Failure> {
-    let neighbours = call.number(&NEIGHBOURS)?.unwrap_or(USUAL_NEIGHBOURS);
+    let ways = ways(call)?;
     let trials = call.number(&TRIALS)?;
     if trials.is_some() && call.has(&SETTLED) {
         return Err(call.wrong("--trials and --settle exclude each other".into()));
     }
     let day = inputs::day(call)?;
     let progress = Progress::of(call.has(&SHOWN));
-    let outcome = planning::run(&day, neighbours, trials.unwrap_or(SETTLE), |outcome| {
-        progress.show(outcome);
+    let outcome = planning::run(&day, &ways, trials.unwrap_or(SETTLE), |way, outcome| {
+        progress.show(way, outcome);
     });
     progress.end();
     let outcome = outcome?;
     let (report, json) = (report(day.label(), &outcome), json(&outcome));
-    Ok(Answer::made(report, json, Product::Plan(outcome.best.words, MadeFor::of(&day))))
+    let words = outcome.best().words.clone();
+    Ok(Answer::made(report, json, Product::Plan(words, MadeFor::of(&day))))
+}
+
+/// The ways that are asked for.
+fn ways(call: &Call) -> Result<Vec<Neighbours>, Failure> {
+    let Some(value) = call.value(&NEIGHBOURS) else { return Ok(USUAL.to_vec()) };
+    if value == GROWING {
+        return Ok(vec![Neighbours::Growing]);
+    }
+    let k = value.to_str().and_then(|text| text.parse().ok()).ok_or_else(|| {
+        let value = value.display();
+        call.wrong(format!("--k has to be a whole number or {GROWING}, not '{value}'"))
+    })?;
+    Ok(vec![Neighbours::Fixed(k)])
 }
 
 fn report(day: &str, outcome: &Outcome) -> String {
-    let planned = outcome.best.planned;
-    let ended = match (outcome.interrupted, planned.settled) {
-        (true, _) => "interrupted, and this is the best plan so far",
-        (false, true) => "settled",
-        (false, false) => "not settled",
+    let best = outcome.best();
+    let ended = if outcome.interrupted {
+        "interrupted, and this is the best plan so far"
+    } else {
+        ended(best)
     };
     format!(
         "planned: {day}: distance {} (greedy {}), vehicles {}, stops left out {}, words {}; \
-         {} trials, {ended}\n",
-        planned.distance,
+         {}, {} trials, {ended}{}\n",
+        best.planned.distance,
         outcome.greedy,
-        plans::vehicles(&outcome.best.words),
-        planned.left_out,
-        planned.words,
-        planned.trials,
+        plans::vehicles(&best.words),
+        best.planned.left_out,
+        best.planned.words,
+        best.neighbours,
+        best.planned.trials,
+        outcome.others().map(other).collect::<String>(),
+    )
+}
+
+fn ended(step: &Step) -> &'static str {
+    if step.planned.settled {
+        "settled"
+    } else {
+        "not settled"
+    }
+}
+
+/// What another way came to.
+fn other(step: &Step) -> String {
+    let (planned, ended) = (step.planned, ended(step));
+    format!(
+        "; {}: distance {}, {} trials, {ended}",
+        step.neighbours, planned.distance, planned.trials
     )
 }
 
 fn json(outcome: &Outcome) -> Json {
-    let planned = outcome.best.planned;
+    let best = outcome.best();
     Json::Object(vec![
-        ("distance", planned.distance.into()),
+        ("distance", best.planned.distance.into()),
         ("greedy_distance", outcome.greedy.into()),
-        ("trials", planned.trials.into()),
-        ("settled", planned.settled.into()),
+        ("k", best.neighbours.json()),
+        ("trials", best.planned.trials.into()),
+        ("settled", best.planned.settled.into()),
         ("interrupted", outcome.interrupted.into()),
-        ("vehicles", plans::vehicles(&outcome.best.words).into()),
-        ("left_out", planned.left_out.into()),
-        ("plan", Json::words(&outcome.best.words)),
+        ("vehicles", plans::vehicles(&best.words).into()),
+        ("left_out", best.planned.left_out.into()),
+        ("others", Json::List(outcome.others().map(other_json).collect())),
+        ("plan", Json::words(&best.words)),
+    ])
+}
+
+fn other_json(step: &Step) -> Json {
+    Json::Object(vec![
+        ("k", step.neighbours.json()),
+        ("distance", step.planned.distance.into()),
+        ("trials", step.planned.trials.into()),
+        ("settled", step.planned.settled.into()),
     ])
 }

@@ -55,6 +55,9 @@ fn plan() {
     assert_eq!(answer.at("settled"), &Json::Truth(true));
     assert_eq!(answer.at("interrupted"), &Json::Truth(false));
     assert_eq!(words(answer.at("plan")), PLAN_WORDS);
+    let answer = json(&["plan", DAY_M]);
+    assert_eq!(answer.at("trials").number(), 24);
+    assert_eq!(answer.at("others").list()[0].at("trials").number(), 6);
 }
 
 #[test]
@@ -191,7 +194,7 @@ fn the_sample_day_of_the_demo_is_the_committed_one() {
     let depot = concat!(env!("CARGO_MANIFEST_DIR"), "/../../examples/depot.txt");
     let planned = json(&["plan", depot]);
     let demo = json(&["demo"]);
-    for name in ["distance", "greedy_distance", "trials", "plan"] {
+    for name in ["distance", "greedy_distance", "k", "trials", "plan"] {
         assert_eq!(planned.at(name), demo.at(name), "{name}");
     }
 }
@@ -215,7 +218,7 @@ fn what_is_said_of_a_plan_names_the_day() {
         };
         let lawful = "distance 35, vehicles 1, stops served 2, left out 0";
         assert_eq!(said(&["check", day, PLAN_M]), format!("lawful: {label}: {lawful}\n"));
-        let trials = "6 trials, settled";
+        let trials = "K 5, 6 trials, settled";
         assert_eq!(
             said(&["plan", day, "--k", "5"]),
             format!("planned: {label}: {planned}; {trials}\n")

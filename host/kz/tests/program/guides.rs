@@ -8,7 +8,7 @@ use std::process::{Command, Stdio};
 use crate::page::{blocks, links, read, Block, ROOT};
 use crate::scratch::Scratch;
 
-pub const PAGES: [&str; 14] = [
+pub const PAGES: [&str; 15] = [
     "CONTRIBUTING.md",
     "README.md",
     "docs/DECISIONS.md",
@@ -19,6 +19,7 @@ pub const PAGES: [&str; 14] = [
     "docs/PROMISES.md",
     "docs/WRONG-PROGRAMS.md",
     "docs/changes/Q-1.md",
+    "docs/changes/Q-12.md",
     "docs/changes/Q-3.md",
     "docs/changes/promises.md",
     "docs/changes/rules.md",

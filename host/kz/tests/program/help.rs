@@ -65,15 +65,21 @@ fn the_help_of_plan_and_the_manual_page_say_what_k_and_trials_do() {
     let help = joined(kz(&["help", "plan"]).answer());
     let page = joined(&committed("man/kz.1")).replace("\\-", "-");
     for said in [
-        "--k K try each stop beside its K nearest stops, 1 to 50; 50 where nothing is said",
+        "--k K try each stop beside its K nearest stops, 1 to 50; 5-50: beside 5, then 10, 25 and \
+         50; without --k both 5-50 and 50",
         "--trials N stop after N trials, though more might still make the plan shorter",
         "K says how many nearest stops each stop is tried beside: those with the shortest drive \
          from it, of all whose windows let a vehicle go on to them. A larger K means more trials, \
-         most often a shorter plan, and more time. With K 50, the most, a day of 60 stops settles \
-         within a tenth of a second, one of 240 within two seconds.",
-        "--trials is for a plan that is wanted sooner: planning ends after N trials at the latest. \
-         The plan is lawful, and never longer than with a smaller N. It is called `not settled` \
-         where more trials might still make it shorter.",
+         most often a shorter plan, and more time. With K 5-50 the set grows: planning begins with \
+         5; where no trial is kept it goes on to 10, 25 and 50, and from each trial that is kept \
+         back to 5.",
+        "Without --k the day is planned both with K 5-50 and with K 50, and the shorter plan is \
+         kept: neither is the better one on every day. The answer says which it is, and what the \
+         other way came to. A day of 60 stops settles both ways within a tenth of a second, one of \
+         240 within a few seconds.",
+        "--trials is for a plan that is wanted sooner: planning ends after N trials at the latest, \
+         of each way where there are two. The plan is lawful, and never longer than with a smaller \
+         N. It is called `not settled` where more trials might still make it shorter.",
     ] {
         assert!(help.contains(said), "{said}\n{help}");
         assert!(page.contains(said), "{said}\n{page}");
