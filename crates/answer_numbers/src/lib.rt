@@ -1,4 +1,6 @@
 // Each answer as six numbers: 0 and its values, or the refusal's number and place; what is not named is 0.
+#![tactic(auto)]
+
 ghost use Rattle.std.specs.Prelude.{◌≡◌, [], ◌∷◌};
 ghost use Rattle.rules.specs.Tests.{if◌then◌else◌};
 ghost use Rattle.rules.specs.Answers.{in_six};

@@ -56,7 +56,7 @@ fn retry(
 }
 
 // What came of a trial: whether its plan is kept, how many words it has and how far it drives.
-#[derive(Drop)]
+#[derive(Clone, Copy)]
 pub struct Tried {
     pub kept: bool,
     pub words: usize,

@@ -12,7 +12,7 @@ use day::fields::Layout;
 use rules::answers::{Answer, PlanAnswer};
 
 // How many words a plan has, and how many stops it leaves out.
-#[derive(Drop)]
+#[derive(Clone, Copy)]
 struct Size {
     words: usize,
     lefts: usize,

@@ -1,4 +1,6 @@
 // The plan that a trial gives, written whole.
+#![tactic(auto)]
+
 ghost use Rattle.std.specs.Prelude.{◌≡◌, ◌||◌, List, ◌<◌, ◌≤◌, ◌*◌, eqb, length};
 ghost use Rattle.std.proofs.Math.Option.{some};
 ghost use Rattle.rules.specs.Tests.{if◌then◌else◌};

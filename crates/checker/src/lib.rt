@@ -1,4 +1,6 @@
 // A plan against a day: lawful, or refused at its first word at fault.
+#![tactic(auto)]
+
 mod run;
 
 ghost use Rattle.std.specs.Prelude.{◌≡◌};

@@ -5,7 +5,7 @@ ghost use Rattle.rules.specs.Fields.{word_at, tips, stops, stop_place, load_limi
 ghost use Rattle.day.specs.Layout.{LayoutOf, WindowOf, LegOf};
 
 // How many stops, tips and places a day has, and where its legs begin.
-#[derive(Drop)]
+#[derive(Clone, Copy)]
 pub struct Layout {
     pub stops: usize,
     pub tips: usize,
@@ -13,13 +13,13 @@ pub struct Layout {
     pub legs: usize,
 }
 
-#[derive(Drop)]
+#[derive(Clone, Copy)]
 pub struct Window {
     pub opening: u32,
     pub closing: u32,
 }
 
-#[derive(Drop)]
+#[derive(Clone, Copy)]
 pub struct Leg {
     pub minutes: u32,
     pub distance: u32,

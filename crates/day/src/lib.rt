@@ -1,2 +1,4 @@
 // The day file of document 01: its fields, and what an accepted day gives.
+#![tactic(auto)]
+
 pub mod fields;

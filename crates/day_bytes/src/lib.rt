@@ -1,4 +1,6 @@
 // A day file's bytes, read as words.
+#![tactic(auto)]
+
 mod bytes;
 
 ghost use Rattle.std.specs.Prelude.{◌≡◌, ◌<◌, length};

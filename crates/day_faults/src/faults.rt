@@ -6,7 +6,7 @@ ghost use Rattle.day_faults.specs.Judging.{judged_from, judged_after, Whole};
 use crate::words::{head_word_fault, number_fault, window_fault};
 
 // The fault of one word: 2 or 5 and its place. Number 0 says that there is none.
-#[derive(Drop)]
+#[derive(Clone, Copy)]
 pub struct Fault {
     pub number: u32,
     pub place: usize,

@@ -1,4 +1,6 @@
 // The program on a day file: reads day.bin and prints its plan. What is printed of the bytes read is plan_text's promise.
+#![tactic(auto)]
+
 ghost use Rattle.std.specs.Prelude.{◌≡◌, ◌+◌, ◌≤◌, length};
 ghost use Rattle.io.specs.Counts.{IsPrefixLen};
 
@@ -18,7 +20,7 @@ fn blank_text() -> [u8; 16384]
 }
 
 // What one read gave: that it failed, or how many bytes.
-#[derive(Drop)]
+#[derive(Clone, Copy)]
 struct Got {
     failed: bool,
     count: usize,

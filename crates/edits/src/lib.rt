@@ -1,4 +1,6 @@
 // What a trial does to the words of a vehicle.
+#![tactic(auto)]
+
 ghost use Rattle.std.specs.Prelude.{◌≡◌, ◌&&◌, eqb, leb, ℕ, List};
 ghost use Rattle.rules.specs.PlanWords.{tip_word};
 ghost use Rattle.rules.specs.Tests.{if◌then◌else◌};
@@ -8,7 +10,7 @@ ghost use Rattle.edits.specs.EditWords.{edit_of, EditKnown, EditSmall, Becomes};
 use plan_words::{REST, STOP, TIP};
 
 // A stop moved before or behind another, two interchanged, a tip removed or replaced. A tip is named by its number among the vehicle's tasks.
-#[derive(Drop)]
+#[derive(Clone, Copy)]
 pub enum Edit {
     Before { stop: u32, moved: u32 },
     After { stop: u32, moved: u32 },
@@ -18,7 +20,7 @@ pub enum Edit {
 }
 
 // What a word becomes: two words, 0 for none.
-#[derive(Drop)]
+#[derive(Clone, Copy)]
 pub struct Change {
     pub first: u32,
     pub second: u32,

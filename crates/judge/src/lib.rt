@@ -1,4 +1,6 @@
 // A day judged: accepted, or refused at its first word at fault.
+#![tactic(auto)]
+
 ghost use Rattle.std.specs.Prelude.{◌≡◌, ◌<◌, length};
 ghost use Rattle.rules.specs.DayFile.{tips_end, judge_sized, judge_day};
 ghost use Rattle.rules.specs.AnswerValues.{day_values};

@@ -1,5 +1,7 @@
 // The calls for programs in C and Rust. Each writes the whole of `out`: 0 and the answer's values, or the refusal's number and
 // place; what is not named is 0.
+#![tactic(auto)]
+
 ghost use Rattle.std.specs.Prelude.{◌≡◌, length};
 ghost use Rattle.rules.specs.Answers.{in_six};
 ghost use Rattle.rules.specs.DayFile.{judge_day};

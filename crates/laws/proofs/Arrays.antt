@@ -2,8 +2,8 @@
 -- The premise h is in `c.good`: parameter p at `.1` p times, then `.0`; its field f from there at `.1 .1`, `.1` f times, then `.0`.
 -- Assumes nothing.
 use Prim.Native.Nat.{ℕ, zero, suc, ◌^◌, ◌<◌}
-use mathlib.Core.Path.{◌≡◌, sym, ap, ◌∙◌, subst}
-use mathlib.Core.List.{List, [], ◌∷◌, map, map-id}
+use mathlib.Core.Path.{◌≡◌}
+use mathlib.Core.List.{List, [], ◌∷◌}
 use lib.ListN.{length, get_or}
 use lib.Pow.{pow_pos}
 use mir.Syntax.{Width}
@@ -23,11 +23,9 @@ each_fits w (x ∷ xs) (u ∷ us) h (suc i) = each_fits w xs us h.1 i
 
 -- of an array of n numbers of width w
 module _ (w : Width) (n : ℕ) (xs : List ℕ) (vs : List Val)
-    (h : shadow (in_array ℕ (UInt w).own_val n (map (λ v. v) xs) vs)) where
+    (h : shadow (in_array ℕ (UInt w).own_val n xs vs)) where
   pub array_length : length xs ≡ n
-  array_length = sym (ap length (map-id xs)) ∙ h.1.0.1
+  array_length = h.1.0.1
 
   pub array_fits : (i : ℕ) → get_or xs i 0 < 2 ^ bits w
-  array_fits i =
-      subst (λ (l : List ℕ). get_or l i 0 < 2 ^ bits w) (map-id xs)
-      (each_fits w (map (λ v. v) xs) h.0 h.1.1 i)
+  array_fits i = each_fits w xs h.0 h.1.1 i

@@ -1,10 +1,12 @@
 // A set of the numbers 0 to 255, such as the stops that are still to be routed: number k is bit k % 64 of word k / 64.
 // What a function does to the set is said through `marked`, the set that the words hold.
+#![tactic(auto)]
+
 ghost use Rattle.std.specs.Prelude.{◌-◌, ◌^◌, ◌<◌, ◌≡◌, true, false, replicate};
 ghost use Rattle.laws.specs.Bits.{bit, LowestBit};
 ghost use Rattle.laws.specs.Marks.{marked, ones_of, up_to, Unmarked, Marked, Lowest};
 
-#[derive(Drop)]
+#[derive(Clone, Copy)]
 pub struct Marks {
     pub words: [u64; 4],
 }

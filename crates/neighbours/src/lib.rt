@@ -1,2 +1,4 @@
 // The neighbours of each stop.
+#![tactic(auto)]
+
 pub mod table;

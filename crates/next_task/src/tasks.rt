@@ -15,7 +15,7 @@ use rules::walk::{Cargo, Trip};
 use ways_home::tips::nearest_tip;
 
 // The next task: a stop, a tip, or back to the depot.
-#[derive(Drop)]
+#[derive(Clone, Copy)]
 pub enum Next {
     Stop(usize),
     Tip(usize),

@@ -1,4 +1,6 @@
 // What is left of a vehicle from each word of the plan on, in a table that is lent: four words for each word of the plan.
+#![tactic(auto)]
+
 ghost use Rattle.std.specs.Prelude.{◌≡◌, ◌&&◌, ◌+◌, ◌-◌, ◌*◌, ◌<◌, ◌≤◌, leb, length};
 ghost use Rattle.day.specs.Layout.{LayoutOf};
 ghost use Rattle.onward.specs.Behind.{behind_words, distance_onward, stop_first, tip_first, row_at, RowPut, SomeTask, PutsFirst, SomeRoundTo, FillsBehind};
@@ -7,7 +9,7 @@ use day::fields::Layout;
 use plan_words::{REST, STOP, TIP};
 
 // The loads that a vehicle may come with, so that all that is left is driven as it stands; the place that comes next; the distance behind it.
-#[derive(Drop)]
+#[derive(Clone, Copy)]
 pub struct Onward {
     pub least: u32,
     pub most: u32,

@@ -1,4 +1,6 @@
 // Prints the plan of day M.
+#![tactic(auto)]
+
 fn main() {
     day_file::print_plan();
 }

@@ -14,7 +14,7 @@ use word_steps::steps::State;
 use word_steps::words::{left_word, task_step, vehicle_word};
 
 // The state behind a part and the index there, if the part was gone through.
-#[derive(Drop)]
+#[derive(Clone, Copy)]
 struct Part {
     done: bool,
     end: usize,
@@ -22,7 +22,7 @@ struct Part {
 }
 
 // The tally of a plan, if it was gone through.
-#[derive(Drop)]
+#[derive(Clone, Copy)]
 pub struct Told {
     pub all: bool,
     pub tally: Tally,

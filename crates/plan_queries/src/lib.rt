@@ -1,4 +1,6 @@
 // One vehicle's part of a lawful plan, and the rounds of two lawful plans.
+#![tactic(auto)]
+
 mod rounds;
 mod vehicles;
 

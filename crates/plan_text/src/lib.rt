@@ -1,4 +1,6 @@
 // What the program on a day file prints: a plan as lines of text, or why there is none.
+#![tactic(auto)]
+
 mod planned;
 
 ghost use Rattle.std.specs.Prelude.{◌≡◌, ◌≤◌, length, take};

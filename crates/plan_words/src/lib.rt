@@ -1,4 +1,6 @@
 // The words of a plan, made and told apart. No other crate knows where kind and number stand in a word.
+#![tactic(auto)]
+
 ghost use Rattle.std.specs.Prelude.{◌≡◌, ◌<◌, ◌==◌};
 ghost use Rattle.rules.specs.PlanWords.{kind_of, number_of, vehicle_kind, stop_kind, tip_kind, left_kind, vehicle_word, stop_word, tip_word, rest_word, back_word, left_word, same_word};
 ghost use Rattle.plan_words.specs.Indexes.{IndexFrom};

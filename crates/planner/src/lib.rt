@@ -1,4 +1,6 @@
 // The calls that plan a day: any day, any lent buffers.
+#![tactic(auto)]
+
 mod accepted;
 
 ghost use Rattle.std.specs.Prelude.{◌≡◌, length};

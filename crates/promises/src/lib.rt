@@ -1,5 +1,7 @@
 // What is promised of the calls, as small clients that make them. Here demand 3: a day is planned with trials twice, and what is owed of the
 // two plans is the client's contract.
+#![tactic(auto)]
+
 pub mod calls;
 pub mod tips;
 
@@ -12,7 +14,7 @@ ghost use Rattle.promises.specs.Supposed.{Supposed};
 use rules::answers::PlanAnswer;
 
 // The answers to the two calls.
-#[derive(Drop)]
+#[derive(Clone, Copy)]
 pub struct Twice {
     pub first: PlanAnswer,
     pub second: PlanAnswer,

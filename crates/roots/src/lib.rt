@@ -1,4 +1,6 @@
 // The integer root, from a number that is near it.
+#![tactic(auto)]
+
 ghost use Rattle.std.specs.Prelude.{◌≡◌, ◌+◌, ◌*◌, ◌≤◌, ◌<◌};
 ghost use Rattle.rules.specs.SolomonDay.{root};
 

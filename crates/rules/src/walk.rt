@@ -2,7 +2,7 @@
 
 // The plan so far: whether a vehicle is out, how many vehicles, stops served and stops left out there were, the last stop left out
 // (0 for none), and the distance of the vehicles that are back.
-#[derive(Drop)]
+#[derive(Clone, Copy)]
 pub struct Tally {
     pub inside: bool,
     pub vehicles: u32,
@@ -13,7 +13,7 @@ pub struct Tally {
 }
 
 // What a vehicle carries: its load, the day's kg, the stops it served.
-#[derive(Drop)]
+#[derive(Clone, Copy)]
 pub struct Cargo {
     pub load: u32,
     pub kg: u32,
@@ -21,7 +21,7 @@ pub struct Cargo {
 }
 
 // Where and when a vehicle is: the minute from which it is free, the place, whether it rested, and the distance it has driven.
-#[derive(Drop)]
+#[derive(Clone, Copy)]
 pub struct Trip {
     pub minute: u32,
     pub place: usize,

@@ -10,7 +10,7 @@ use tracks::tables::track;
 use trial_list::survey::survey;
 
 // How many words the plan has, and how far it drives.
-#[derive(Drop)]
+#[derive(Clone, Copy)]
 pub struct Held {
     pub words: usize,
     pub distance: u32,

@@ -14,7 +14,7 @@ use day::fields::Layout;
 use trial_list::listing::{Cursor, Listed, first_trial, next_trial};
 
 // What is asked for: K, whether 5, 10 and 25 come before it, and how many trials may be made.
-#[derive(Drop)]
+#[derive(Clone, Copy)]
 pub struct Setting {
     pub k: usize,
     pub growing: bool,
@@ -23,7 +23,7 @@ pub struct Setting {
 
 // The plan held: its words, its vehicles and how far it drives; how many trials were made, which K is at hand, where its list goes on, and
 // whether the search has ended, settled or not.
-#[derive(Drop)]
+#[derive(Clone, Copy)]
 pub struct Search {
     pub words: usize,
     pub count: usize,

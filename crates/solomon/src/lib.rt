@@ -1,4 +1,6 @@
 // A text of the public Solomon form brought in as a day file.
+#![tactic(auto)]
+
 ghost use Rattle.std.specs.Prelude.{◌≡◌, ◌≤◌, length};
 ghost use Rattle.rules.specs.DayFile.{words_of};
 ghost use Rattle.rules.specs.Lists.{over};

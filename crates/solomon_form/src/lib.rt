@@ -1,4 +1,6 @@
 // A text held against the public Solomon form, field by field: the first fault is the one at the earliest byte.
+#![tactic(auto)]
+
 mod faults;
 
 ghost use Rattle.std.specs.Prelude.{◌≡◌, ◌-◌, ◌≤◌, ◌<◌};

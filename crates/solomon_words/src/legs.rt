@@ -66,7 +66,7 @@ fn customer_of(place: usize) -> usize
 }
 
 // A leg by its places.
-#[derive(Drop)]
+#[derive(Clone, Copy)]
 pub struct Way {
     pub from: usize,
     pub to: usize,

@@ -1,4 +1,6 @@
 // The words of the day that a text gives, written from a table of its numbers.
+#![tactic(auto)]
+
 mod legs;
 pub mod numbers;
 mod words;
@@ -13,7 +15,7 @@ use crate::legs::write_legs;
 use crate::words::write_front;
 
 // What a text says beside its customers: the capacity, and how many stops there are.
-#[derive(Drop)]
+#[derive(Clone, Copy)]
 pub struct Instance {
     pub load: u32,
     pub stops: usize,

@@ -1,4 +1,6 @@
 // The span of an edit: from the first to the last word of a vehicle that it changes.
+#![tactic(auto)]
+
 ghost use Rattle.std.specs.Prelude.{◌<◌, ◌≡◌, map, length};
 ghost use Rattle.rules.specs.Tests.{if◌then◌else◌};
 ghost use Rattle.rules.specs.Plan.{Round, task_word};
@@ -9,7 +11,7 @@ use edits::Edit;
 use plan_words::STOP;
 
 // From the first to the last changed word, counted from 0 among the words of the vehicle's tasks.
-#[derive(Drop)]
+#[derive(Clone, Copy)]
 pub struct Span {
     pub first: usize,
     pub last: usize,

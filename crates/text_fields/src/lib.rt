@@ -1,10 +1,12 @@
 // Lines, fields and numbers of a text: every place of every text has an answer, and nothing is required.
+#![tactic(auto)]
+
 ghost use Rattle.std.specs.Prelude.{◌≡◌, not, ◌+◌, ◌*◌, ◌-◌, ◌≤◌, ◌<◌, min, length, drop};
 ghost use Rattle.rules.specs.TextFields.{is_blank, is_gap, is_digit, passed, next_field, next_line, ends_line, is_number, starts_with, is_word};
 ghost use Rattle.text_fields.specs.Runs.{in_run, held_at};
 
 // Bytes of one kind, one behind the other: blanks, what stands between lines, a field, a line, digits.
-#[derive(Drop)]
+#[derive(Clone, Copy)]
 pub enum Run {
     Blanks,
     Gaps,

@@ -1,4 +1,6 @@
 // Tables of the present plan, by which a trial is measured without walking all of a vehicle.
+#![tactic(auto)]
+
 pub mod before;
 pub mod measure;
 pub mod tables;

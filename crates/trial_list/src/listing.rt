@@ -11,7 +11,7 @@ use edits::Edit;
 use plan_words::{REST, TIP};
 
 // What is done, and the numbers of the vehicles that it touches, which may be one and the same.
-#[derive(Drop)]
+#[derive(Clone, Copy)]
 pub struct Trial {
     pub edit: Edit,
     pub one: usize,
@@ -19,7 +19,7 @@ pub struct Trial {
 }
 
 // A stop, the rank of a neighbour, and whether the first trial of the pair is passed.
-#[derive(Drop)]
+#[derive(Clone, Copy)]
 pub struct PairPlace {
     pub stop: usize,
     pub rank: usize,
@@ -27,7 +27,7 @@ pub struct PairPlace {
 }
 
 // A vehicle and a task of it, both counted from 0, and the next tip to try, 0 for the removal.
-#[derive(Drop)]
+#[derive(Clone, Copy)]
 pub struct TipPlace {
     pub vehicle: usize,
     pub task: usize,
@@ -35,14 +35,14 @@ pub struct TipPlace {
 }
 
 // Where the list goes on: first the pairs, then the tips.
-#[derive(Drop)]
+#[derive(Clone, Copy)]
 pub struct Cursor {
     pub pairs: PairPlace,
     pub tips: TipPlace,
 }
 
 // A trial of a pair, and the place behind it; or none.
-#[derive(Drop)]
+#[derive(Clone, Copy)]
 pub struct PairListed {
     pub found: bool,
     pub trial: Trial,
@@ -50,7 +50,7 @@ pub struct PairListed {
 }
 
 // A trial of a tip, and the place behind it; or none.
-#[derive(Drop)]
+#[derive(Clone, Copy)]
 pub struct TipListed {
     pub found: bool,
     pub trial: Trial,
@@ -58,7 +58,7 @@ pub struct TipListed {
 }
 
 // The next trial, and the cursor behind it; or none where the list is at its end.
-#[derive(Drop)]
+#[derive(Clone, Copy)]
 pub struct Listed {
     pub found: bool,
     pub trial: Trial,

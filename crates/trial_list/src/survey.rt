@@ -31,7 +31,7 @@ fn place_of(tips: usize, w: u32) -> usize
 }
 
 // Where a vehicle is, and how far it drove.
-#[derive(Drop)]
+#[derive(Clone, Copy)]
 pub struct Ride {
     pub place: usize,
     pub distance: u32,
@@ -68,7 +68,7 @@ fn mark_stop(vehicles: &mut [u8], number: u8, w: u32)
 }
 
 // What one vehicle's words come to: the place behind its E word, and how far it drives.
-#[derive(Drop)]
+#[derive(Clone, Copy)]
 pub struct Driven {
     pub end: usize,
     pub distance: u32,

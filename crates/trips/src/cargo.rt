@@ -53,7 +53,7 @@ pub fn tip_out(full: Cargo) -> Cargo
 }
 
 // The most that a vehicle may carry at once, in a day, and the most stops.
-#[derive(Drop)]
+#[derive(Clone, Copy)]
 pub struct Limits {
     pub load: u32,
     pub kg: u32,

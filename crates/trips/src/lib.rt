@@ -1,4 +1,6 @@
 // What a vehicle carries, where and when it is, and the counts of a plan.
+#![tactic(auto)]
+
 pub mod cargo;
 pub mod tally;
 pub mod trip;

@@ -9,7 +9,7 @@ ghost use Rattle.trips.specs.Trips.{no_trip, DrivenTo, TripWithin};
 use rules::walk::Trip;
 
 // A trip after a word, or the word's fault, which is not 0; the trip means nothing then.
-#[derive(Drop)]
+#[derive(Clone, Copy)]
 pub struct Driven {
     pub fault: u32,
     pub trip: Trip,

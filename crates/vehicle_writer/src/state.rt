@@ -17,7 +17,7 @@ use rules::walk::{Cargo, Trip};
 use trips::cargo::{load_on, nothing, tip_out};
 use ways_home::home::{rest_if_due, visit, visit_stop};
 
-#[derive(Drop)]
+#[derive(Clone, Copy)]
 pub struct State {
     pub trip: Trip,
     pub cargo: Cargo,
@@ -111,7 +111,7 @@ fn rest_state(day: &[u32], layout: Layout, state: State) -> State
 }
 
 // A vehicle that has rested if due, with its next task before it.
-#[derive(Drop)]
+#[derive(Clone, Copy)]
 pub struct Ready {
     pub state: State,
     pub next: Next,

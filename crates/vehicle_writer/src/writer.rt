@@ -24,7 +24,7 @@ fn write_rest(day: &[u32], layout: Layout, trip: Trip, part: &mut [u32], at: usi
 }
 
 // Where the writer of one vehicle stands: the vehicle, ready for its next task, and how many words there are.
-#[derive(Drop)]
+#[derive(Clone, Copy)]
 struct Progress {
     ready: Ready,
     at: usize,
@@ -47,7 +47,7 @@ fn write_task(day: &[u32], layout: Layout, ready: Ready, part: &mut [u32], at: u
 }
 
 // What the writer of one vehicle hands back: the stops still to be routed, and how many words it wrote.
-#[derive(Drop)]
+#[derive(Clone, Copy)]
 pub struct Written {
     pub left: Marks,
     pub words: usize,

@@ -16,7 +16,7 @@ use ways_home::home::{is_due, rest_if_due, visit, visit_stop};
 use ways_home::tips::nearest_tip;
 
 // Where and when the vehicle is, its load, how many words it has, and whether the trial has failed.
-#[derive(Drop)]
+#[derive(Clone, Copy)]
 pub struct Cab {
     pub trip: Trip,
     pub load: u32,

@@ -33,7 +33,7 @@ pub fn walk_word(day: &[u32], layout: Layout, c: Cab, w: u32, part: &mut [u32]) 
 }
 
 // The word that is walked next, the one that waits behind it, 0 for none, and the task that is looked at then.
-#[derive(Drop)]
+#[derive(Clone, Copy)]
 pub struct Turn {
     pub word: u32,
     pub waiting: u32,
@@ -113,7 +113,7 @@ fn walk_tasks(
 }
 
 // How many words the vehicle has, how far it drives, and whether the trial has failed.
-#[derive(Drop)]
+#[derive(Clone, Copy)]
 pub struct Walked {
     pub words: usize,
     pub distance: u32,

@@ -1,7 +1,7 @@
 // The best so far of a search for the least key. Its key is carried along, so that each key is read once.
 
 // A number from 1 on with its key; number 0 is none.
-#[derive(Drop)]
+#[derive(Clone, Copy)]
 pub struct Best {
     pub number: usize,
     pub key: u32,

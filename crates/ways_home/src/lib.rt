@@ -1,4 +1,6 @@
 // The nearest tip, and whether a vehicle has a way home.
+#![tactic(auto)]
+
 pub mod best;
 pub mod home;
 pub mod tips;

@@ -11,7 +11,7 @@ use trips::tally::{none_told, one_back, one_left, one_out, one_served, same_tall
 use trips::trip::{back, leave, nowhere, rest, same_trip, visit_stop, visit_tip};
 
 // The walk between two words, but for the stops met.
-#[derive(Drop)]
+#[derive(Clone, Copy)]
 pub struct State {
     pub tally: Tally,
     pub cargo: Cargo,
@@ -20,7 +20,7 @@ pub struct State {
 
 // The state after a word and the stop that the word names, 0 for none; or the word's fault, which is not 0, and then the rest means
 // nothing.
-#[derive(Drop)]
+#[derive(Clone, Copy)]
 pub struct Step {
     pub fault: u32,
     pub stop: usize,

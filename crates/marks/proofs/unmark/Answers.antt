@@ -1,0 +1,20 @@
+-- `unmark` takes the mark of its number off, by `unmark_words`; the set bit is at most the word, by `bit_le`.
+use native.Mathlib.Omega.{arith}
+use mir.Syntax.{w64}
+use borrow.Author.Rules.{rules}
+use Rattle.laws.proofs.Arrays.{array_length}
+use Rattle.laws.proofs.Bits.{bit_le, one_shl}
+use Rattle.laws.proofs.Marks.{marked_within, marked_bit, unmark_words}
+use Rattle.marks.proofs.unmark.Goals as goal
+
+pub bounds-next-i : goal.bounds-next-i
+bounds-next-i c = omega (arith, marked_within _ _ c.requires, array_length w64 4 c.args.m.words _ c.well_formed.0.1.1.0)
+
+pub overflow_sub-next : goal.overflow_sub-next
+overflow_sub-next c = rw one_shl (bit_le _ _ (marked_bit _ _ c.requires))
+
+pub bounds-next-i-2 : goal.bounds-next-i-2
+bounds-next-i-2 c = omega (arith, marked_within _ _ c.requires, array_length w64 4 c.args.m.words _ c.well_formed.0.1.1.0)
+
+pub returns : goal.returns
+returns c = rw one_shl (unmark_words _ _ c.requires)

@@ -1,0 +1,13 @@
+-- `trips::trip::rest` meets its contract: a second rest, too late, or taken.
+use borrow.Author.Rules.{rules}
+use Rattle.trips.proofs.Driving.{rest_again, rest_late, rest_kept}
+use Rattle.trips.proofs.trip.rest.Goals as goal
+
+pub returns-then-t : goal.returns-then-t
+returns-then-t c = search rest_again
+
+pub returns-then-hours-start : goal.returns-then-hours-start
+returns-then-hours-start c = search rest_late
+
+pub returns : goal.returns
+returns c = search rest_kept

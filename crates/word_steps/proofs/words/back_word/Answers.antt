@@ -1,0 +1,12 @@
+-- `word_steps::words::back_word` meets its contract: form, then what the word does.
+use borrow.Author.Rules.{rules}
+use Rattle.word_steps.proofs.Forming.{back_formed, is_inside, misformed, goes_on_lem}
+use Rattle.word_steps.specs.Steps.{is_met_in}
+use Rattle.word_steps.proofs.words.back_word.Goals as goal
+
+pub returns-then-not-both : goal.returns-then-not-both
+returns-then-not-both c = search (misformed, back_formed)
+
+pub returns : goal.returns
+unfolding is_met_in
+returns c = search (goes_on_lem, back_formed)
