@@ -101,7 +101,7 @@ stands_size (failed c g z) = z
 stands_size (on_road v c s) = s.text.size
 
 -- behind the last task
-none_left : {day : List ℕ} {e : Edit} {tasks rest : Round} {i waiting : ℕ} → Left day e tasks i waiting rest → length tasks ≤ i → rest ≡ []
+none_left : {day : List ℕ} {e : Edit} {tasks : Round} {i waiting : ℕ} {rest : Round} → Left day e tasks i waiting rest → length tasks ≤ i → rest ≡ []
 unfolding changed
 none_left {tasks = tasks} (from_task i) l = let q : drop i tasks ≡ [] = drop_of_length-le tasks {i = i} l in rw q refl
 none_left (from_waiting i waiting two y g b) l = absurd (omega arith)

@@ -109,7 +109,7 @@ walk_append day [] ys o = refl
 walk_append day (task ∷ xs) ys o = walk_append day xs ys (walk_next day task o)
 
 -- all from a task on
-pub left_all : {day : List ℕ} {e : Edit} {tasks rest : Round} {i waiting : ℕ} → Left day e tasks i waiting rest → waiting ≡ 0 → rest ≡ changed e i (drop i tasks)
+pub left_all : {day : List ℕ} {e : Edit} {tasks : Round} {i waiting : ℕ} {rest : Round} → Left day e tasks i waiting rest → waiting ≡ 0 → rest ≡ changed e i (drop i tasks)
 left_all (from_task i) z = refl
 left_all (from_waiting i waiting two y l b) z = absurd (y z)
 
@@ -149,7 +149,7 @@ module _ (day : List ℕ) (e : Edit) (tasks : Round) (t : ℕ) (l : t < length t
             ∙ append_assoc b.one b.two (changed e (t + 1) (drop (t + 1) tasks));
       }
 
-pub turn_waiting : {day : List ℕ} {e : Edit} {tasks rest : Round} {t waiting : ℕ} (r : Turn) → Left day e tasks t waiting rest → (waiting ≡ 0 → ⊥)
+pub turn_waiting : {day : List ℕ} {e : Edit} {tasks : Round} {t waiting : ℕ} {rest : Round} (r : Turn) → Left day e tasks t waiting rest → (waiting ≡ 0 → ⊥)
     → r.word ≡ waiting → r.waiting ≡ 0 → r.next ≡ t + 1 → Turned day e tasks rest r
 turn_waiting r (from_task i) z w n m = absurd (z refl)
 turn_waiting {e = e} {tasks = tasks} r (from_waiting i waiting two y l b) z w n m =

@@ -1,0 +1,13 @@
+-- `checker::check_accepted` meets its contract: the test is that of the definition.
+use borrow.Author.Rules.{rules}
+use Rattle.rules.specs.Check.{check_words}
+use Rattle.laws.proofs.Tests.{branches}
+use Rattle.checker.proofs.check_accepted.Goals as goal
+
+pub returns-then-plan-gt4096 : goal.returns-then-plan-gt4096
+unfolding check_words
+returns-then-plan-gt4096 c = search branches
+
+pub returns : goal.returns
+unfolding check_words
+returns c = search branches

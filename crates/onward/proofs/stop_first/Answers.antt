@@ -1,0 +1,10 @@
+-- `onward::stop_first` meets its contract.
+use Rattle.onward.proofs.FirstLaws.{stop_fits, stop_over}
+use borrow.Author.Rules.{rules}
+use Rattle.onward.proofs.stop_first.Goals as goal
+
+pub returns-then-q-o : goal.returns-then-q-o
+returns-then-q-o c = search stop_fits
+
+pub returns : goal.returns
+returns c = search stop_over

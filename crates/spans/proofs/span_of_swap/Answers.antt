@@ -1,0 +1,9 @@
+-- `spans::span_of_swap` meets its contract.
+use borrow.Author.Rules.{rules}
+use Rattle.spans.proofs.span_of_swap.Goals as goal
+
+pub returns-then-here : goal.returns-then-here
+returns-then-here c = rw c.if-here.true c.span_of_stop.ensures
+
+pub returns : goal.returns
+returns c = rw c.if-here.false c.span_of_stop-2.ensures

@@ -1,0 +1,14 @@
+-- `trial_list::survey::is_vehicle` meets its contract.
+use mathlib.Core.Path.{refl}
+use borrow.Author.Tests.{lt-ltb, le-ltb}
+use borrow.Author.Rules.{rules}
+use Rattle.trial_list.specs.Survey.{is_vehicle}
+use Rattle.trial_list.proofs.survey.is_vehicle.Goals as goal
+
+pub returns-then-at-plan : goal.returns-then-at-plan
+unfolding is_vehicle
+returns-then-at-plan c = rw (lt-ltb _ _ c.if-at-plan.true) refl
+
+pub returns : goal.returns
+unfolding is_vehicle
+returns c = rw (le-ltb _ _ c.if-at-plan.false) refl

@@ -1,0 +1,10 @@
+-- `trial_list::survey::place_of` meets its contract.
+use borrow.Author.Rules.{rules}
+use Rattle.trial_list.proofs.RideLaws.{place_of_stop, place_of_tip}
+use Rattle.trial_list.proofs.survey.place_of.Goals as goal
+
+pub returns-then-w-lt-TIP : goal.returns-then-w-lt-TIP
+returns-then-w-lt-TIP c = search place_of_stop
+
+pub returns : goal.returns
+returns c = search place_of_tip

@@ -1,0 +1,7 @@
+-- `vehicle_writer::writer::write_rest` meets its contract.
+use Rattle.vehicle_writer.proofs.GoingLaws.{rest_put, rest_none}
+use borrow.Author.Rules.{rules}
+use Rattle.vehicle_writer.proofs.writer.write_rest.Goals as goal
+
+pub returns-then-is_due : goal.returns-then-is_due
+returns-then-is_due c = search rest_put

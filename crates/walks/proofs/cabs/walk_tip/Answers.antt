@@ -1,0 +1,10 @@
+-- `walks::cabs::walk_tip` meets its contract.
+use Rattle.walks.proofs.WalkLaws.{tip_dropped, tip_driven}
+use borrow.Author.Rules.{rules}
+use Rattle.walks.proofs.cabs.walk_tip.Goals as goal
+
+pub returns-then-c-eq0 : goal.returns-then-c-eq0
+returns-then-c-eq0 c = search tip_dropped
+
+pub returns : goal.returns
+returns c = search tip_driven
