@@ -188,6 +188,7 @@ module _ {P M : Type 0} (lists : P → List (List M)) (attempt : P → M → Opt
 pub in_turn_mem : {P M N : Type 0} (list : N → P → List M) (Ks : List N) (K : N) (p : P) (m : M) → Memᴰ K Ks → Memᴰ m (list K p)
     → Memᴰ m (in_turn (map (λ K. list K p) Ks))
 unfolding in_turn
+in_turn_mem list [] K' p m i j = elim i [ ]
 in_turn_mem list (K ∷ Ks) K' p m i j = elim (Memᴰ.cases_cons i) [
   | inl e ↦ Memᴰ.append_left (in_turn (map (λ K. list K p) Ks)) (rw e at j)
   | inr i' ↦ Memᴰ.append_right (list K p) (in_turn_mem list Ks K' p m i' j)

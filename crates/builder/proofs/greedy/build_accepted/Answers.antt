@@ -1,0 +1,31 @@
+-- `builder::greedy::build_accepted` meets its contract.
+use Rattle.builder.proofs.BuiltPlans.{short_answer, short_buffer, long_buffer, long_answer, not_refused, plan_fits}
+use Rattle.day.proofs.Ranges.{accepted_ranges}
+use borrow.Author.Rules.{rules}
+use native.Mathlib.Omega.{arith}
+use Rattle.builder.proofs.greedy.build_accepted.Goals as goal
+
+pub returns-then-plan-need-clause-answer : goal.returns-then-plan-need-clause-answer
+returns-then-plan-need-clause-answer c = search short_answer
+
+pub returns-then-plan-need-clause-buffer : goal.returns-then-plan-need-clause-buffer
+returns-then-plan-need-clause-buffer c = search short_buffer
+
+pub write_plan-size-requires : goal.write_plan-size-requires
+write_plan-size-requires c = let p = c.requires in
+    (p.0, omega (arith, (accepted_ranges _ p.1).stops_most, p.0.stops_are), c.if-plan-need.false)
+
+pub slice_bounds-check_accepted-end : goal.slice_bounds-check_accepted-end
+slice_bounds-check_accepted-end c = search plan_fits
+
+pub returns-in-Lawful-clause-answer : goal.returns-in-Lawful-clause-answer
+returns-in-Lawful-clause-answer c = search long_answer
+
+pub returns-in-Lawful-clause-buffer : goal.returns-in-Lawful-clause-buffer
+returns-in-Lawful-clause-buffer c = search long_buffer
+
+pub returns-in-Refused-clause-answer : goal.returns-in-Refused-clause-answer
+returns-in-Refused-clause-answer c = absurd (search not_refused)
+
+pub returns-in-Refused-clause-buffer : goal.returns-in-Refused-clause-buffer
+returns-in-Refused-clause-buffer c = absurd (search not_refused)

@@ -1,0 +1,14 @@
+-- `search_steps::held::make_tables` meets its contract.
+use Rattle.search_steps.proofs.TakeOverLaws.{held_short, held_plan, held_trackable, tables_made}
+use borrow.Author.Rules.{rules}
+use Rattle.search_steps.proofs.held.make_tables.Goals as goal
+
+pub survey-count-requires-clause-layout_of : goal.survey-count-requires-clause-layout_of
+survey-count-requires-clause-layout_of c = search (rules, held_short, held_plan)
+
+pub track-requires-clause-layout_of : goal.track-requires-clause-layout_of
+track-requires-clause-layout_of c = let p = c.requires in
+    (p.0.0, p.0.1, held_trackable p.0.1 p.0.2 p.0.0 p.0.3 c.survey.ensures)
+
+pub returns : goal.returns
+returns c = search tables_made

@@ -1,0 +1,9 @@
+-- `search_steps::steps::begin` meets its contract.
+use Rattle.search_steps.proofs.BeginLaws.{begins}
+use Rattle.search_steps.proofs.TakeOverLaws.{some_held}
+use borrow.Author.Rules.{rules}
+use Rattle.search_steps.proofs.steps.begin.Goals as goal
+
+pub returns : goal.returns
+returns c = let p = c.requires.layout_of in
+    begins p.2 c.make_tables-count.ensures p.3 c.first_trial.ensures c.going.ensures

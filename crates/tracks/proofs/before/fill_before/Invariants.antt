@@ -1,0 +1,22 @@
+-- `tracks::before::fill_before` meets its contract.
+use borrow.Author.Rules.{rules}
+use Prim.Native.Nat.{ℕ, ◌-◌}
+use mathlib.Core.Path.{◌≡◌, refl, sym, ◌∙◌}
+use mathlib.Core.List.{List, [], ◌∷◌}
+use native.Mathlib.Omega.{arith}
+use lib.ListN.{length}
+use Rattle.rules.specs.PlanWords.{vehicle_word}
+use Rattle.rules.specs.Plan.{Round}
+use Rattle.laws.specs.Buffer.{Wrote}
+use Rattle.laws.proofs.Buffer.{wrote_none, wrote_put}
+use Rattle.walks.proofs.MidwayLaws.{stands_size}
+use Rattle.tracks.specs.Before.{RowsKept, Walks}
+use Rattle.tracks.specs.Tables.{before_words}
+use Rattle.tracks.proofs.BeforeLaws.{Filling, place_small, leaving_place, filling_start, filling_task, filling_stands, filling_step, filling_whole}
+use Rattle.tracks.proofs.before.fill_before.Given as goal
+
+abbrev pub invariant-loop-i : goal.invariant-loop-i
+invariant-loop-i l = (length l.before ≡ before_words) × RowsKept l.from l.initial.before l.before × ((p : List ℕ) (ts : Round) → Wrote (vehicle_word 0 ∷ []) p l.initial.part 1 → Walks l.day l.words p ts → Filling l.day l.before l.from p l.part ts l.i l.c)
+
+abbrev pub decreases-loop-i : goal.decreases-loop-i
+decreases-loop-i l = length l.words - l.i
