@@ -1,5 +1,4 @@
 -- `answer_numbers::write_day_answer` meets its contract: each case's values fill the six places.
-use borrow.Author.Rules.{rules}
 use Rattle.rules.specs.Answers.{in_six}
 use Rattle.answer_numbers.proofs.write_day_answer.Goals as goal
 

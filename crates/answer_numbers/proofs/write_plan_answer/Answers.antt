@@ -1,6 +1,5 @@
 -- `answer_numbers::write_plan_answer` meets its contract.
 use Rattle.rules.specs.Answers.{in_six}
-use borrow.Author.Rules.{rules}
 use Rattle.answer_numbers.proofs.write_plan_answer.Goals as goal
 
 pub returns-in-Planned : goal.returns-in-Planned

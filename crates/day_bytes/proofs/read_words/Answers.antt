@@ -1,5 +1,4 @@
 -- `day_bytes::read_words` meets its contract: one law for each way through it.
-use borrow.Author.Rules.{rules}
 use Rattle.day_bytes.proofs.Reading.{odd_refused, few_refused, room_refused, words_read}
 use Rattle.day_bytes.proofs.read_words.Goals as goal
 

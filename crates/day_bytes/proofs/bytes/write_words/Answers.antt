@@ -1,10 +1,7 @@
 -- `day_bytes::bytes::write_words` meets its contract: the first i words stand at the buffer's front.
-use Prim.Native.Nat.{◌≤◌, ◌-◌}
 use borrow.Author.Rules.{rules}
 use native.Mathlib.Omega.{arith}
-use Rattle.rules.specs.Bytes.{byte_words}
-use Rattle.laws.specs.Buffer.{Wrote}
-use Rattle.day_bytes.proofs.Reading.{words_start, words_next, words_end}
+use Rattle.day_bytes.proofs.Reading.{words_start, words_next}
 use Rattle.day_bytes.proofs.bytes.write_words.Goals as goal
 
 pub loop-i-init : goal.loop-i-init
