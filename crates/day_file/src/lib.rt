@@ -1,10 +1,12 @@
 // The program on a day file: reads day.bin and prints its plan. What is printed of the bytes read is plan_text's promise.
 #![tactic(auto)]
 
-ghost use Rattle.std.specs.Prelude.{◌≡◌, ◌+◌, ◌≤◌, length};
+ghost use Rattle.std.specs.Prelude.{◌≡◌, ◌+◌, ◌≤◌, length, IfOk};
 ghost use Rattle.io.specs.Counts.{IsPrefixLen};
 
-use libc::STDOUT_FILENO;
+use std::io::Read;
+use std::rt::Files;
+use std::{fs, io};
 
 // One byte more than a day file may have, to tell a longer one.
 fn space() -> [u8; 65537]
@@ -19,65 +21,43 @@ fn blank_text() -> [u8; 16384]
     [0; 16384]
 }
 
-// What one read gave: that it failed, or how many bytes.
-#[derive(Clone, Copy)]
-struct Got {
-    failed: bool,
-    count: usize,
-}
-
-// One read into the space from place `at` on.
-fn read_from(fd: i32, bytes: &mut [u8], at: usize) -> Got
+// One read into the space from place `at` on: that it failed, or how many bytes it gave.
+fn read_from(file: &mut impl Read, bytes: &mut [u8], at: usize) -> io::Result<usize>
     requires { at ≤ length bytes.old }
-    ensures { at + result.count ≤ length bytes.old }
+    ensures { IfOk result (λ count. at + count ≤ length bytes.old) }
 {
-    let got = libc::read(fd, &mut bytes[at..]);
-    if got < 0 {
-        return Got {
-            failed: true,
-            count: 0,
-        };
-    }
-    Got {
-        failed: false,
-        count: io::count(got, &bytes[at..]),
-    }
+    file.read(&mut bytes[at..])
 }
 
 // Reads to the file's end, or until the space is full; a file that cannot be read counts as empty.
-fn read_all(fd: i32, bytes: &mut [u8]) -> usize
+fn read_all(file: &mut impl Read, bytes: &mut [u8]) -> usize
     ensures { IsPrefixLen result bytes.new }
 {
     let mut at: usize = 0;
     while at < bytes.len() {
-        let got = read_from(fd, bytes, at);
-        if got.failed {
-            return 0;
+        match read_from(file, bytes, at) {
+            Ok(0) => return at,
+            Ok(count) => at += count,
+            Err(_) => return 0,
         }
-        if got.count == 0 {
-            return at;
-        }
-        at += got.count;
     }
     at
 }
 
-fn read_day(bytes: &mut [u8]) -> usize
+// A file that cannot be opened counts as empty too.
+fn read_day(rt: &impl Files, bytes: &mut [u8]) -> usize
     ensures { IsPrefixLen result bytes.new }
 {
-    let fd = os::open_read(b"day.bin");
-    if fd < 0 {
-        return 0;
+    match fs::open(rt, "day.bin") {
+        Ok(mut file) => read_all(&mut file, bytes),
+        Err(_) => 0,
     }
-    let count = read_all(fd, bytes);
-    libc::close(fd);
-    count
 }
 
-pub fn print_plan() {
+pub fn print_plan(rt: &(impl Files + Print)) -> io::Result<()> {
     let mut bytes = space();
-    let read = read_day(&mut bytes);
+    let read = read_day(rt, &mut bytes);
     let mut text = blank_text();
     let count = plan_text::plan_text(&bytes[..read], &mut text);
-    io::write_all(STDOUT_FILENO, &text[..count]);
+    rt.write_all(&text[..count])
 }

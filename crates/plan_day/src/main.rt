@@ -1,6 +1,8 @@
 // Prints the plan of day M.
 #![tactic(auto)]
 
-fn main() {
-    day_file::print_plan();
+use std::io;
+
+fn main(rt: HostRuntime) -> io::Result<()> {
+    day_file::print_plan(&rt)
 }

@@ -1,6 +1,8 @@
 // Day M and zeros behind it, one byte more than is read.
 #![tactic(auto)]
 
-fn main() {
-    day_file::print_plan();
+use std::io;
+
+fn main(rt: HostRuntime) -> io::Result<()> {
+    day_file::print_plan(&rt)
 }
