@@ -13,7 +13,10 @@ use rules::answers::WordsAnswer;
 use text::lines::{put_answer, put_refused};
 use text::put::put_bytes;
 
-// Words enough for 65,536 bytes.
+// The most bytes that a day file may have.
+const MOST_BYTES: usize = 65536;
+
+// Words enough for as many bytes.
 fn day_words() -> [u32; 16384]
     ensures { 16384 ≡ length result }
 {
@@ -49,7 +52,7 @@ pub fn plan_text(bytes: &[u8], text: &mut [u8; 16384]) -> usize
     ensures text { text.new ≡ over (printed bytes.now) text.old }
     ensures within { (result ≤ length text.new) × (result ≡ length (take result text.new)) }
 {
-    if 65536 < bytes.len() {
+    if MOST_BYTES < bytes.len() {
         return put_bytes(text, 0, b"too long\n");
     }
     put_file(text, bytes)
