@@ -1,8 +1,7 @@
 // Each answer as six numbers: 0 and its values, or the refusal's number and place; what is not named is 0.
 #![tactic(auto)]
 
-ghost use Rattle.std.specs.Prelude.{◌≡◌, [], ◌∷◌};
-ghost use Rattle.rules.specs.Tests.{if◌then◌else◌};
+ghost use Rattle.std.specs.Prelude.{◌≡◌, [], ◌∷◌, if◌then◌else◌};
 ghost use Rattle.rules.specs.Answers.{in_six};
 ghost use Rattle.rules.specs.AnswerValues.{words_values, import_values, day_values, answer_values, place_values, rounds_values, plan_values};
 

@@ -1,6 +1,5 @@
 -- The words of the stops that no vehicle routes while they are written, by what they say. It serves the contracts of this crate's own functions. Assumes nothing.
-use Rattle.std.specs.Prelude.{ℕ, zero, suc, ◌<◌, ◌≡◌, Bool, false, List, [], ◌∷◌, ◌++◌, map}
-use Rattle.rules.specs.Tests.{if◌then◌else◌}
+use Rattle.std.specs.Prelude.{ℕ, zero, suc, ◌<◌, ◌≡◌, Bool, false, List, [], ◌∷◌, ◌++◌, map, if◌then◌else◌}
 use Rattle.rules.specs.PlanWords.{Word, left}
 use Rattle.rules.specs.Build.{remaining}
 use Rattle.laws.specs.Marks.{marked}

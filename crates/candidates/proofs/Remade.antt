@@ -1,6 +1,7 @@
 -- What a trial that may be made of a plan makes of its vehicles: known numbers, room for their words, and each stop where the one stood
 -- whose place it takes. The day may be any list of words.
 -- Assumes nothing.
+use Rattle.std.specs.Prelude.{if◌then◌else◌}
 use Prim.Native.Nat.{ℕ, suc, ◌<◌}
 use mathlib.Core.Path.{◌≡◌, refl, sym, ap, ◌∙◌, subst}
 use mathlib.Core.Bool.{Bool, true, false, ◌||◌, true≢false}
@@ -10,7 +11,6 @@ use mathlib.Core.Option.{some, some-injective}
 use native.Mathlib.Omega.{arith}
 use lib.Dec.{eqb}
 use lib.ListN.{length, length-append}
-use Rattle.rules.specs.Tests.{if◌then◌else◌}
 use Rattle.rules.specs.Lists.{Every, times}
 use Rattle.rules.specs.Plan.{Round, stops_on, stops_on_all, Known}
 use Rattle.rules.specs.Edits.{changed, Trial, touches}

@@ -1,9 +1,8 @@
 // The plan that a trial gives, written whole.
 #![tactic(auto)]
 
-ghost use Rattle.std.specs.Prelude.{◌≡◌, ◌||◌, List, ◌<◌, ◌≤◌, ◌*◌, eqb, length};
+ghost use Rattle.std.specs.Prelude.{◌≡◌, ◌||◌, List, ◌<◌, ◌≤◌, ◌*◌, eqb, length, if◌then◌else◌};
 ghost use Rattle.std.proofs.Math.Option.{some};
-ghost use Rattle.rules.specs.Tests.{if◌then◌else◌};
 ghost use Rattle.rules.specs.Fields.{IsAccepted};
 ghost use Rattle.rules.specs.Plan.{Round};
 ghost use Rattle.rules.specs.Edits.{changed};

@@ -1,5 +1,6 @@
 -- The ranges of an accepted day: what `Accepted` says, from no word being at fault.
 -- Assumes nothing.
+use Rattle.std.specs.Prelude.{if◌then◌else◌}
 use Prim.Native.Nat.{ℕ, ◌+◌, ◌-◌, ◌*◌, ◌%◌, ◌<◌, ◌≤◌}
 use mathlib.Core.Path.{◌≡◌, refl, sym, subst, ◌∙◌}
 use mathlib.Core.List.{List}
@@ -9,7 +10,6 @@ use native.Mathlib.Omega.{arith}
 use lib.ListN.{length}
 use lib.Dec.{eqb}
 use borrow.Author.Tests.{eq-eqb}
-use Rattle.rules.specs.Tests.{if◌then◌else◌}
 use Rattle.rules.specs.DayFile.{Form, lone, window, leg, stay, head_form, form_at, fault_of}
 use Rattle.rules.specs.Fields.{word_at, tips, stops, places, stop_place, window_index, opening, closing, service, leg_index, leg_word, leg_minutes, IsAccepted}
 use Rattle.day.specs.Accepted.{Accepted}

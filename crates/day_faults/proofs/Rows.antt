@@ -1,5 +1,6 @@
 -- The legs, row by row: the look at a whole row, its words one by one, and the loop over the rows.
 -- Assumes nothing.
+use Rattle.std.specs.Prelude.{if◌then◌else◌}
 use Prim.Native.Nat.{ℕ, zero, suc, ◌+◌, ◌-◌, ◌*◌, ◌<◌, ◌≤◌}
 use mathlib.Core.Path.{◌≡◌, refl, sym, ap, ◌∙◌}
 use mathlib.Core.List.{List}
@@ -11,7 +12,6 @@ use lib.ListN.{length, get_or}
 use lib.Dec.{eqb}
 use borrow.Author.Count.{below_more}
 use borrow.Author.Tests.{eq-eqb, ne_eqb, eqb-true, eqb-false}
-use Rattle.rules.specs.Tests.{if◌then◌else◌}
 use Rattle.rules.specs.DayFile.{leg, stay, places_of, legs_at, form_at, fault_of}
 use Rattle.rules.specs.Fields.{leg_index}
 use Rattle.day.proofs.Forms.{leg_form_lem, row_below}

@@ -1,7 +1,6 @@
 -- How the judge goes over a day in parts. It serves contracts; no definition of the day rests on it.
 -- Assumes nothing.
-use Rattle.std.specs.Prelude.{ℕ, ◌+◌, ◌*◌, ◌<◌, ◌≤◌, ◌≡◌, List, length, get_or, drop, eqb}
-use Rattle.rules.specs.Tests.{if◌then◌else◌}
+use Rattle.std.specs.Prelude.{ℕ, ◌+◌, ◌*◌, ◌<◌, ◌≤◌, ◌≡◌, List, length, get_or, drop, eqb, if◌then◌else◌}
 use Rattle.rules.specs.Answers.{refused}
 use Rattle.rules.specs.DayFile.{places_of, legs_at, words_of, judge_from}
 use Rattle.day_faults.specs.declared.faults.Fault.{Fault}

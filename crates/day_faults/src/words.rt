@@ -1,6 +1,5 @@
 // The fault of one word of a day: 2 for its kind or zero bits, 5 for its value, 0 for none.
-ghost use Rattle.std.specs.Prelude.{◌≡◌, ◌<◌};
-ghost use Rattle.rules.specs.Tests.{if◌then◌else◌};
+ghost use Rattle.std.specs.Prelude.{◌≡◌, ◌<◌, if◌then◌else◌};
 ghost use Rattle.rules.specs.DayFile.{lone, window, leg, stay, head_form, fault_of};
 
 // The fault of a lone number: its kind in bits 31-28, bit 27 zero, its value in bits 26-0.

@@ -1,5 +1,6 @@
 -- What an edit does to a vehicle's stops: none is lost, none comes twice, and their number stays. The day may be any list of words.
 -- Assumes nothing.
+use Rattle.std.specs.Prelude.{if◌then◌else◌}
 use Prim.Native.Nat.{ℕ, suc, ◌+◌}
 use mathlib.Core.Path.{◌≡◌, refl, sym, ap, ◌∙◌, subst}
 use mathlib.Core.List.{List, [], ◌∷◌, ◌++◌}
@@ -9,7 +10,6 @@ use native.Mathlib.Omega.{arith}
 use lib.Dec.{eqb}
 use lib.ListN.{length, length-append}
 use borrow.Author.Tests.{eqb-true, eqb-false, eq-eqb, ne_eqb}
-use Rattle.rules.specs.Tests.{if◌then◌else◌}
 use Rattle.rules.specs.Lists.{Every, times}
 use Rattle.rules.specs.Plan.{Task, serve, empty, lunch, Round, stops_on, Known}
 use Rattle.rules.specs.Edits.{Edit, before, after, swap, remove, replace, change_stop, change_tip, change, changed}

@@ -1,6 +1,7 @@
 -- Each edit suits the vehicles that it is listed for: the number of their stops stays, and so does which stops they have but for an
 -- interchange. The day may be any list of words.
 -- Assumes nothing.
+use Rattle.std.specs.Prelude.{if◌then◌else◌}
 use Prim.Native.Nat.{ℕ, ◌+◌}
 use mathlib.Core.Path.{◌≡◌, refl, sym, ap, ◌∙◌}
 use mathlib.Core.Bool.{Bool, true, false}
@@ -10,7 +11,6 @@ use native.Mathlib.Omega.{arith}
 use lib.Dec.{eqb}
 use lib.ListN.{length}
 use borrow.Author.Tests.{eqb-true, eqb-false, eq-eqb, ne_eqb}
-use Rattle.rules.specs.Tests.{if◌then◌else◌}
 use Rattle.rules.specs.Lists.{Every, times}
 use Rattle.rules.specs.Plan.{serve, empty, Round, stops_on, Known}
 use Rattle.rules.specs.Edits.{Edit, before, after, swap, remove, replace, change_stop}

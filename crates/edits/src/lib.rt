@@ -1,9 +1,8 @@
 // What a trial does to the words of a vehicle.
 #![tactic(auto)]
 
-ghost use Rattle.std.specs.Prelude.{◌≡◌, ◌&&◌, eqb, leb, ℕ, List};
+ghost use Rattle.std.specs.Prelude.{◌≡◌, ◌&&◌, eqb, leb, ℕ, List, if◌then◌else◌};
 ghost use Rattle.rules.specs.PlanWords.{tip_word};
-ghost use Rattle.rules.specs.Tests.{if◌then◌else◌};
 ghost use Rattle.rules.specs.Plan.{Task, task_word, Known};
 ghost use Rattle.edits.specs.EditWords.{edit_of, EditKnown, EditSmall, Becomes};
 

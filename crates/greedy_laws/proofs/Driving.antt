@@ -1,6 +1,7 @@
 -- How a vehicle of the greedy build goes on: it rests if due, does its next task, and ends where there is none. As many tasks as it may
 -- do are enough, and more would change nothing. The day may be any list of words.
 -- Assumes nothing.
+use Rattle.std.specs.Prelude.{if◌then◌else◌}
 use Prim.Native.Nat.{ℕ, zero, suc, ◌+◌, ◌*◌, ◌≤◌, ◌<◌}
 use mathlib.Core.Path.{◌≡◌, sym, ◌∙◌, subst}
 use mathlib.Core.Bool.{true, false}
@@ -10,7 +11,6 @@ use mathlib.Core.Option.{none, some}
 use native.Mathlib.Omega.{arith}
 use lib.Dec.{ltb}
 use borrow.Author.Tests.{lt-ltb}
-use Rattle.rules.specs.Tests.{if◌then◌else◌}
 use Rattle.rules.specs.Lists.{unmet}
 use Rattle.rules.specs.Fields.{stops}
 use Rattle.rules.specs.Plan.{Task, lunch}

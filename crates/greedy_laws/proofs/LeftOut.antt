@@ -1,6 +1,7 @@
 -- The stops that the greedy build leaves out: those that no vehicle routes, rising, and no fresh vehicle could take one of them first. The
 -- day may be any list of words.
 -- Assumes nothing.
+use Rattle.std.specs.Prelude.{if◌then◌else◌}
 use Prim.Native.Nat.{ℕ, zero, suc, ◌+◌, ◌*◌, ◌≤◌, ◌<◌}
 use mathlib.Core.Path.{◌≡◌, refl, sym, ap, ◌∙◌, subst}
 use mathlib.Core.Bool.{false, ◌||◌}
@@ -11,7 +12,6 @@ use native.Mathlib.Nat.{eq-or-lt_of_le}
 use native.Mathlib.Omega.{arith}
 use lib.ListN.{length}
 use borrow.Author.Tests.{eq-eqb, ne_eqb}
-use Rattle.rules.specs.Tests.{if◌then◌else◌}
 use Rattle.rules.specs.Lists.{Every, mem, times, unmet, Rising}
 use Rattle.rules.specs.Fields.{stops}
 use Rattle.rules.specs.Plan.{Task}

@@ -1,5 +1,6 @@
 -- The next task of a vehicle of the greedy build: which it can be, and when there is none. The day may be any list of words.
 -- Assumes nothing.
+use Rattle.std.specs.Prelude.{if◌then◌else◌}
 use Prim.Native.Nat.{ℕ, ◌+◌, ◌≤◌, ◌<◌, max}
 use mathlib.Core.Path.{◌≡◌, refl, sym, ap, ◌∙◌, subst}
 use mathlib.Core.Bool.{Bool, true, false, not, ◌&&◌}
@@ -9,7 +10,7 @@ use mathlib.Core.Option.{none, some, some-injective, none-ne-some, some-ne-none}
 use native.Mathlib.Omega.{arith}
 use lib.Dec.{ltb, leb, eqb}
 use borrow.Author.Tests.{eqb-true, eqb-false, ltb-true, ltb-false, leb-true, not-true}
-use Rattle.rules.specs.Tests.{if◌then◌else◌, least}
+use Rattle.rules.specs.Tests.{least}
 use Rattle.rules.specs.Lists.{mem}
 use Rattle.laws.specs.Least.{IsLeast}
 use Rattle.rules.specs.Fields.{stops, tips, stop_place, opening, closing, leg_minutes}

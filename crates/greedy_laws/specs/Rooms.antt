@@ -1,6 +1,5 @@
 -- How many tasks a vehicle has for its stops. No definition of the plan rests on it: it serves contracts and proofs. Assumes nothing.
-use Rattle.std.specs.Prelude.{ℕ, ◌+◌, ◌*◌, ◌≤◌, ◌≡◌, [], ◌∷◌, ltb, length}
-use Rattle.rules.specs.Tests.{if◌then◌else◌}
+use Rattle.std.specs.Prelude.{ℕ, ◌+◌, ◌*◌, ◌≤◌, ◌≡◌, [], ◌∷◌, ltb, length, if◌then◌else◌}
 use Rattle.rules.specs.Plan.{serve, empty, lunch, Round, stops_on}
 use Rattle.rules.specs.Lawful.{rests_in}
 use Rattle.rules.specs.Build.{Truck}

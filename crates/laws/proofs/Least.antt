@@ -1,5 +1,6 @@
 -- Laws of the least key: how a choice goes, what the least is, and how a loop over 1..m finds it.
 -- Assumes nothing.
+use Rattle.std.specs.Prelude.{if◌then◌else◌}
 use Prim.Native.Nat.{ℕ, zero, suc, ◌+◌, ◌≤◌, ◌<◌}
 use mathlib.Core.Path.{◌≡◌, refl, sym, ◌∙◌, subst}
 use mathlib.Core.Bool.{Bool, true, false, ◌&&◌, ◌||◌, true≢false, and-false}
@@ -9,7 +10,7 @@ use native.Mathlib.Numerals.{add-one}
 use native.Mathlib.Omega.{arith}
 use lib.Dec.{ltb, eqb}
 use borrow.Author.Tests.{ltb-true, ltb-false, eqb-true, eqb-false}
-use Rattle.rules.specs.Tests.{if◌then◌else◌, wins, better, least}
+use Rattle.rules.specs.Tests.{wins, better, least}
 use Rattle.laws.specs.Least.{IsLeast}
 
 -- a choice between k and the best so far, b: b stays where k fails or has no lesser key, else k is the best

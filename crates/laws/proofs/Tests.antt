@@ -1,11 +1,12 @@
 -- Laws of decisions: one for each test and each outcome, and what an outcome tells of the test.
 -- Assumes nothing.
+use Rattle.std.specs.Prelude.{if◌then◌else◌}
 use Prim.Native.Nat.{ℕ, ◌<◌, ◌≤◌}
 use mathlib.Core.Path.{◌≡◌, refl}
 use mathlib.Core.Bool.{Bool, true, false, ◌&&◌, false≢true}
 use lib.Dec.{ltb, leb, eqb}
 use borrow.Author.Tests.{le-leb, lt-leb, eq-eqb, ne_eqb, lt-ltb, le-ltb}
-use Rattle.rules.specs.Tests.{if◌then◌else◌, neb}
+use Rattle.rules.specs.Tests.{neb}
 
 -- `search branches` walks a chain of decisions by the facts of the code's branches
 module _ {A : Type 0} where

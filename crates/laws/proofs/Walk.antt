@@ -1,5 +1,6 @@
 -- Laws of a search over marked numbers: how it begins in a word, goes on by one mark, ends the word, and ends.
 -- Assumes nothing.
+use Rattle.std.specs.Prelude.{if◌then◌else◌}
 use Prim.Native.Nat.{ℕ, zero, suc, ◌+◌, ◌-◌, ◌*◌, ◌/◌, ◌%◌, ◌^◌, ◌≤◌, ◌<◌, min}
 use mathlib.Core.Path.{◌≡◌, refl, sym, ap, ap₂, ◌∙◌}
 use mathlib.Core.Bool.{Bool, true, false, and-false}
@@ -11,7 +12,7 @@ use native.Mathlib.Omega.{arith}
 use lib.ListN.{get_or}
 use lib.Dec.{eqb}
 use borrow.Author.Tests.{ne_eqb, eq-eqb}
-use Rattle.rules.specs.Tests.{if◌then◌else◌, better, least}
+use Rattle.rules.specs.Tests.{better, least}
 use Rattle.laws.specs.Bits.{bit, LowestBit}
 use Rattle.laws.specs.Marks.{both, marked, up_to}
 use Rattle.laws.specs.Walk.{least_below, best_of, WordWalk}

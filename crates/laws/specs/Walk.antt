@@ -1,7 +1,7 @@
 -- A search for the least among marked numbers: word by word, and in each word from the lowest bit on.
 -- Assumes nothing.
-use Rattle.std.specs.Prelude.{ℕ, zero, suc, ◌+◌, ◌-◌, ◌≤◌, ◌<◌, min, ◌≡◌, Bool, eqb}
-use Rattle.rules.specs.Tests.{if◌then◌else◌, better, least}
+use Rattle.std.specs.Prelude.{ℕ, zero, suc, ◌+◌, ◌-◌, ◌≤◌, ◌<◌, min, ◌≡◌, Bool, eqb, if◌then◌else◌}
+use Rattle.rules.specs.Tests.{better, least}
 use Rattle.laws.specs.Bits.{bit}
 
 -- the least of the numbers of 1..n that are below `at`

@@ -1,7 +1,6 @@
 -- The table of all neighbours: a row of 50 places for each stop, and the keys that a row is chosen by. It serves the contracts of the
 -- functions that make trials. Assumes nothing.
-use Rattle.std.specs.Prelude.{ℕ, zero, suc, ◌+◌, ◌*◌, ◌%◌, ◌≤◌, ◌<◌, ◌≡◌, List, ltb, eqb, length, get_or}
-use Rattle.rules.specs.Tests.{if◌then◌else◌}
+use Rattle.std.specs.Prelude.{ℕ, zero, suc, ◌+◌, ◌*◌, ◌%◌, ◌≤◌, ◌<◌, ◌≡◌, List, ltb, eqb, length, get_or, if◌then◌else◌}
 use Rattle.rules.specs.Fields.{stops}
 use Rattle.rules.specs.Neighbours.{compatible, neighbour_key, neighbours}
 

@@ -1,5 +1,6 @@
 -- Which stop is taken next: one law for each way through the functions that choose.
 -- Assumes nothing.
+use Rattle.std.specs.Prelude.{if◌then◌else◌}
 use Prim.Native.Nat.{ℕ, ◌+◌, ◌-◌, ◌*◌, ◌^◌, ◌≤◌, ◌<◌}
 use mathlib.Core.Path.{◌≡◌, refl, sym, ap, ◌∙◌}
 use mathlib.Core.Bool.{Bool, true, false, not, ◌&&◌, and-false, and-true, and_assoc}
@@ -8,7 +9,7 @@ use native.Mathlib.Decide.{dec_lt}
 use native.Mathlib.Omega.{arith}
 use lib.Dec.{ltb, leb}
 use borrow.Author.Tests.{le-leb, lt-leb, le-ltb, lt-ltb, leb-true, ltb-true, not-true}
-use Rattle.rules.specs.Tests.{if◌then◌else◌, better, wins}
+use Rattle.rules.specs.Tests.{better, wins}
 use Rattle.rules.specs.Fields.{stop_place, opening, closing, quantity, leg_minutes}
 use Rattle.rules.specs.Cargo.{loaded, over_limits}
 use Rattle.rules.specs.Trip.{arrival, visited}

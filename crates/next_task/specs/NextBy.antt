@@ -1,7 +1,6 @@
 -- The next task by a set of unrouted stops, as the code has it. It serves the contracts of this crate's own functions. Assumes nothing.
-use Rattle.std.specs.Prelude.{ℕ, ◌<◌, ◌≤◌, Bool, true, false, List, ltb}
+use Rattle.std.specs.Prelude.{ℕ, ◌<◌, ◌≤◌, Bool, true, false, List, ltb, if◌then◌else◌}
 use Rattle.std.proofs.Math.Option.{Option, none, some}
-use Rattle.rules.specs.Tests.{if◌then◌else◌}
 use Rattle.rules.specs.Plan.{Task, serve, empty}
 use Rattle.rules.specs.Home.{nearest_tip}
 use Rattle.rules.specs.Choice.{chosen_stop}

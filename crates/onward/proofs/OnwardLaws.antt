@@ -1,5 +1,6 @@
 -- What is left of a vehicle: how far it drives, and within which bounds it is. The day may be any list of words.
 -- Assumes nothing.
+use Rattle.std.specs.Prelude.{if◌then◌else◌}
 use Prim.Native.Nat.{ℕ, zero, suc, ◌+◌, ◌-◌, ◌≤◌}
 use mathlib.Core.Path.{◌≡◌, ap}
 use mathlib.Core.Bool.{Bool, true, false}
@@ -7,7 +8,6 @@ use mathlib.Core.List.{List, [], ◌∷◌}
 use native.Mathlib.Omega.{arith}
 use lib.Dec.{eqb, leb}
 use lib.ListN.{length, drop}
-use Rattle.rules.specs.Tests.{if◌then◌else◌}
 use Rattle.rules.specs.Lists.{Every}
 use Rattle.rules.specs.Fields.{stop_place, load_limit, quantity, leg_distance}
 use Rattle.rules.specs.Plan.{Task, serve, empty, lunch, Round, Known}

@@ -1,7 +1,6 @@
 -- What is left of a vehicle from each of its words on: with which loads it may come so that it is all driven as it stands, the place that
 -- comes next, and the distance behind it. A table has a row for each word of the plan. Assumes nothing.
-use Rattle.std.specs.Prelude.{ℕ, ◌+◌, ◌-◌, ◌*◌, ◌≤◌, ◌<◌, ◌≡◌, List, [], ◌∷◌, ◌⊎◌, eqb, leb, length, get_or, drop}
-use Rattle.rules.specs.Tests.{if◌then◌else◌}
+use Rattle.std.specs.Prelude.{ℕ, ◌+◌, ◌-◌, ◌*◌, ◌≤◌, ◌<◌, ◌≡◌, List, [], ◌∷◌, ◌⊎◌, eqb, leb, length, get_or, drop, if◌then◌else◌}
 use Rattle.rules.specs.Fields.{places, stop_place, load_limit, quantity, leg_distance}
 use Rattle.rules.specs.Plan.{Task, serve, empty, lunch, Round, task_word, Known}
 use Rattle.laws.specs.Plan.{RoundAt}

@@ -1,5 +1,6 @@
 -- What counts of plans' words, by any test of tasks: the words that count of two lawful plans are the same exactly where the tasks that
 -- count of their vehicles are. It is told by what words say. Assumes nothing.
+use Rattle.std.specs.Prelude.{if◌then◌else◌}
 use Prim.Native.Nat.{ℕ, suc}
 use mathlib.Core.Path.{◌≡◌, refl, sym, ap, ap₂, ◌∙◌}
 use mathlib.Core.Bool.{Bool, true, false, false≢true}
@@ -8,7 +9,6 @@ use mathlib.Core.Logic.{◌↔◌}
 use native.Mathlib.Omega.{arith}
 use lib.Dec.{eqb}
 use borrow.Author.Tests.{eq-eqb, eqb-true}
-use Rattle.rules.specs.Tests.{if◌then◌else◌}
 use Rattle.rules.specs.Lists.{Every}
 use Rattle.rules.specs.PlanWords.{Word, vehicle, stop, tip, rest, back, left, stray, kind_of, number_of, vehicle_word, stop_word, tip_word, rest_word, back_word, left_word, word_of, read_plan, same_word}
 use Rattle.rules.specs.Plan.{Task, serve, empty, lunch, Round, word_for}

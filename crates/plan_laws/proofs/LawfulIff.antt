@@ -1,5 +1,6 @@
 -- Demand 2: a plan is called lawful exactly when it has document 01's form, meets its loads and counts, and a timetable exists; its
 -- distance, vehicles and stops served are document 01's. Assumes nothing.
+use Rattle.std.specs.Prelude.{if◌then◌else◌}
 use Prim.Native.Nat.{ℕ, suc, ◌+◌, ◌≤◌}
 use mathlib.Core.Path.{◌≡◌, refl, sym, ap, ap₂, ◌∙◌}
 use mathlib.Core.Bool.{Bool, true, false, false≢true}
@@ -9,7 +10,6 @@ use native.Mathlib.Omega.{arith}
 use lib.ListN.{length}
 use lib.Dec.{ltb, eqb}
 use borrow.Author.Tests.{eqb-true, ltb-false}
-use Rattle.rules.specs.Tests.{if◌then◌else◌}
 use Rattle.rules.specs.Answers.{given, is_given}
 use Rattle.rules.specs.Lists.{Every, unmet, total}
 use Rattle.rules.specs.DayFile.{judge_day}

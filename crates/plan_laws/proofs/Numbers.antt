@@ -1,4 +1,5 @@
 -- Demand 1's refusals: each call answers, or refuses by one of its own numbers, whatever its words, lengths and settings are. Assumes nothing.
+use Rattle.std.specs.Prelude.{if◌then◌else◌}
 use Prim.Native.Nat.{ℕ, suc, ◌*◌, ◌/◌, ◌%◌}
 use mathlib.Core.Path.{◌≡◌, refl, sym, subst}
 use mathlib.Core.Bool.{Bool, true, false, not, ◌||◌, ◌&&◌, false≢true}
@@ -6,7 +7,7 @@ use mathlib.Core.List.{List, [], ◌∷◌}
 use lib.Dec.{ltb, eqb}
 use lib.ListN.{length, get_or, drop}
 use borrow.Author.Tests.{eqb-true}
-use Rattle.rules.specs.Tests.{if◌then◌else◌, neb}
+use Rattle.rules.specs.Tests.{neb}
 use Rattle.rules.specs.Answers.{given, refused, is_given}
 use Rattle.rules.specs.Lists.{mem, unmet}
 use Rattle.rules.specs.DayFile.{Form, tips_in, stops_in, words_of, form_at, kind_right, value_right, fault_of, judge_from, judge_sized, judge_day}

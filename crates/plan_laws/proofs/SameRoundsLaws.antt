@@ -1,5 +1,6 @@
 -- Same rounds: the call answers 1 exactly on two lawful plans whose vehicles visit the same stops in order, and 0 exactly on two other
 -- lawful plans. Assumes nothing.
+use Rattle.std.specs.Prelude.{if◌then◌else◌}
 use Prim.Native.Nat.{ℕ}
 use mathlib.Core.Path.{◌≡◌, refl, sym, ap, ◌∙◌}
 use mathlib.Core.Bool.{Bool, true, false, false≢true}
@@ -7,7 +8,6 @@ use mathlib.Core.List.{List, [], ◌∷◌}
 use mathlib.Core.Logic.{◌↔◌}
 use native.Mathlib.Omega.{arith}
 use lib.ListN.{length, get_or}
-use Rattle.rules.specs.Tests.{if◌then◌else◌}
 use Rattle.rules.specs.Answers.{given, is_given}
 use Rattle.rules.specs.Lists.{mem}
 use Rattle.rules.specs.Fields.{IsAccepted}

@@ -1,6 +1,7 @@
 -- When a vehicle is where: no task of a round, and not its return, is at fault by the minute exactly where the vehicle is in time at its
 -- earliest minutes and takes at most one rest. Also the distance driven.
 -- Assumes nothing.
+use Rattle.std.specs.Prelude.{if◌then◌else◌}
 use Prim.Native.Nat.{ℕ, ◌+◌, ◌≤◌, ◌<◌, max, min}
 use mathlib.Core.Path.{◌≡◌, refl}
 use mathlib.Core.Bool.{Bool, true, false}
@@ -10,7 +11,6 @@ use native.Mathlib.Nat.{add-zero}
 use native.Mathlib.Omega.{arith}
 use lib.Dec.{ltb}
 use borrow.Author.Tests.{ltb-false, le-ltb}
-use Rattle.rules.specs.Tests.{if◌then◌else◌}
 use Rattle.rules.specs.Fields.{stop_place, closing, rest_closing}
 use Rattle.rules.specs.Plan.{serve, empty, lunch, Round}
 use Rattle.rules.specs.Timetable.{InTime, calls}

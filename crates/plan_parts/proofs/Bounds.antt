@@ -1,5 +1,6 @@
 -- The bounds of the walk: a word that passes keeps minutes and loads small, since they are at most a limit of the day's, and adds at most
 -- one to each count and one leg to each distance. Assumes nothing.
+use Rattle.std.specs.Prelude.{if◌then◌else◌}
 use Prim.Native.Nat.{ℕ, ◌+◌, ◌*◌, ◌<◌, ◌≤◌}
 use mathlib.Core.Path.{◌≡◌, refl}
 use mathlib.Core.Bool.{Bool, true, false, false≢true}
@@ -7,7 +8,6 @@ use mathlib.Core.List.{List}
 use native.Mathlib.Omega.{arith}
 use lib.Dec.{ltb}
 use borrow.Author.Tests.{ltb-false}
-use Rattle.rules.specs.Tests.{if◌then◌else◌}
 use Rattle.rules.specs.Fields.{tips, stops, places, stop_place, closing, rest_closing, quantity}
 use Rattle.rules.specs.PlanWords.{Word, vehicle, stop, tip, rest, back, left, stray}
 use Rattle.rules.specs.Cargo.{empty, loaded, over_limits, cargo_fault, cargo_after}

@@ -1,7 +1,6 @@
 -- What the check hands on over many words, or a part of the plan. It serves contracts; no definition of the check rests on it. Assumes
 -- nothing.
-use Rattle.std.specs.Prelude.{ℕ, zero, suc, ◌+◌, ◌<◌, ◌≤◌, ◌≡◌, true, List, [], ◌∷◌, ltb, length, get_or, drop, replicate}
-use Rattle.rules.specs.Tests.{if◌then◌else◌}
+use Rattle.std.specs.Prelude.{ℕ, zero, suc, ◌+◌, ◌<◌, ◌≤◌, ◌≡◌, true, List, [], ◌∷◌, ltb, length, get_or, drop, replicate, if◌then◌else◌}
 use Rattle.rules.specs.Answers.{given, refused}
 use Rattle.rules.specs.Lists.{mem, unmet}
 use Rattle.rules.specs.Fields.{stops}

@@ -1,5 +1,6 @@
 -- What the calls over the check rely on: what a refusal of the check tells, and that a vehicle's words lie within the plan.
 -- Assumes nothing.
+use Rattle.std.specs.Prelude.{if◌then◌else◌}
 use Prim.Native.Nat.{ℕ, suc, ◌+◌, ◌-◌, ◌≤◌}
 use mathlib.Core.Path.{◌≡◌, refl, sym, ap, ◌∙◌}
 use mathlib.Core.Bool.{Bool, true, false, true≢false}
@@ -7,7 +8,6 @@ use mathlib.Core.List.{List, [], ◌∷◌}
 use native.Mathlib.Omega.{arith}
 use lib.ListN.{length, get_or, drop, take}
 use borrow.Author.Tests.{ne_eqb}
-use Rattle.rules.specs.Tests.{if◌then◌else◌}
 use Rattle.rules.specs.Answers.{given, refused, is_given}
 use Rattle.rules.specs.AnswerValues.{answer_values, place_values}
 use Rattle.rules.specs.DayFile.{judge_day}

@@ -1,5 +1,6 @@
 -- The words that count, gone through side by side: one law for each way through the functions that compare two plans.
 -- Assumes nothing.
+use Rattle.std.specs.Prelude.{if◌then◌else◌}
 use Prim.Native.Nat.{ℕ, ◌+◌, ◌≤◌, ◌<◌}
 use mathlib.Core.Path.{◌≡◌, refl, sym, ap₂, ◌∙◌}
 use mathlib.Core.Bool.{Bool, true, false, not}
@@ -10,7 +11,6 @@ use lib.ListN.{length, get_or, drop, drop_of_length-le}
 use lib.Seq.{drop-cons}
 use lib.Dec.{eqb, leb}
 use borrow.Author.Tests.{eqb-false, leb-true, leb-false, not-true, not-false}
-use Rattle.rules.specs.Tests.{if◌then◌else◌}
 use Rattle.rules.specs.PlanWords.{Word, kind_of, vehicle_kind, stop_kind, word_of, same_word}
 use Rattle.rules.specs.SameRounds.{is_visit, counts, counted, same_words}
 use Rattle.plan_words.proofs.WordForms.{Apart, is_vehicle, is_stop, is_tip, is_rest, is_back, is_left, is_stray, apart, stop_told, vehicle_told}

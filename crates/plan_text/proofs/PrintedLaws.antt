@@ -1,4 +1,5 @@
 -- Laws of what is printed of a day file: its bytes read or refused, and the text put from the start on. Assumes nothing.
+use Rattle.std.specs.Prelude.{if◌then◌else◌}
 use Prim.Native.Nat.{ℕ, zero, suc, ◌/◌, ◌%◌, ◌≤◌, ◌<◌}
 use mathlib.Core.Path.{◌≡◌, refl, sym, ap, ◌∙◌}
 use mathlib.Core.Bool.{Bool, true, false, false≢true}
@@ -8,7 +9,7 @@ use lib.Dec.{ltb}
 use lib.ListN.{length, take, get_or, length-append}
 use lib.Seq.{length-take-le}
 use borrow.Author.Tests.{ne_eqb, lt-ltb, le-ltb, ltb-false}
-use Rattle.rules.specs.Tests.{if◌then◌else◌, neb}
+use Rattle.rules.specs.Tests.{neb}
 use Rattle.rules.specs.Answers.{given, refused, is_given}
 use Rattle.rules.specs.Lists.{over}
 use Rattle.rules.specs.Bytes.{byte_word, byte_words, read_answer, read_buffer}

@@ -1,6 +1,5 @@
 -- What the program prints, as a function of the bytes of the day file. Assumes nothing.
-use Rattle.std.specs.Prelude.{ℕ, ◌/◌, List, ltb, length, get_or}
-use Rattle.rules.specs.Tests.{if◌then◌else◌}
+use Rattle.std.specs.Prelude.{ℕ, ◌/◌, List, ltb, length, get_or, if◌then◌else◌}
 use Rattle.rules.specs.Answers.{is_given}
 use Rattle.rules.specs.Bytes.{byte_words, read_answer}
 use Rattle.text.specs.Lines.{too_long, refused_line, answer_text}

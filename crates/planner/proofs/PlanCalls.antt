@@ -1,4 +1,5 @@
 -- The calls that plan with trials answer, and leave the plan's buffer, as the definitions say. Assumes nothing.
+use Rattle.std.specs.Prelude.{if◌then◌else◌}
 use Prim.Native.Nat.{ℕ, ◌-◌, ◌*◌, ◌≤◌, ◌<◌}
 use mathlib.Core.Path.{◌≡◌, refl, sym, ap, ◌∙◌}
 use mathlib.Core.Bool.{Bool, true, false, true≢false}
@@ -9,7 +10,6 @@ use lib.Dec.{ltb, leb}
 use lib.ListN.{length, length-append, length-replicate, get_or, take, drop, replicate}
 use lib.Seq.{take_at, drop_at}
 use borrow.Author.Tests.{le-leb, lt-leb, le-ltb, leb-true}
-use Rattle.rules.specs.Tests.{if◌then◌else◌}
 use Rattle.rules.specs.Answers.{given, refused}
 use Rattle.rules.specs.Lists.{over}
 use Rattle.rules.specs.DayFile.{judge_day}

@@ -1,4 +1,5 @@
 -- Demand 3, sentence by sentence, of calls that plan a day with trials, for any list of K, and as a whole of two calls with one K. Assumes nothing.
+use Rattle.std.specs.Prelude.{if◌then◌else◌}
 use Prim.Native.Nat.{ℕ, ◌+◌, ◌*◌, ◌≤◌, ◌<◌}
 use mathlib.Core.Path.{◌≡◌, sym, ap, ◌∙◌}
 use mathlib.Core.Bool.{true, false}
@@ -8,7 +9,6 @@ use mathlib.Core.Option.{some}
 use native.Mathlib.Omega.{arith}
 use lib.ListN.{length, take}
 use lib.Seq.{length-take-le}
-use Rattle.rules.specs.Tests.{if◌then◌else◌}
 use Rattle.rules.specs.Answers.{given}
 use Rattle.rules.specs.Lists.{Every, times, total}
 use Rattle.rules.specs.Fields.{stops, tips, IsAccepted}

@@ -1,5 +1,6 @@
 -- Holding each call to its paper. The contract of each call equates its answer, by values, and its lent buffers with definitions of the
 -- rules, and asks for nothing; here stands what these definitions come to. Assumes nothing.
+use Rattle.std.specs.Prelude.{if◌then◌else◌}
 use Prim.Native.Nat.{ℕ, zero, suc, ◌+◌, ◌-◌, ◌<◌, ◌≤◌}
 use mathlib.Core.Path.{◌≡◌, refl, sym, ap, ◌∙◌}
 use mathlib.Core.Bool.{Bool, true, false, true≢false, false≢true}
@@ -8,7 +9,6 @@ use mathlib.Core.Logic.{◌↔◌}
 use native.Mathlib.Omega.{arith}
 use lib.ListN.{length, get_or, take, drop, replicate}
 use lib.Seq.{drop-drop}
-use Rattle.rules.specs.Tests.{if◌then◌else◌}
 use Rattle.rules.specs.Answers.{given, refused, is_given, in_six}
 use Rattle.rules.specs.DayFile.{judge_day}
 use Rattle.rules.specs.Fields.{IsAccepted}

@@ -1,11 +1,11 @@
 -- Bringing in Solomon instances: document 02, Q-6. Assumes nothing.
+use Rattle.std.specs.Prelude.{if◌then◌else◌}
 use Prim.Native.Nat.{ℕ, ◌+◌, ◌-◌, ◌*◌, ◌≤◌, ◌<◌}
 use mathlib.Core.Path.{◌≡◌, refl, sym, ap, subst, ◌∙◌}
 use mathlib.Core.Bool.{true, false}
 use mathlib.Core.List.{List, [], ◌∷◌}
 use lib.ListN.{length, take}
 use Rattle.rules.specs.Answers.{given, refused, is_given}
-use Rattle.rules.specs.Tests.{if◌then◌else◌}
 use Rattle.rules.specs.DayFile.{judge_day}
 use Rattle.rules.specs.Lists.{over}
 use Rattle.rules.specs.Fields.{leg_minutes, leg_distance}

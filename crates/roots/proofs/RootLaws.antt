@@ -1,5 +1,6 @@
 -- The root is the greatest whole number whose square is at most s, and the only one.
 -- Assumes nothing.
+use Rattle.std.specs.Prelude.{if◌then◌else◌}
 use Prim.Native.Nat.{ℕ, zero, suc, ◌+◌, ◌-◌, ◌*◌, ◌/◌, ◌≤◌, ◌<◌}
 use mathlib.Core.Path.{◌≡◌, refl, subst}
 use mathlib.Core.Bool.{Bool, true, false}
@@ -8,7 +9,6 @@ use native.Mathlib.Omega.{arith}
 use native.Mathlib.Nat.{mul-le-mul, mul-le-mul_left, le-mul_of_pos_right, mul-add, add-mul, mul_comm, mul-mul-mul_comm, lt-mul-div-succ, div-le_self}
 use lib.Dec.{leb}
 use borrow.Author.Tests.{leb-true, leb-false}
-use Rattle.rules.specs.Tests.{if◌then◌else◌}
 use Rattle.rules.specs.SolomonDay.{root_up_to, root, IsRoot}
 
 pub square_le : (a b : ℕ) → a ≤ b → a * a ≤ b * b

@@ -1,7 +1,6 @@
 -- What each answer says, as numbers: document 01's refusal number and place, or 0 and the values. An answer of the code is an enum,
 -- and a promise speaks of its values. Assumes nothing.
-use Rattle.std.specs.Prelude.{ℕ, ◌≤◌, List, [], ◌∷◌}
-use Rattle.rules.specs.Tests.{if◌then◌else◌}
+use Rattle.std.specs.Prelude.{ℕ, ◌≤◌, List, [], ◌∷◌, if◌then◌else◌}
 use Rattle.rules.specs.Answers.{given, refused}
 use Rattle.rules.specs.declared.answers.Answer.{Answer}
 use Rattle.rules.specs.declared.answers.Answer.TheVariants as Answers

@@ -1,8 +1,7 @@
 -- What a trial gives: document 01, "Trials". The vehicles that it touches are walked again: their tasks come without rests, and rests and
 -- tips are put in as they are due. Assumes nothing.
-use Rattle.std.specs.Prelude.{ℕ, suc, ◌+◌, Bool, ◌&&◌, List, [], ◌∷◌, ltb, eqb}
+use Rattle.std.specs.Prelude.{ℕ, suc, ◌+◌, Bool, ◌&&◌, List, [], ◌∷◌, ltb, eqb, if◌then◌else◌}
 use Rattle.std.proofs.Math.Option.{Option, none, some}
-use Rattle.rules.specs.Tests.{if◌then◌else◌}
 use Rattle.rules.specs.Answers.{is_given}
 use Rattle.rules.specs.Lists.{total}
 use Rattle.rules.specs.Fields.{stop_place, load_limit, quantity}

@@ -1,7 +1,6 @@
 -- The greedy build: document 01, "Greedy build", steps 1 to 5. Assumes nothing.
-use Rattle.std.specs.Prelude.{ℕ, zero, suc, ◌+◌, ◌*◌, Bool, true, false, ◌||◌, List, [], ◌∷◌, ◌++◌, ltb, eqb}
+use Rattle.std.specs.Prelude.{ℕ, zero, suc, ◌+◌, ◌*◌, Bool, true, false, ◌||◌, List, [], ◌∷◌, ◌++◌, ltb, eqb, if◌then◌else◌}
 use Rattle.std.proofs.Math.Option.{Option, none, some}
-use Rattle.rules.specs.Tests.{if◌then◌else◌}
 use Rattle.rules.specs.Lists.{mem}
 use Rattle.rules.specs.Fields.{stops}
 use Rattle.rules.specs.Plan.{Task, serve, empty, lunch, Round, plan_words, word_for}

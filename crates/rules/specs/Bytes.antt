@@ -1,6 +1,6 @@
 -- Byte reading: document 01, "Other calls" and refusals 1 and 14. It judges no day. Assumes nothing.
-use Rattle.std.specs.Prelude.{ℕ, zero, suc, ◌+◌, ◌*◌, ◌/◌, ◌%◌, List, [], ◌∷◌, ◌++◌, length, get_or, ltb}
-use Rattle.rules.specs.Tests.{if◌then◌else◌, neb}
+use Rattle.std.specs.Prelude.{ℕ, zero, suc, ◌+◌, ◌*◌, ◌/◌, ◌%◌, List, [], ◌∷◌, ◌++◌, length, get_or, ltb, if◌then◌else◌}
+use Rattle.rules.specs.Tests.{neb}
 use Rattle.rules.specs.Answers.{given, refused, is_given}
 use Rattle.rules.specs.Lists.{over}
 

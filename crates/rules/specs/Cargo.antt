@@ -1,6 +1,5 @@
 -- What a vehicle carries: document 01, "Plan and timetable", loads and counts; refusals 9 and 10. Assumes nothing.
-use Rattle.std.specs.Prelude.{ℕ, ◌+◌, Bool, ◌||◌, List, ltb}
-use Rattle.rules.specs.Tests.{if◌then◌else◌}
+use Rattle.std.specs.Prelude.{ℕ, ◌+◌, Bool, ◌||◌, List, ltb, if◌then◌else◌}
 use Rattle.rules.specs.Fields.{stop_place, load_limit, day_limit, stop_limit, quantity}
 use Rattle.rules.specs.PlanWords.{Word, vehicle, stop, tip, rest, back, left, stray}
 use Rattle.rules.specs.declared.walk.Cargo.{Cargo}

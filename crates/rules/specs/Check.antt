@@ -1,7 +1,7 @@
 -- The check of a plan, word by word at its earliest minutes: document 01, "Plan and timetable"; refusals 6 to 12 with their places.
 -- The declarative side, which says what lawful means without a walk, is Lawful.antt; `lawful_iff` joins the two. Assumes nothing.
-use Rattle.std.specs.Prelude.{ℕ, suc, ◌+◌, Bool, true, false, not, ◌&&◌, List, [], ◌∷◌, length, ltb, leb, eqb}
-use Rattle.rules.specs.Tests.{if◌then◌else◌, neb}
+use Rattle.std.specs.Prelude.{ℕ, suc, ◌+◌, Bool, true, false, not, ◌&&◌, List, [], ◌∷◌, length, ltb, leb, eqb, if◌then◌else◌}
+use Rattle.rules.specs.Tests.{neb}
 use Rattle.rules.specs.Answers.{given, refused, is_given}
 use Rattle.rules.specs.Lists.{mem, unmet}
 use Rattle.rules.specs.DayFile.{judge_day}

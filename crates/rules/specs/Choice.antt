@@ -1,6 +1,6 @@
 -- Which stop a vehicle takes next: document 01, "Greedy build", steps 3 and 5, with the ties of document 02, Q-1. Assumes nothing.
-use Rattle.std.specs.Prelude.{ℕ, ◌+◌, ◌*◌, Bool, false, not, ◌&&◌, ◌||◌, List, ltb, leb, eqb}
-use Rattle.rules.specs.Tests.{if◌then◌else◌, least}
+use Rattle.std.specs.Prelude.{ℕ, ◌+◌, ◌*◌, Bool, false, not, ◌&&◌, ◌||◌, List, ltb, leb, eqb, if◌then◌else◌}
+use Rattle.rules.specs.Tests.{least}
 use Rattle.rules.specs.Lists.{mem}
 use Rattle.rules.specs.Fields.{stops, stop_place, load_limit, day_limit, stop_limit, opening, closing, quantity, leg_minutes}
 use Rattle.rules.specs.Cargo.{loaded, over_limits}

@@ -1,7 +1,7 @@
 -- The day file: document 01, "Day file", and refusals 1 to 5 of "What can be refused". A day is any list of words; `judge_day` says what is
 -- answered on it, number and place. Assumes nothing.
-use Rattle.std.specs.Prelude.{ℕ, suc, ◌+◌, ◌-◌, ◌*◌, ◌/◌, ◌%◌, List, [], ◌∷◌, Bool, ◌&&◌, length, get_or, drop, ltb, leb, eqb}
-use Rattle.rules.specs.Tests.{if◌then◌else◌, neb}
+use Rattle.std.specs.Prelude.{ℕ, suc, ◌+◌, ◌-◌, ◌*◌, ◌/◌, ◌%◌, List, [], ◌∷◌, Bool, ◌&&◌, length, get_or, drop, ltb, leb, eqb, if◌then◌else◌}
+use Rattle.rules.specs.Tests.{neb}
 use Rattle.rules.specs.Answers.{given, refused}
 
 -- "a lone number is in bits 26-0"

@@ -1,8 +1,7 @@
 -- What is promised: demand 1's refusals, and demand 3 of two calls that plan, with one K or with several. Demand 2 is `Lawful`. Assumes nothing.
-use Rattle.std.specs.Prelude.{ℕ, ◌+◌, ◌*◌, ◌≤◌, ◌≡◌, Bool, true, false, ◌↔◌, length, take}
+use Rattle.std.specs.Prelude.{ℕ, ◌+◌, ◌*◌, ◌≤◌, ◌≡◌, Bool, true, false, ◌↔◌, length, take, if◌then◌else◌}
 use mathlib.Core.List.{List, [], ◌∷◌, Memᴰ}
 use Rattle.std.proofs.Math.Option.{some}
-use Rattle.rules.specs.Tests.{if◌then◌else◌}
 use Rattle.rules.specs.Answers.{given, refused}
 use Rattle.rules.specs.Lists.{Every, mem, total}
 use Rattle.rules.specs.Fields.{stops, tips}

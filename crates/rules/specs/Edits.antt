@@ -1,6 +1,5 @@
 -- A trial as a substitution of words, each of which becomes none, one or two: document 01, "Trials". Assumes nothing.
-use Rattle.std.specs.Prelude.{ℕ, suc, Bool, ◌||◌, [], ◌∷◌, ◌++◌, eqb}
-use Rattle.rules.specs.Tests.{if◌then◌else◌}
+use Rattle.std.specs.Prelude.{ℕ, suc, Bool, ◌||◌, [], ◌∷◌, ◌++◌, eqb, if◌then◌else◌}
 use Rattle.rules.specs.Plan.{Task, serve, empty, lunch, Round}
 
 -- what is done to the words of a vehicle

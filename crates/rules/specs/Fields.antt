@@ -1,7 +1,6 @@
 -- What a day says, under the names of document 01, "Day file". Each is defined on every list of words, 0 past its end, and the bit
 -- fields bound each value whatever the day; on an accepted day, which is said at the end, it is what the file says. Assumes nothing.
-use Rattle.std.specs.Prelude.{ℕ, ◌+◌, ◌-◌, ◌*◌, ◌≡◌, List, [], ◌∷◌, get_or, leb, eqb}
-use Rattle.rules.specs.Tests.{if◌then◌else◌}
+use Rattle.std.specs.Prelude.{ℕ, ◌+◌, ◌-◌, ◌*◌, ◌≡◌, List, [], ◌∷◌, get_or, leb, eqb, if◌then◌else◌}
 use Rattle.rules.specs.Answers.{given}
 use Rattle.rules.specs.DayFile.{lone_number, window_opening, window_closing, minutes_of, distance_of, tips_in, stops_in, places_of, legs_at, judge_day}
 

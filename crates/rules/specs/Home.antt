@@ -1,6 +1,6 @@
 -- The nearest open tip, rest if due, and the way home: document 01, "Greedy build". A trip is where and when a vehicle is. Assumes nothing.
-use Rattle.std.specs.Prelude.{ℕ, ◌+◌, Bool, false, not, ◌&&◌, ◌||◌, List, leb, eqb}
-use Rattle.rules.specs.Tests.{if◌then◌else◌, least}
+use Rattle.std.specs.Prelude.{ℕ, ◌+◌, Bool, false, not, ◌&&◌, ◌||◌, List, leb, eqb, if◌then◌else◌}
+use Rattle.rules.specs.Tests.{least}
 use Rattle.rules.specs.Fields.{tips, opening, closing, rest_opening, rest_closing, leg_minutes}
 use Rattle.rules.specs.Trip.{arrival, visited, rested_at}
 use Rattle.rules.specs.declared.walk.Trip.{Trip}

@@ -1,6 +1,5 @@
 -- What is said of the elements of a list, a list given by a rule, and a list written over the front of another. Assumes nothing.
-use Rattle.std.specs.Prelude.{ℕ, zero, suc, ◌+◌, ◌<◌, Bool, false, ◌||◌, List, [], ◌∷◌, ◌++◌, eqb, length, drop}
-use Rattle.rules.specs.Tests.{if◌then◌else◌}
+use Rattle.std.specs.Prelude.{ℕ, zero, suc, ◌+◌, ◌<◌, Bool, false, ◌||◌, List, [], ◌∷◌, ◌++◌, eqb, length, drop, if◌then◌else◌}
 
 -- each element has a property
 unfoldable pub Every : {A : Type 0} → (A → Type 0) → List A → Type 0

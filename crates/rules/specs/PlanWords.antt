@@ -1,7 +1,6 @@
 -- The words of a plan: document 01, "Plan and timetable". Kinds A to F stand in bits 31-28, the number in bits 7-0, and every other
 -- bit is zero. Assumes nothing.
-use Rattle.std.specs.Prelude.{ℕ, ◌+◌, ◌/◌, ◌%◌, Bool, ◌&&◌, List, map, eqb}
-use Rattle.rules.specs.Tests.{if◌then◌else◌}
+use Rattle.std.specs.Prelude.{ℕ, ◌+◌, ◌/◌, ◌%◌, Bool, ◌&&◌, List, map, eqb, if◌then◌else◌}
 
 -- a plan word taken apart
 pub data Word : Type 0 where

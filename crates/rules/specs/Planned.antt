@@ -1,7 +1,6 @@
 -- What the calls that build and that plan with trials say, and what the plan's buffer then holds: document 01, "Trials" and "What can be
 -- refused"; document 02, Q-12. Assumes nothing.
-use Rattle.std.specs.Prelude.{ℕ, ◌-◌, ◌*◌, ◌≡◌, Bool, false, ◌&&◌, List, [], ◌∷◌, ◌++◌, ltb, leb, length, replicate}
-use Rattle.rules.specs.Tests.{if◌then◌else◌}
+use Rattle.std.specs.Prelude.{ℕ, ◌-◌, ◌*◌, ◌≡◌, Bool, false, ◌&&◌, List, [], ◌∷◌, ◌++◌, ltb, leb, length, replicate, if◌then◌else◌}
 use Rattle.rules.specs.Answers.{given, refused, is_given}
 use Rattle.rules.specs.Lists.{total, over}
 use Rattle.rules.specs.DayFile.{judge_day}

@@ -1,7 +1,6 @@
 -- Same rounds: document 01, "two lawful plans whose vehicles, in order, visit the same stops in order; tips and rests don't count".
 -- Assumes nothing.
-use Rattle.std.specs.Prelude.{ℕ, ◌+◌, ◌≡◌, Bool, true, false, List, [], ◌∷◌, map, length, get_or}
-use Rattle.rules.specs.Tests.{if◌then◌else◌}
+use Rattle.std.specs.Prelude.{ℕ, ◌+◌, ◌≡◌, Bool, true, false, List, [], ◌∷◌, map, length, get_or, if◌then◌else◌}
 use Rattle.rules.specs.Answers.{given, refused, is_given}
 use Rattle.rules.specs.PlanWords.{Word, vehicle, stop, tip, rest, back, left, stray, word_of, same_word}
 use Rattle.rules.specs.Plan.{Task, serve, empty, lunch, Round}

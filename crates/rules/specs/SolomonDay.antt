@@ -1,7 +1,6 @@
 -- The day of a Solomon instance, word by word in the order of document 01, "Day file": document 02, Q-6. A number is asked for by its customer and
 -- its field; customer 0 is the depot. And what the call answers and writes: refusals 17 and 18, then 14. Assumes nothing.
-use Rattle.std.specs.Prelude.{ℕ, zero, suc, ◌+◌, ◌-◌, ◌*◌, ◌/◌, ◌%◌, ◌≤◌, ◌<◌, List, [], ◌∷◌, length, eqb, ltb, leb}
-use Rattle.rules.specs.Tests.{if◌then◌else◌}
+use Rattle.std.specs.Prelude.{ℕ, zero, suc, ◌+◌, ◌-◌, ◌*◌, ◌/◌, ◌%◌, ◌≤◌, ◌<◌, List, [], ◌∷◌, length, eqb, ltb, leb, if◌then◌else◌}
 use Rattle.rules.specs.Answers.{given, refused, is_given}
 use Rattle.rules.specs.Lists.{listed, over}
 use Rattle.rules.specs.DayFile.{tips_end, legs_at, places_of, words_of}

@@ -1,8 +1,7 @@
 -- The public Solomon text form: document 02, Q-6, and its refusals 17 and 18 with their places. Lines that are blank are not counted: line 0 is the
 -- name, 1 VEHICLE, 2 column names, 3 vehicle number and capacity, 4 CUSTOMER, 5 column names, 6 the depot, and line 6 + k is customer k's. Of each
 -- line fields 0 to 7 are looked at: no line has more than seven, and field 7 of a customer's is the first too many. Assumes nothing.
-use Rattle.std.specs.Prelude.{ℕ, zero, suc, ◌-◌, ◌<◌, ◌≡◌, Bool, true, false, List, [], ◌∷◌, length, eqb, ltb, leb}
-use Rattle.rules.specs.Tests.{if◌then◌else◌}
+use Rattle.std.specs.Prelude.{ℕ, zero, suc, ◌-◌, ◌<◌, ◌≡◌, Bool, true, false, List, [], ◌∷◌, length, eqb, ltb, leb, if◌then◌else◌}
 use Rattle.rules.specs.TextFields.{field_at, line_at, ends_line, is_number, number_at, is_word}
 use Rattle.rules.specs.declared.texts.Offence.{Offence}
 use Rattle.rules.specs.declared.texts.Verdict.{Verdict}

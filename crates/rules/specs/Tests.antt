@@ -1,12 +1,6 @@
 -- What a test decides: a definition is a chain of such decisions, in the order of the paper's list. And which of the numbers that pass a test
 -- has the least key. Assumes nothing.
-use Rattle.std.specs.Prelude.{ℕ, zero, suc, Bool, true, false, not, ◌&&◌, ◌||◌, ltb, eqb}
-
--- the first where the test holds, else the second
-infixr 10 if◌then◌else◌
-abbrev pub if◌then◌else◌ : {A : Type 0} → Bool → A → A → A
-if true then a else b = a
-if false then a else b = b
+use Rattle.std.specs.Prelude.{ℕ, zero, suc, Bool, true, false, not, ◌&&◌, ◌||◌, ltb, eqb, if◌then◌else◌}
 
 -- two numbers differ
 abbrev pub neb : ℕ → ℕ → Bool

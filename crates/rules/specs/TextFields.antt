@@ -1,7 +1,6 @@
 -- Lines, fields and numbers of a text, each by the place of its first byte: document 02, Q-6. Places are defined at every place of every text: where
 -- a field is missing, its place is the line feed or the text's end, and where a line is missing, the text's end. Assumes nothing.
-use Rattle.std.specs.Prelude.{ℕ, zero, suc, ◌+◌, ◌*◌, ◌-◌, Bool, true, false, not, List, [], ◌∷◌, length, get_or, drop, eqb, ltb}
-use Rattle.rules.specs.Tests.{if◌then◌else◌}
+use Rattle.std.specs.Prelude.{ℕ, zero, suc, ◌+◌, ◌*◌, ◌-◌, Bool, true, false, not, List, [], ◌∷◌, length, get_or, drop, eqb, ltb, if◌then◌else◌}
 
 -- "blanks (space, tab, carriage return)"
 unfoldable pub is_blank : ℕ → Bool

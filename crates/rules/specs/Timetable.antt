@@ -1,7 +1,6 @@
 -- When a vehicle is where: document 01, "Plan and timetable". Each of its words is a call, a visit, a rest or the return, and a timetable
 -- gives each call a minute. Then the earliest timetable. No walk is mentioned here. Assumes nothing.
-use Rattle.std.specs.Prelude.{ℕ, ◌+◌, ◌≤◌, max, min, Bool, true, false, List, [], ◌∷◌}
-use Rattle.rules.specs.Tests.{if◌then◌else◌}
+use Rattle.std.specs.Prelude.{ℕ, ◌+◌, ◌≤◌, max, min, Bool, true, false, List, [], ◌∷◌, if◌then◌else◌}
 use Rattle.rules.specs.Fields.{stop_place, opening, closing, rest_opening, rest_closing, rest_minutes, service, leg_minutes}
 use Rattle.rules.specs.Plan.{serve, empty, lunch, Round}
 

@@ -1,6 +1,5 @@
 -- A plan's trial list: document 01, "Trials". A plan is its vehicles' tasks; the stops left out never change. Assumes nothing.
-use Rattle.std.specs.Prelude.{ℕ, zero, suc, ◌||◌, List, [], ◌∷◌, ◌++◌, eqb}
-use Rattle.rules.specs.Tests.{if◌then◌else◌}
+use Rattle.std.specs.Prelude.{ℕ, zero, suc, ◌||◌, List, [], ◌∷◌, ◌++◌, eqb, if◌then◌else◌}
 use Rattle.rules.specs.Lists.{mem}
 use Rattle.rules.specs.Fields.{stops, tips}
 use Rattle.rules.specs.Plan.{Task, serve, empty, lunch, Round, stops_on}

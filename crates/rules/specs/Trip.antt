@@ -1,6 +1,5 @@
 -- Where and when a vehicle is, at its earliest minutes: document 01, "Plan and timetable"; refusals 11 and 12. Assumes nothing.
-use Rattle.std.specs.Prelude.{ℕ, ◌+◌, max, true, false, List, ltb}
-use Rattle.rules.specs.Tests.{if◌then◌else◌}
+use Rattle.std.specs.Prelude.{ℕ, ◌+◌, max, true, false, List, ltb, if◌then◌else◌}
 use Rattle.rules.specs.Fields.{stop_place, opening, closing, rest_opening, rest_closing, rest_minutes, service, leg_minutes, leg_distance}
 use Rattle.rules.specs.PlanWords.{Word, vehicle, stop, tip, rest, back, left, stray}
 use Rattle.rules.specs.declared.walk.Trip.{Trip}

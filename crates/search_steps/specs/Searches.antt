@@ -1,6 +1,5 @@
 -- The search while it goes on, as the code has it. It serves the contracts of the functions that begin a search, go on with it and end it. Assumes nothing.
-use Rattle.std.specs.Prelude.{ℕ, ◌+◌, ◌*◌, ◌-◌, ◌≤◌, ◌<◌, ◌≡◌, Bool, true, false, List, [], ◌∷◌, eqb, length, take, drop, get_or}
-use Rattle.rules.specs.Tests.{if◌then◌else◌}
+use Rattle.std.specs.Prelude.{ℕ, ◌+◌, ◌*◌, ◌-◌, ◌≤◌, ◌<◌, ◌≡◌, Bool, true, false, List, [], ◌∷◌, eqb, length, take, drop, get_or, if◌then◌else◌}
 use Rattle.rules.specs.Lists.{Every}
 use Rattle.rules.specs.Plan.{Round, plan_words}
 use Rattle.rules.specs.Build.{greedy_lefts}

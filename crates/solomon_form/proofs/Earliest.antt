@@ -1,4 +1,5 @@
 -- The first fault met is the earliest offence: none has an earlier byte, and at its byte none has a lower number. Assumes nothing.
+use Rattle.std.specs.Prelude.{if◌then◌else◌}
 use Prim.Native.Nat.{ℕ, suc, ◌+◌, ◌-◌, ◌≤◌, ◌<◌}
 use mathlib.Core.Path.{◌≡◌, refl, sym, ap, ap₂, subst, ◌∙◌}
 use mathlib.Core.Bool.{Bool, true, false, false≢true}
@@ -9,7 +10,6 @@ use native.Mathlib.Omega.{arith}
 use lib.ListN.{length}
 use lib.Dec.{eqb, ltb, leb}
 use borrow.Author.Tests.{leb-true, leb-false, le-leb}
-use Rattle.rules.specs.Tests.{if◌then◌else◌}
 use Rattle.rules.specs.TextFields.{field_at, line_at, ends_line, is_number, number_at, is_word}
 use Rattle.rules.specs.SolomonForm.{plain_fault, range_fault, order_fault, end_fault, name_fault, word_fault, vehicle_word, customer_word, fleet_fault, is_unused, most_of}
 use Rattle.rules.specs.SolomonForm.{least_of, customer_fault, beyond_fault, field_fault, number_before, place_of, fault_at, is_over, Offends, judge_text}

@@ -1,4 +1,5 @@
 -- The fault of one field: one law for each way through its tests. Assumes nothing.
+use Rattle.std.specs.Prelude.{if◌then◌else◌}
 use Prim.Native.Nat.{ℕ, ◌<◌, ◌≤◌, min}
 use mathlib.Core.Path.{◌≡◌, refl, sym, ap, ◌∙◌}
 use mathlib.Core.Bool.{Bool, true, false}
@@ -6,7 +7,6 @@ use mathlib.Core.List.{List}
 use native.Mathlib.Omega.{arith}
 use lib.Dec.{eqb, ltb}
 use borrow.Author.Tests.{eq-eqb, ne_eqb, lt-ltb, le-ltb, lt-leb}
-use Rattle.rules.specs.Tests.{if◌then◌else◌}
 use Rattle.rules.specs.TextFields.{is_number, number_at}
 use Rattle.rules.specs.SolomonForm.{range_fault, order_fault, is_unused, most_of, least_of, customer_fault, field_fault}
 use Rattle.text_fields.specs.Runs.{held_at}

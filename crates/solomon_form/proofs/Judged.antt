@@ -1,5 +1,6 @@
 -- What is found of a text: without a fault no line that is asked for or there has one, and there are at most 240 stops; else the first fault is
 -- found, which no field in front of it has. Assumes nothing.
+use Rattle.std.specs.Prelude.{if◌then◌else◌}
 use Prim.Native.Nat.{ℕ, zero, suc, ◌+◌, ◌-◌, ◌≤◌, ◌<◌}
 use mathlib.Core.Path.{◌≡◌, refl, sym, ap, subst, ◌∙◌}
 use mathlib.Core.Bool.{Bool, true, false, false≢true}
@@ -9,7 +10,6 @@ use native.Mathlib.Omega.{arith}
 use lib.ListN.{length}
 use lib.Dec.{eqb, leb}
 use borrow.Author.Tests.{eqb-true, eqb-false}
-use Rattle.rules.specs.Tests.{if◌then◌else◌}
 use Rattle.rules.specs.TextFields.{line_at}
 use Rattle.rules.specs.SolomonForm.{order_fault, beyond_fault, field_fault, place_of, fault_at, is_over, offence, fields_from, line_offence, well_formed, offended, lines_from, judge_text}
 use Rattle.rules.specs.declared.texts.Offence.{Offence}

@@ -1,4 +1,5 @@
 -- Laws of reading a line field by field, and a text line by line: one for each way through the code's loops. Assumes nothing.
+use Rattle.std.specs.Prelude.{if◌then◌else◌}
 use Prim.Native.Nat.{ℕ, zero, suc, ◌+◌, ◌-◌, ◌≤◌, ◌<◌, min}
 use mathlib.Core.Path.{◌≡◌, refl, sym, ap, ◌∙◌}
 use mathlib.Core.Bool.{Bool, true, false, false≢true}
@@ -8,7 +9,6 @@ use native.Mathlib.Omega.{arith}
 use lib.ListN.{length}
 use lib.Dec.{eqb, ltb, leb}
 use borrow.Author.Tests.{eq-eqb, ne_eqb, eqb-true, ltb-true, ltb-false, le-leb, leb-true}
-use Rattle.rules.specs.Tests.{if◌then◌else◌}
 use Rattle.rules.specs.TextFields.{is_gap, passed, field_at, line_at, next_field, next_line, is_number, number_at}
 use Rattle.rules.specs.SolomonForm.{range_fault, order_fault, most_of, least_of, customer_fault, beyond_fault, field_fault, number_before, place_of}
 use Rattle.rules.specs.SolomonForm.{fault_at, is_over, offence, fields_from, line_offence, well_formed, offended, lines_from, judge_text}

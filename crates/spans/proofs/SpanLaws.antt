@@ -1,4 +1,5 @@
 -- Outside of the span of an edit stands no task that it changes. Assumes nothing.
+use Rattle.std.specs.Prelude.{if◌then◌else◌}
 use Prim.Native.Nat.{ℕ, zero, suc, ◌+◌, ◌-◌, ◌≤◌, ◌<◌}
 use mathlib.Core.Path.{◌≡◌, refl, sym, ap, ◌∙◌}
 use mathlib.Core.Bool.{Bool, true, false}
@@ -7,7 +8,6 @@ use native.Mathlib.Omega.{arith}
 use lib.ListN.{length, length-map, length-drop, get_or, take, drop, drop_of_length-le, take-append-drop}
 use lib.Seq.{split_at, length-take-le, take-take, drop-drop}
 use borrow.Author.Tests.{eq-eqb, ne_eqb}
-use Rattle.rules.specs.Tests.{if◌then◌else◌}
 use Rattle.rules.specs.Lists.{times}
 use Rattle.rules.specs.PlanWords.{stop_word}
 use Rattle.rules.specs.Plan.{serve, empty, lunch, Round, task_word, stops_on}

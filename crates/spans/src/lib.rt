@@ -1,8 +1,7 @@
 // The span of an edit: from the first to the last word of a vehicle that it changes.
 #![tactic(auto)]
 
-ghost use Rattle.std.specs.Prelude.{◌<◌, ◌≡◌, map, length};
-ghost use Rattle.rules.specs.Tests.{if◌then◌else◌};
+ghost use Rattle.std.specs.Prelude.{◌<◌, ◌≡◌, map, length, if◌then◌else◌};
 ghost use Rattle.rules.specs.Plan.{Round, task_word};
 ghost use Rattle.edits.specs.EditWords.{edit_of, EditSmall};
 ghost use Rattle.spans.specs.Span.{Outside, Single, PlaceOf, Holds, Covers};

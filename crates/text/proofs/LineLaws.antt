@@ -1,4 +1,5 @@
 -- Laws of the lines that are printed. Assumes nothing.
+use Rattle.std.specs.Prelude.{if◌then◌else◌}
 use Prim.Native.Nat.{ℕ, ◌+◌, ◌*◌, ◌≤◌}
 use mathlib.Core.Path.{◌≡◌, refl, sym, ap}
 use mathlib.Core.Bool.{Bool, true, false}
@@ -7,7 +8,6 @@ use native.Mathlib.Omega.{arith}
 use lib.Dec.{eqb}
 use lib.ListN.{length, take}
 use lib.Seq.{length-take-le}
-use Rattle.rules.specs.Tests.{if◌then◌else◌}
 use Rattle.rules.specs.AnswerValues.{plan_values}
 use Rattle.rules.specs.declared.answers.PlanAnswer.{PlanAnswer}
 use Rattle.rules.specs.declared.answers.PlanAnswer.TheVariants as Plans

@@ -1,7 +1,6 @@
 -- The lines that are printed: "distance, trials, settled, left out, words in one line; then the words, eight hexadecimal digits a line", or
 -- "refused", number, place in one line, blanks between. Assumes nothing.
-use Rattle.std.specs.Prelude.{ℕ, ◌≤◌, ◌≡◌, Bool, true, List, [], ◌∷◌, ◌++◌, eqb, length, get_or, take}
-use Rattle.rules.specs.Tests.{if◌then◌else◌}
+use Rattle.std.specs.Prelude.{ℕ, ◌≤◌, ◌≡◌, Bool, true, List, [], ◌∷◌, ◌++◌, eqb, length, get_or, take, if◌then◌else◌}
 use Rattle.rules.specs.Answers.{is_given}
 use Rattle.text.specs.Numbers.{decimal, hexadecimal}
 

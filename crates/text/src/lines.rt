@@ -1,6 +1,5 @@
 // The lines of a plan and of a refusal, at the start of a text.
-ghost use Rattle.std.specs.Prelude.{◌+◌, ◌*◌, ◌≤◌, length};
-ghost use Rattle.rules.specs.Tests.{if◌then◌else◌};
+ghost use Rattle.std.specs.Prelude.{◌+◌, ◌*◌, ◌≤◌, length, if◌then◌else◌};
 ghost use Rattle.rules.specs.AnswerValues.{plan_values};
 ghost use Rattle.text.specs.Lines.{yes, no, refused_line, planned_line, answer_text, Within};
 ghost use Rattle.text.specs.Put.{Put};

@@ -1,5 +1,6 @@
 -- Laws of reading a number: digit by digit, held at 1,000,000.
 -- Assumes nothing.
+use Rattle.std.specs.Prelude.{if◌then◌else◌}
 use Prim.Native.Nat.{ℕ, suc, ◌+◌, ◌*◌, ◌-◌, ◌≤◌, ◌<◌, min}
 use mathlib.Core.Path.{◌≡◌, refl, sym, ap, ◌∙◌}
 use mathlib.Core.Bool.{Bool, true, false}
@@ -10,7 +11,6 @@ use lib.ListN.{length, get_or, drop, drop_of_length-le}
 use lib.Seq.{drop-cons}
 use lib.Dec.{ltb}
 use borrow.Author.Tests.{ltb-false}
-use Rattle.rules.specs.Tests.{if◌then◌else◌}
 use Rattle.laws.proofs.Tests.{only_second}
 use Rattle.rules.specs.TextFields.{is_digit, value_from, number_at}
 use Rattle.text_fields.specs.Runs.{held_at}

@@ -1,5 +1,6 @@
 -- Laws of a run: a byte that belongs to it, one that does not, the text's end.
 -- Assumes nothing.
+use Rattle.std.specs.Prelude.{if◌then◌else◌}
 use Prim.Native.Nat.{ℕ, suc, ◌+◌, ◌≤◌, ◌<◌}
 use mathlib.Core.Path.{◌≡◌, refl, sym, ap, ◌∙◌}
 use mathlib.Core.Bool.{Bool, true, false, not}
@@ -10,7 +11,6 @@ use lib.ListN.{length, get_or, drop, drop_of_length-le}
 use lib.Dec.{eqb}
 use lib.Seq.{drop-cons}
 use borrow.Author.Tests.{lt-ltb, le-ltb}
-use Rattle.rules.specs.Tests.{if◌then◌else◌}
 use Rattle.rules.specs.TextFields.{is_blank, is_feed, is_gap, is_field_byte, is_line_byte, is_digit, passed_from, passed, is_number}
 use Rattle.text_fields.specs.Runs.{in_run}
 use Rattle.text_fields.specs.declared.Run.{Run}

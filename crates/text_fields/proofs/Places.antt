@@ -1,4 +1,5 @@
 -- Places in a text: none goes back, and the fields of a line do not run over it. Assumes nothing.
+use Rattle.std.specs.Prelude.{if◌then◌else◌}
 use Prim.Native.Nat.{ℕ, zero, suc, ◌+◌, ◌≤◌, ◌<◌}
 use mathlib.Core.Path.{◌≡◌, refl, sym, ap, ◌∙◌}
 use mathlib.Core.Bool.{Bool, true, false, not, false≢true}
@@ -10,7 +11,6 @@ use lib.ListN.{drop}
 use lib.Seq.{drop-drop}
 use lib.Dec.{ltb, eqb}
 use borrow.Author.Tests.{ltb-true, eqb-true}
-use Rattle.rules.specs.Tests.{if◌then◌else◌}
 use Rattle.rules.specs.TextFields.{is_blank, is_feed, is_gap, is_field_byte, is_line_byte, is_digit, passed_from, passed, next_field, field_at, next_line, line_at, is_number}
 
 -- a place never goes back

@@ -1,5 +1,6 @@
 -- The row of a vehicle before a word, written and read.
 -- Assumes nothing.
+use Rattle.std.specs.Prelude.{if◌then◌else◌}
 use Prim.Native.Nat.{ℕ, ◌+◌, ◌*◌, ◌≤◌, ◌<◌}
 use mathlib.Core.Path.{◌≡◌, refl, sym, ap, ◌∙◌}
 use mathlib.Core.Bool.{Bool, true, false, true≢false}
@@ -8,7 +9,6 @@ use native.Mathlib.Omega.{arith}
 use lib.Dec.{eqb}
 use lib.ListN.{length, get_or, set, length-set}
 use lib.Seq.{get_or-set_same, get_or-set_other}
-use Rattle.rules.specs.Tests.{if◌then◌else◌}
 use Rattle.walks.specs.declared.cabs.Cab.{Cab}
 use Rattle.onward.proofs.RowLaws.{row, row_other, row_first, row_rest}
 use Rattle.tracks.specs.Before.{cab_at, RowHolds, RowsKept}

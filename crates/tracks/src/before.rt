@@ -1,6 +1,5 @@
 // The vehicles of the present plan before each of their words, so that a trial starts where it changes something.
-ghost use Rattle.std.specs.Prelude.{◌≡◌, false, ◌+◌, ◌<◌, ◌*◌, length};
-ghost use Rattle.rules.specs.Tests.{if◌then◌else◌};
+ghost use Rattle.std.specs.Prelude.{◌≡◌, false, ◌+◌, ◌<◌, ◌*◌, length, if◌then◌else◌};
 ghost use Rattle.rules.specs.Fields.{IsAccepted};
 ghost use Rattle.day.specs.Layout.{LayoutOf};
 ghost use Rattle.tracks.specs.Tables.{before_words};

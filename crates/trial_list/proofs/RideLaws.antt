@@ -1,5 +1,6 @@
 -- The words of one vehicle, read from the one behind its A word on: the distance, the place and the vehicles of the stops so far.
 -- Assumes nothing.
+use Rattle.std.specs.Prelude.{if◌then◌else◌}
 use Prim.Native.Nat.{ℕ, suc, ◌+◌, ◌-◌, ◌*◌, ◌≤◌, ◌<◌}
 use mathlib.Core.Path.{◌≡◌, refl, sym, ap, ◌∙◌}
 use mathlib.Core.List.{List, [], ◌∷◌, ◌++◌, map}
@@ -11,7 +12,6 @@ use lib.Dec.{eqb, ltb}
 use lib.ListN.{length, get_or, drop, set, length-drop, length-set}
 use lib.Seq.{drop-cons, get_or-set_same, get_or-set_other}
 use borrow.Author.Tests.{eq-eqb, ne_eqb, lt-ltb, le-ltb, ltb-true}
-use Rattle.rules.specs.Tests.{if◌then◌else◌}
 use Rattle.rules.specs.Lists.{Every, mem}
 use Rattle.rules.specs.Fields.{tips, places, leg_distance}
 use Rattle.rules.specs.PlanWords.{stop_word, tip_word, rest_word, back_word}

@@ -1,5 +1,6 @@
 -- The tables of a plan while its vehicles are read one behind the other.
 -- Assumes nothing.
+use Rattle.std.specs.Prelude.{if◌then◌else◌}
 use Prim.Native.Nat.{ℕ, suc, ◌+◌, ◌-◌, ◌≤◌, ◌<◌}
 use mathlib.Core.Path.{◌≡◌, refl, sym, ap, ◌∙◌}
 use mathlib.Core.Bool.{Bool, true, false, true≢false}
@@ -12,7 +13,6 @@ use lib.Dec.{ltb}
 use lib.ListN.{length, get_or, take, drop, set, length-set, length-drop, drop_of_length-le, get_or-eq_default}
 use lib.Seq.{take_all, drop-cons, drop_at}
 use borrow.Author.Tests.{lt-ltb, ltb-true, ltb-false}
-use Rattle.rules.specs.Tests.{if◌then◌else◌}
 use Rattle.rules.specs.Lists.{Every, mem}
 use Rattle.rules.specs.PlanWords.{stop_word, left_word}
 use Rattle.rules.specs.Plan.{Round, round_words, rounds_words, plan_words, stops_on, Known}

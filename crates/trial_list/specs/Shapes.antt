@@ -1,7 +1,6 @@
 -- The plans that trials work on, and what a trial that may be made names. They serve the contracts of the functions that make trials and
 -- the proofs of what is promised; no definition rests on them. Assumes nothing.
-use Rattle.std.specs.Prelude.{ℕ, suc, ◌≤◌, ◌<◌, ◌≡◌, List, [], ◌∷◌, eqb, length}
-use Rattle.rules.specs.Tests.{if◌then◌else◌}
+use Rattle.std.specs.Prelude.{ℕ, suc, ◌≤◌, ◌<◌, ◌≡◌, List, [], ◌∷◌, eqb, length, if◌then◌else◌}
 use Rattle.rules.specs.Lists.{Every, times}
 use Rattle.rules.specs.Plan.{serve, empty, Round, stops_on, stops_on_all, Known}
 use Rattle.rules.specs.Build.{greedy_rounds}

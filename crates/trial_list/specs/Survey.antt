@@ -1,7 +1,6 @@
 -- Tables of the present plan: where each vehicle's words begin, which vehicle serves each stop, and how far each vehicle drives. It serves
 -- the contracts of the functions that make trials. Assumes nothing.
-use Rattle.std.specs.Prelude.{ℕ, ◌+◌, ◌-◌, ◌≤◌, ◌<◌, ◌≡◌, Bool, ◌&&◌, List, [], eqb, ltb, length, get_or, take, set}
-use Rattle.rules.specs.Tests.{if◌then◌else◌}
+use Rattle.std.specs.Prelude.{ℕ, ◌+◌, ◌-◌, ◌≤◌, ◌<◌, ◌≡◌, Bool, ◌&&◌, List, [], eqb, ltb, length, get_or, take, set, if◌then◌else◌}
 use Rattle.rules.specs.Lists.{Every, mem}
 use Rattle.rules.specs.Fields.{tips, stops, places, leg_distance}
 use Rattle.rules.specs.PlanWords.{stop_word, tip_word, rest_word}

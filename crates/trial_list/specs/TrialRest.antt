@@ -1,6 +1,5 @@
 -- The trial list of a plan from a place on. Assumes nothing.
-use Rattle.std.specs.Prelude.{ℕ, zero, suc, ◌-◌, Bool, false, ◌||◌, List, [], ◌∷◌, ◌++◌, eqb, get_or, drop}
-use Rattle.rules.specs.Tests.{if◌then◌else◌}
+use Rattle.std.specs.Prelude.{ℕ, zero, suc, ◌-◌, Bool, false, ◌||◌, List, [], ◌∷◌, ◌++◌, eqb, get_or, drop, if◌then◌else◌}
 use Rattle.rules.specs.Fields.{stops, tips}
 use Rattle.rules.specs.Plan.{Task, serve, empty, lunch, Round}
 use Rattle.rules.specs.Neighbours.{neighbours}

@@ -1,6 +1,5 @@
 // The trial list of the present plan, trial by trial: a cursor says where the list goes on, and the list is never written down.
-ghost use Rattle.std.specs.Prelude.{◌≡◌, true, false, ◌+◌, ◌<◌, ◌≤◌, eqb, get_or, length};
-ghost use Rattle.rules.specs.Tests.{if◌then◌else◌};
+ghost use Rattle.std.specs.Prelude.{◌≡◌, true, false, ◌+◌, ◌<◌, ◌≤◌, eqb, get_or, length, if◌then◌else◌};
 ghost use Rattle.rules.specs.Edits.{on_one, on_two};
 ghost use Rattle.edits.specs.EditWords.{edit_of};
 ghost use Rattle.trial_list.specs.TrialRest.{listed_trial, pair_on, list_start};

@@ -1,4 +1,5 @@
 -- Laws of a trip: one for each way through a visit, a rest and a return. Assumes nothing.
+use Rattle.std.specs.Prelude.{if◌then◌else◌}
 use Prim.Native.Nat.{ℕ, ◌+◌, ◌<◌, ◌≤◌, max}
 use mathlib.Core.Path.{◌≡◌, refl, sym, ◌∙◌}
 use mathlib.Core.Bool.{Bool, true, false, not, ◌&&◌}
@@ -6,7 +7,6 @@ use mathlib.Core.List.{List}
 use native.Mathlib.Omega.{arith}
 use lib.Dec.{ltb}
 use borrow.Author.Tests.{lt-ltb, le-ltb}
-use Rattle.rules.specs.Tests.{if◌then◌else◌}
 use Rattle.rules.specs.Fields.{stop_place, opening, closing, rest_opening, rest_closing, rest_minutes, service}
 use Rattle.rules.specs.Trip.{leaving, arrival, visit_start, rest_start, driven, visited, rested_at, visit_fault, rest_fault, back_fault}
 use Rattle.rules.specs.declared.walk.Trip.{Trip}

@@ -1,4 +1,5 @@
 -- The tasks of a vehicle, changed and walked again one by one, and the way back. Assumes nothing.
+use Rattle.std.specs.Prelude.{if◌then◌else◌}
 use Prim.Native.Nat.{ℕ, ◌+◌, ◌-◌, ◌*◌, ◌≤◌, ◌<◌}
 use mathlib.Core.Path.{◌≡◌, refl, sym, ap, ◌∙◌, subst}
 use mathlib.Core.Bool.{Bool, true, false}
@@ -7,7 +8,6 @@ use mathlib.Core.Option.{Option, some}
 use native.Mathlib.Omega.{arith}
 use lib.Dec.{eqb}
 use lib.ListN.{length, length-append, length-map, get_or, drop, drop_of_length-le}
-use Rattle.rules.specs.Tests.{if◌then◌else◌}
 use Rattle.rules.specs.PlanWords.{vehicle_word}
 use Rattle.rules.specs.Plan.{lunch, Round, stops_on, task_word}
 use Rattle.rules.specs.Trip.{leaving}

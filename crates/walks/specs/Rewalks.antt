@@ -1,8 +1,7 @@
 -- A vehicle's words, what an edit makes of them and how they are walked again, as the code has it. It serves the contracts of the functions
 -- that make trials. Assumes nothing.
-use Rattle.std.specs.Prelude.{ℕ, ◌+◌, ◌*◌, ◌≤◌, ◌<◌, ◌≡◌, true, false, List, [], ◌++◌, map, eqb, length, get_or, drop}
+use Rattle.std.specs.Prelude.{ℕ, ◌+◌, ◌*◌, ◌≤◌, ◌<◌, ◌≡◌, true, false, List, [], ◌++◌, map, eqb, length, get_or, drop, if◌then◌else◌}
 use Rattle.std.proofs.Math.Option.{Option, none, some}
-use Rattle.rules.specs.Tests.{if◌then◌else◌}
 use Rattle.rules.specs.Lists.{Every}
 use Rattle.rules.specs.Fields.{leg_distance}
 use Rattle.rules.specs.Plan.{lunch, Round, task_word, round_words, stops_on, Known}

@@ -1,5 +1,6 @@
 -- Rest if due and the way home: one law for each way through their functions.
 -- Assumes nothing.
+use Rattle.std.specs.Prelude.{if◌then◌else◌}
 use Prim.Native.Nat.{ℕ, ◌+◌, ◌≤◌, ◌<◌, max}
 use mathlib.Core.Path.{◌≡◌, refl, sym, ◌∙◌}
 use mathlib.Core.Bool.{Bool, true, false, not, ◌&&◌}
@@ -7,7 +8,6 @@ use mathlib.Core.List.{List}
 use native.Mathlib.Omega.{arith}
 use lib.Dec.{leb}
 use borrow.Author.Tests.{le-leb, lt-leb, leb-true, eq-eqb, ne_eqb}
-use Rattle.rules.specs.Tests.{if◌then◌else◌}
 use Rattle.rules.specs.Fields.{places, stop_place, opening, closing, rest_opening, rest_closing, rest_minutes}
 use Rattle.rules.specs.Trip.{visited, rested_at}
 use Rattle.rules.specs.Home.{nearest_tip, due, rest_if_due, home_direct, home_by_tip, home_loaded, way_home}

@@ -1,6 +1,5 @@
 -- The best so far of a search for the least key, with its key. It serves the contracts of the searches. Assumes nothing.
-use Rattle.std.specs.Prelude.{ℕ, ◌≤◌, ◌≡◌, eqb}
-use Rattle.rules.specs.Tests.{if◌then◌else◌}
+use Rattle.std.specs.Prelude.{ℕ, ◌≤◌, ◌≡◌, eqb, if◌then◌else◌}
 use Rattle.ways_home.specs.declared.best.Best.{Best}
 
 -- past every key

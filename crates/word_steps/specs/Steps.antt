@@ -1,6 +1,6 @@
 -- What the check hands on from word to word. It serves contracts; no definition of the check rests on it. Assumes nothing.
-use Rattle.std.specs.Prelude.{ℕ, ◌+◌, ◌*◌, ◌≤◌, ◌≡◌, Bool, true, false, not, List, get_or}
-use Rattle.rules.specs.Tests.{if◌then◌else◌, neb}
+use Rattle.std.specs.Prelude.{ℕ, ◌+◌, ◌*◌, ◌≤◌, ◌≡◌, Bool, true, false, not, List, get_or, if◌then◌else◌}
+use Rattle.rules.specs.Tests.{neb}
 use Rattle.rules.specs.PlanWords.{Word, vehicle, stop, tip, rest, back, left, stray}
 use Rattle.rules.specs.Cargo.{cargo_fault, cargo_after}
 use Rattle.rules.specs.Trip.{trip_fault, trip_after}
