@@ -8,7 +8,7 @@ survey-count-requires-clause-layout_of c = search (rules, held_short, held_plan)
 
 pub track-requires-clause-layout_of : goal.track-requires-clause-layout_of
 track-requires-clause-layout_of c = let p = c.requires in
-    (p.0.0, p.0.1, held_trackable p.0.1 p.0.2 p.0.0 p.0.3 c.survey.ensures)
+    (p.layout_of.0, p.layout_of.1, held_trackable p.layout_of.1 p.layout_of.2 p.layout_of.0 p.layout_of.3 c.survey-count.ensures)
 
 pub returns : goal.returns
 returns c = search tables_made

@@ -11,8 +11,8 @@ slice_bounds-make_tables-end c = search copied_fits
 
 pub make_tables-requires-clause-layout_of : goal.make_tables-requires-clause-layout_of
 make_tables-requires-clause-layout_of c = let p = c.requires in
-    (p.0.0, p.0.1, copied_held _ p.0.0 p.0.3 c.copy-words.ensures p.0.2, p.0.4)
+    (p.layout_of.0, p.layout_of.1, copied_held _ p.layout_of.0 p.layout_of.3 c.copy_words.ensures p.layout_of.2, p.layout_of.4)
 
 pub returns : goal.returns
 returns c = let p = c.requires.layout_of in
-    takes_over _ p.0 p.3 c.copy-words.ensures c.make_tables.ensures
+    takes_over _ p.0 p.3 c.copy_words.ensures c.make_tables.ensures
