@@ -1,6 +1,6 @@
 -- What a test decides: a definition is a chain of such decisions, in the order of the paper's list. And which of the numbers that pass a test
 -- has the least key. Assumes nothing.
-use Rattle.std.specs.Prelude.{ℕ, zero, suc, Bool, true, false, not, ◌&&◌, ◌||◌, ltb, eqb, if◌then◌else◌}
+use Rattle.std.specs.Prelude.{ℕ, zero, suc, Bool, not, ◌&&◌, ◌||◌, ltb, eqb, if◌then◌else◌}
 
 -- two numbers differ
 abbrev pub neb : ℕ → ℕ → Bool

@@ -1,10 +1,7 @@
 -- `all_to` marks the numbers 1 to n: after i turns the set is 1 to i, and each turn adds the next, by `up_to_suc`.
-use Prim.Native.Nat.{◌+◌, ◌-◌, ◌≤◌}
-use mathlib.Core.Path.{◌≡◌, ap, ◌∙◌}
-use native.Mathlib.Omega.{arith}
-use borrow.Author.Rules.{rules}
-use Rattle.laws.specs.Marks.{including, up_to, marked, ones_of}
-use Rattle.laws.proofs.Marks.{up_to_out, up_to_suc, marked_none, ones_of_none}
+use Prim.Native.Nat.{◌-◌, ◌≤◌}
+use mathlib.Core.Path.{◌≡◌}
+use Rattle.laws.specs.Marks.{up_to, marked, ones_of}
 use Rattle.marks.proofs.all_to.Given as goal
 
 abbrev pub invariant-loop-i : goal.invariant-loop-i

@@ -2,7 +2,6 @@
 use mathlib.Core.Path.{refl}
 use native.Mathlib.Omega.{arith}
 use lib.Pow.{pow_pos}
-use borrow.Author.Rules.{rules}
 use Rattle.laws.proofs.Bits.{bit_le, one_shl_bit}
 use Rattle.marks.proofs.clear_bit.Goals as goal
 

@@ -1,10 +1,6 @@
 -- `lowest` finds the lowest mark: the words passed have none (`lowest_next`), and the first that is not 0 has it (`lowest_word`).
-use Prim.Native.Nat.{ℕ, ◌*◌, ◌-◌, ◌≤◌, ◌<◌}
-use mathlib.Core.Path.{◌≡◌}
-use mathlib.Core.Bool.{false}
 use native.Mathlib.Omega.{arith}
 use borrow.Author.Rules.{rules}
-use Rattle.laws.specs.Marks.{marked}
 use Rattle.laws.proofs.Marks.{lowest_next, lowest_word}
 use Rattle.marks.proofs.lowest.Goals as goal
 

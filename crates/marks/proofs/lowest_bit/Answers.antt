@@ -1,6 +1,4 @@
 -- `lowest_bit` counts the zeros below the lowest set bit, by `trailing_lowest`.
-use native.Mathlib.Omega.{arith}
-use lib.Count.{trailing_le}
 use Rattle.laws.proofs.Bits.{trailing_lowest}
 use Rattle.marks.proofs.lowest_bit.Goals as goal
 

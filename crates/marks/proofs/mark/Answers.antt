@@ -2,7 +2,6 @@
 use Prim.Native.Nat.{◌%◌}
 use native.Mathlib.Omega.{arith}
 use mir.Syntax.{w64}
-use borrow.Author.Rules.{rules}
 use Rattle.laws.proofs.Arrays.{array_length, array_fits}
 use Rattle.laws.proofs.Bits.{bit_add_lt, one_shl}
 use Rattle.laws.proofs.Marks.{unmarked_bit, mark_words}

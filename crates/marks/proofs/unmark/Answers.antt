@@ -1,7 +1,6 @@
 -- `unmark` takes the mark of its number off, by `unmark_words`; the set bit is at most the word, by `bit_le`.
 use native.Mathlib.Omega.{arith}
 use mir.Syntax.{w64}
-use borrow.Author.Rules.{rules}
 use Rattle.laws.proofs.Arrays.{array_length}
 use Rattle.laws.proofs.Bits.{bit_le, one_shl}
 use Rattle.laws.proofs.Marks.{marked_within, marked_bit, unmark_words}

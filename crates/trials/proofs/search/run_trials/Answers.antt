@@ -1,0 +1,21 @@
+-- `trials::search::run_trials` meets its contract.
+use borrow.Author.Rules.{rules}
+use mathlib.Core.Path.{◌≡◌, refl, sym, ◌∙◌}
+use native.Mathlib.Omega.{arith}
+use lib.ListN.{length}
+use Rattle.search_steps.specs.Searches.{Searching, sets_of, steps_left}
+use Rattle.search_steps.proofs.SetLaws.{sets_some}
+use Rattle.search_steps.proofs.SearchSteps.{is_on, is_off}
+use Rattle.trials.proofs.search.run_trials.Goals as goal
+
+pub loop-layout-init : goal.loop-layout-init
+loop-layout-init c = (c.begin-s.ensures _ _ (sets_some c.args.set), refl, refl)
+
+pub next_step-s-requires-clause-searching : goal.next_step-s-requires-clause-searching
+next_step-s-requires-clause-searching c = (c.loop-layout.invariant.0, is_on c.is_going.ensures c.loop-layout-test.true)
+
+pub loop-layout-preserved : goal.loop-layout-preserved
+loop-layout-preserved c = (c.next_step-s.ensures.0, search rules, search rules)
+
+pub returns : goal.returns
+returns c = search is_off

@@ -1,0 +1,15 @@
+-- `trials::search::run_trials` meets its contract.
+use borrow.Author.Rules.{rules}
+use mathlib.Core.Path.{◌≡◌, refl, sym, ◌∙◌}
+use native.Mathlib.Omega.{arith}
+use lib.ListN.{length}
+use Rattle.search_steps.specs.Searches.{Searching, sets_of, steps_left}
+use Rattle.search_steps.proofs.SetLaws.{sets_some}
+use Rattle.search_steps.proofs.SearchSteps.{is_on, is_off}
+use Rattle.trials.proofs.search.run_trials.Given as goal
+
+abbrev pub invariant-loop-layout : goal.invariant-loop-layout
+invariant-loop-layout l = Searching l.day (sets_of l.set) l.set.budget l.plan l.starts l.vehicles l.driven l.tracks l.s × (length l.plan ≡ length l.initial.plan) × (length l.work ≡ length l.initial.work)
+
+abbrev pub decreases-loop-layout : goal.decreases-loop-layout
+decreases-loop-layout l = steps_left l.set.budget l.s
