@@ -1,11 +1,7 @@
 -- `candidates::copy_words` meets its contract.
-use borrow.Author.Rules.{rules}
-use Prim.Native.Nat.{◌-◌, ◌≤◌}
 use native.Mathlib.Omega.{arith}
-use lib.ListN.{length, take}
-use Rattle.laws.specs.Buffer.{Wrote}
 use Rattle.laws.proofs.Buffer.{wrote_none}
-use Rattle.candidates.proofs.CopyLaws.{copy_next, copy_end}
+use Rattle.candidates.proofs.CopyLaws.{copy_next}
 use Rattle.candidates.proofs.copy_words.Goals as goal
 
 pub loop-i-init : goal.loop-i-init

@@ -1,11 +1,7 @@
 -- `candidates::copy_words` meets its contract.
-use borrow.Author.Rules.{rules}
 use Prim.Native.Nat.{◌-◌, ◌≤◌}
-use native.Mathlib.Omega.{arith}
 use lib.ListN.{length, take}
 use Rattle.laws.specs.Buffer.{Wrote}
-use Rattle.laws.proofs.Buffer.{wrote_none}
-use Rattle.candidates.proofs.CopyLaws.{copy_next, copy_end}
 use Rattle.candidates.proofs.copy_words.Given as goal
 
 abbrev pub invariant-loop-i : goal.invariant-loop-i

@@ -3,7 +3,6 @@ use native.Mathlib.Omega.{arith}
 use mathlib.Core.Path.{refl}
 use Rattle.trial_list.proofs.LaidLaws.{round_are}
 use Rattle.candidates.proofs.NextRounds.{round_able, round_retried, is_touches, some_roundable}
-use borrow.Author.Rules.{rules}
 use Rattle.candidates.proofs.next_round.Goals as goal
 
 pub write_round-requires : goal.write_round-requires

@@ -2,8 +2,7 @@
 use native.Mathlib.Omega.{arith}
 use mathlib.Core.Path.{refl}
 use Rattle.greedy_laws.proofs.GreedyRoom.{room_is}
-use Rattle.candidates.proofs.WrittenLaws.{room_left, lefts_long, lefts_room, candidate_fails, candidate_ends}
-use borrow.Author.Rules.{rules}
+use Rattle.candidates.proofs.WrittenLaws.{room_left, lefts_long, lefts_room, candidate_ends}
 use Rattle.candidates.proofs.write_candidate.Goals as goal
 
 pub offset_bounds-work-at : goal.offset_bounds-work-at

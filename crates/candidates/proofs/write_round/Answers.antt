@@ -1,6 +1,6 @@
 -- `candidates::write_round` meets its contract.
 use borrow.Author.Rules.{rules}
-use Rattle.candidates.proofs.CandidateLaws.{round_walkable, some_walkable, round_walked, round_copied}
+use Rattle.candidates.proofs.CandidateLaws.{round_walkable, some_walkable, round_walked}
 use Rattle.candidates.proofs.write_round.Goals as goal
 
 pub walk_vehicle-requires : goal.walk_vehicle-requires

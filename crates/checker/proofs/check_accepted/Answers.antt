@@ -1,5 +1,4 @@
 -- `checker::check_accepted` meets its contract: the test is that of the definition.
-use borrow.Author.Rules.{rules}
 use Rattle.rules.specs.Check.{check_words}
 use Rattle.laws.proofs.Tests.{branches}
 use Rattle.checker.proofs.check_accepted.Goals as goal

@@ -1,8 +1,6 @@
 -- `edits::change_word` meets its contract.
-use native.Mathlib.Omega.{arith}
 use mathlib.Core.Path.{refl}
 use Rattle.edits.proofs.ChangeLaws.{rest_off, moved_before, moved_after, swapped, removed, replaced}
-use borrow.Author.Rules.{rules}
 use Rattle.edits.proofs.change_word.Goals as goal
 
 pub returns-then-w-eq-REST : goal.returns-then-w-eq-REST

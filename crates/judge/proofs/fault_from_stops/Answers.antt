@@ -1,5 +1,4 @@
 -- `judge::fault_from_stops` meets its contract.
-use borrow.Author.Rules.{rules}
 use Rattle.day_faults.proofs.Parts.{found_stands, found_behind}
 use Rattle.judge.proofs.fault_from_stops.Goals as goal
 

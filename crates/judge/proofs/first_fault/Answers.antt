@@ -1,5 +1,4 @@
 -- `judge::first_fault` meets its contract.
-use borrow.Author.Rules.{rules}
 use Rattle.day_faults.proofs.Parts.{found_stands, found_behind}
 use Rattle.judge.proofs.first_fault.Goals as goal
 

@@ -1,5 +1,4 @@
 -- `judge::judge` meets its contract: the tests are those of the definition, in its order.
-use borrow.Author.Rules.{rules}
 use Rattle.rules.specs.DayFile.{judge_day}
 use Rattle.laws.proofs.Tests.{branches}
 use Rattle.judge.proofs.judge.Goals as goal

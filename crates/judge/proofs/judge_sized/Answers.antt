@@ -1,10 +1,6 @@
 -- `judge::judge_sized` meets its contract: the tests are those of the definition, in its order.
-use borrow.Author.Rules.{rules}
-use native.Mathlib.Omega.{arith}
 use Rattle.rules.specs.DayFile.{judge_sized}
 use Rattle.laws.proofs.Tests.{branches}
-use Rattle.day.proofs.Forms.{legs_few}
-use Rattle.day_faults.proofs.Parts.{whole_day}
 use Rattle.day_faults.specs.Judging.{judged_from}
 use Rattle.judge.proofs.judge_sized.Goals as goal
 

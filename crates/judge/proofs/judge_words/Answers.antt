@@ -1,5 +1,4 @@
 -- `judge::judge_words` meets its contract.
-use borrow.Author.Rules.{rules}
 use Rattle.day_faults.proofs.Parts.{fault_answers, none_answers}
 use Rattle.judge.proofs.judge_words.Goals as goal
 

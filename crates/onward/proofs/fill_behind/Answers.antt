@@ -3,7 +3,7 @@ use borrow.Author.Rules.{rules}
 use Prim.Native.Nat.{◌-◌, ◌≤◌}
 use mathlib.Core.Path.{◌∙◌}
 use native.Mathlib.Omega.{arith}
-use Rattle.onward.proofs.FillLaws.{Filling, filling_inside, filling_start, filling_writes, filling_next, filling_end}
+use Rattle.onward.proofs.FillLaws.{filling_inside, filling_start, filling_writes, filling_next}
 use Rattle.onward.proofs.fill_behind.Goals as goal
 
 pub put_row-requires : goal.put_row-requires

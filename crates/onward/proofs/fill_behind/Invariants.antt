@@ -1,9 +1,5 @@
 -- `onward::fill_behind` meets its contract.
-use borrow.Author.Rules.{rules}
-use Prim.Native.Nat.{◌-◌, ◌≤◌}
-use mathlib.Core.Path.{◌∙◌}
-use native.Mathlib.Omega.{arith}
-use Rattle.onward.proofs.FillLaws.{Filling, filling_inside, filling_start, filling_writes, filling_next, filling_end}
+use Rattle.onward.proofs.FillLaws.{Filling}
 use Rattle.onward.proofs.fill_behind.Given as goal
 
 abbrev pub invariant-loop-at : goal.invariant-loop-at

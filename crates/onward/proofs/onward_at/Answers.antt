@@ -1,7 +1,6 @@
 -- `onward::onward_at` meets its contract.
 use mathlib.Core.Path.{refl}
 use Rattle.onward.specs.Behind.{row_at}
-use borrow.Author.Rules.{rules}
 use Rattle.onward.proofs.onward_at.Goals as goal
 
 pub returns : goal.returns

@@ -1,7 +1,6 @@
 -- `onward::onward_before` meets its contract.
 use native.Mathlib.Omega.{arith}
 use Rattle.onward.proofs.FirstLaws.{stop_number, tip_number, puts_stop, puts_tip, puts_rest}
-use borrow.Author.Rules.{rules}
 use Rattle.onward.proofs.onward_before.Goals as goal
 
 pub overflow_sub-w : goal.overflow_sub-w

@@ -1,6 +1,5 @@
 -- `onward::stop_first` meets its contract.
 use Rattle.onward.proofs.FirstLaws.{stop_fits, stop_over}
-use borrow.Author.Rules.{rules}
 use Rattle.onward.proofs.stop_first.Goals as goal
 
 pub returns-then-q-o : goal.returns-then-q-o

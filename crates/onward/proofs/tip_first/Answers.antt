@@ -1,6 +1,5 @@
 -- `onward::tip_first` meets its contract.
 use Rattle.onward.proofs.FirstLaws.{tip_empties, tip_over}
-use borrow.Author.Rules.{rules}
 use Rattle.onward.proofs.tip_first.Goals as goal
 
 pub returns-then-o-eq0 : goal.returns-then-o-eq0

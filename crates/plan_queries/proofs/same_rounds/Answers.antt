@@ -1,5 +1,4 @@
 -- `plan_queries::same_rounds` meets its contract: one law for each case of the check's answer.
-use borrow.Author.Rules.{rules}
 use Rattle.plan_queries.proofs.PlanCalls.{first_lawful, first_refused, plan_numbered}
 use Rattle.plan_queries.proofs.same_rounds.Goals as goal
 

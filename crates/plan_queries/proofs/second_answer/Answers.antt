@@ -1,5 +1,4 @@
 -- `plan_queries::second_answer` meets its contract: one law for each case of the check's answer.
-use borrow.Author.Rules.{rules}
 use native.Mathlib.Omega.{arith}
 use Rattle.plan_queries.proofs.PlanCalls.{rounds_same, rounds_differ, second_refused, plan_numbered, place_small}
 use Rattle.plan_queries.proofs.second_answer.Goals as goal

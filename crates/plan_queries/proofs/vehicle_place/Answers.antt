@@ -1,5 +1,4 @@
 -- `plan_queries::vehicle_place` meets its contract: one law for each case of the check's answer.
-use borrow.Author.Rules.{rules}
 use Rattle.plan_queries.proofs.PlanCalls.{place_asked, place_refused}
 use Rattle.plan_queries.proofs.vehicle_place.Goals as goal
 

@@ -1,6 +1,5 @@
 -- `roots::above` meets its contract.
-use borrow.Author.Rules.{rules}
-use Rattle.roots.proofs.RootLaws.{sum_fits, mean_fits, mean_above}
+use Rattle.roots.proofs.RootLaws.{mean_above}
 use Rattle.roots.proofs.above.Goals as goal
 
 pub returns : goal.returns

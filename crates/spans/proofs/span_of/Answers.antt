@@ -1,6 +1,5 @@
 -- `spans::span_of` meets its contract.
 use Rattle.spans.proofs.SpanLaws.{before_span, after_span, swap_span, remove_span, replace_span}
-use borrow.Author.Rules.{rules}
 use Rattle.spans.proofs.span_of.Goals as goal
 
 pub returns-in-Before : goal.returns-in-Before

@@ -1,5 +1,4 @@
 -- `spans::span_of_swap` meets its contract.
-use borrow.Author.Rules.{rules}
 use Rattle.spans.proofs.span_of_swap.Goals as goal
 
 pub returns-then-here : goal.returns-then-here

@@ -1,8 +1,6 @@
 -- `spans::span_of_two` meets its contract.
 use native.Mathlib.Omega.{arith}
-use Rattle.spans.specs.Span.{whole}
 use Rattle.spans.proofs.SpanLaws.{place_held}
-use borrow.Author.Rules.{rules}
 use Rattle.spans.proofs.span_of_two.Goals as goal
 
 pub returns-then-one-two : goal.returns-then-one-two

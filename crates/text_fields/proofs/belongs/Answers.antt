@@ -1,6 +1,5 @@
 -- `text_fields::belongs` meets its contract.
 use Rattle.text_fields.proofs.Passing.{in_blanks, in_gaps, in_field, in_line, in_digits}
-use borrow.Author.Rules.{rules}
 use Rattle.text_fields.proofs.belongs.Goals as goal
 
 pub returns-in-Blanks : goal.returns-in-Blanks

@@ -1,7 +1,6 @@
 -- `text_fields::ends_line` meets its contract.
 use Rattle.rules.specs.TextFields.{ends_line, is_feed}
 use Rattle.laws.proofs.Tests.{branches}
-use borrow.Author.Rules.{rules}
 use Rattle.text_fields.proofs.ends_line.Goals as goal
 
 pub returns-then-at-text : goal.returns-then-at-text

@@ -1,7 +1,6 @@
 -- `text_fields::is_blank` meets its contract.
 use Rattle.rules.specs.TextFields.{is_blank}
 use Rattle.laws.proofs.Tests.{branches}
-use borrow.Author.Rules.{rules}
 use Rattle.text_fields.proofs.is_blank.Goals as goal
 
 pub returns-then-b-eq32 : goal.returns-then-b-eq32

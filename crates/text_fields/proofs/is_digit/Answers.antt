@@ -1,7 +1,6 @@
 -- `text_fields::is_digit` meets its contract.
 use Rattle.rules.specs.TextFields.{is_digit}
 use Rattle.laws.proofs.Tests.{branches}
-use borrow.Author.Rules.{rules}
 use Rattle.text_fields.proofs.is_digit.Goals as goal
 
 pub returns-then-b-lt48 : goal.returns-then-b-lt48

@@ -1,7 +1,6 @@
 -- `text_fields::is_gap` meets its contract.
 use Rattle.rules.specs.TextFields.{is_gap, is_feed}
 use Rattle.laws.proofs.Tests.{branches}
-use borrow.Author.Rules.{rules}
 use Rattle.text_fields.proofs.is_gap.Goals as goal
 
 pub returns-then-b-eq10 : goal.returns-then-b-eq10

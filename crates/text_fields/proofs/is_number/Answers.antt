@@ -1,7 +1,6 @@
 -- `text_fields::is_number` meets its contract.
 use Rattle.text_fields.proofs.Passing.{number_some, number_none}
 use Rattle.text_fields.specs.Runs.{in_run}
-use borrow.Author.Rules.{rules}
 use Rattle.text_fields.proofs.is_number.Goals as goal
 
 pub returns-then-at-digits : goal.returns-then-at-digits

@@ -1,7 +1,6 @@
 -- `text_fields::is_word` meets its contract.
 use Rattle.text_fields.proofs.Words.{word_compared, word_other}
 use Rattle.text_fields.specs.Runs.{in_run}
-use borrow.Author.Rules.{rules}
 use Rattle.text_fields.proofs.is_word.Goals as goal
 
 pub returns-then-end-at : goal.returns-then-end-at

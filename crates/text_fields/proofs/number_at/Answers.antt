@@ -1,10 +1,5 @@
 -- `text_fields::number_at` meets its contract.
-use Rattle.rules.specs.TextFields.{value_from}
-use Rattle.text_fields.specs.Runs.{held_at}
 use Rattle.text_fields.proofs.Numbers.{digit_low, number_start, number_on, number_stop, number_end}
-use lib.ListN.{length, drop}
-use mathlib.Core.Path.{◌≡◌}
-use Prim.Native.Nat.{◌≤◌, ◌-◌, min}
 use borrow.Author.Rules.{rules}
 use Rattle.text_fields.proofs.number_at.Goals as goal
 

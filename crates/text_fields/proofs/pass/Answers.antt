@@ -1,10 +1,5 @@
 -- `text_fields::pass` meets its contract.
-use Rattle.rules.specs.TextFields.{passed}
-use Rattle.text_fields.specs.Runs.{in_run}
 use Rattle.text_fields.proofs.Passing.{pass_on, pass_stop, pass_end}
-use lib.ListN.{length}
-use mathlib.Core.Path.{◌≡◌, refl}
-use Prim.Native.Nat.{◌≤◌, ◌-◌}
 use borrow.Author.Rules.{rules}
 use Rattle.text_fields.proofs.pass.Goals as goal
 

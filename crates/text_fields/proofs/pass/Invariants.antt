@@ -1,11 +1,9 @@
 -- `text_fields::pass` meets its contract.
 use Rattle.rules.specs.TextFields.{passed}
 use Rattle.text_fields.specs.Runs.{in_run}
-use Rattle.text_fields.proofs.Passing.{pass_on, pass_stop, pass_end}
 use lib.ListN.{length}
-use mathlib.Core.Path.{◌≡◌, refl}
+use mathlib.Core.Path.{◌≡◌}
 use Prim.Native.Nat.{◌≤◌, ◌-◌}
-use borrow.Author.Rules.{rules}
 use Rattle.text_fields.proofs.pass.Given as goal
 
 abbrev pub invariant-loop-i : goal.invariant-loop-i

@@ -1,9 +1,5 @@
 -- `text_fields::starts_with` meets its contract.
-use Rattle.rules.specs.TextFields.{starts_with}
-use Rattle.text_fields.proofs.Words.{starts_first, starts_on, starts_differs, starts_short, starts_all}
-use lib.ListN.{length, drop}
-use mathlib.Core.Path.{◌≡◌}
-use Prim.Native.Nat.{◌≤◌, ◌-◌, ◌+◌}
+use Rattle.text_fields.proofs.Words.{starts_on, starts_differs, starts_short, starts_all}
 use borrow.Author.Rules.{rules}
 use Rattle.text_fields.proofs.starts_with.Goals as goal
 

@@ -2,7 +2,6 @@
 use Rattle.greedy_laws.proofs.GreedyRoom.{room_is}
 use Rattle.attempts.proofs.SpanOfTrials.{valid_single}
 use Rattle.attempts.proofs.TryLaws.{retry_walkable, retry_measurable, retry_short}
-use borrow.Author.Rules.{rules}
 use Rattle.attempts.proofs.tries.retry.Goals as goal
 
 pub measure-requires : goal.measure-requires

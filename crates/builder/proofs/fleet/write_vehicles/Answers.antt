@@ -1,7 +1,5 @@
 -- `builder::fleet::write_vehicles` meets its contract.
-use Prim.Native.Nat.{◌+◌, min}
-use Rattle.laws.specs.Marks.{ones_of}
-use Rattle.builder.proofs.FleetWords.{Underway, underway_start, at_few, at_within, underway_space, number_few, underway_next, ones_fall, next_few, underway_end}
+use Rattle.builder.proofs.FleetWords.{underway_start, underway_next, ones_fall, next_few, underway_end}
 use borrow.Author.Rules.{rules}
 use native.Mathlib.Omega.{arith}
 use Rattle.builder.proofs.fleet.write_vehicles.Goals as goal

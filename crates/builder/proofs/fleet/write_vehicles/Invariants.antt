@@ -1,9 +1,7 @@
 -- `builder::fleet::write_vehicles` meets its contract.
 use Prim.Native.Nat.{◌+◌, min}
 use Rattle.laws.specs.Marks.{ones_of}
-use Rattle.builder.proofs.FleetWords.{Underway, underway_start, at_few, at_within, underway_space, number_few, underway_next, ones_fall, next_few, underway_end}
-use borrow.Author.Rules.{rules}
-use native.Mathlib.Omega.{arith}
+use Rattle.builder.proofs.FleetWords.{Underway}
 use Rattle.builder.proofs.fleet.write_vehicles.Given as goal
 
 abbrev pub invariant-loop-words : goal.invariant-loop-words

@@ -1,7 +1,6 @@
 -- `builder::greedy::build_accepted` meets its contract.
 use Rattle.builder.proofs.BuiltPlans.{short_answer, short_buffer, long_buffer, long_answer, not_refused, plan_fits}
 use Rattle.day.proofs.Ranges.{accepted_ranges}
-use borrow.Author.Rules.{rules}
 use native.Mathlib.Omega.{arith}
 use Rattle.builder.proofs.greedy.build_accepted.Goals as goal
 

@@ -1,6 +1,5 @@
 -- `builder::greedy::write_plan` meets its contract.
 use Rattle.builder.proofs.BuiltPlans.{plan_size, lefts_are, plan_filled}
-use borrow.Author.Rules.{rules}
 use Rattle.builder.proofs.greedy.write_plan.Goals as goal
 
 pub returns-clause-size : goal.returns-clause-size

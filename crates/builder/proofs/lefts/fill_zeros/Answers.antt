@@ -1,9 +1,6 @@
 -- `builder::lefts::fill_zeros` meets its contract.
-use Prim.Native.Nat.{◌-◌, ◌≤◌}
-use borrow.Author.Rules.{rules}
 use native.Mathlib.Omega.{arith}
 use Rattle.laws.proofs.Buffer.{zeros_start, zeros_next, zeros_end}
-use Rattle.laws.specs.Buffer.{Wrote, zeros}
 use Rattle.builder.proofs.lefts.fill_zeros.Goals as goal
 
 pub loop-at-init : goal.loop-at-init

@@ -1,8 +1,5 @@
 -- `builder::lefts::write_lefts` meets its contract.
-use Rattle.builder.proofs.LeftLaws.{Turn, turn_first, turn_marked, turn_space, turn_next, turn_count, turn_last}
-use Rattle.laws.specs.Marks.{ones_of}
-use borrow.Author.Rules.{rules}
-use native.Mathlib.Omega.{arith}
+use Rattle.builder.proofs.LeftLaws.{turn_first, turn_space, turn_next, turn_last}
 use Rattle.builder.proofs.lefts.write_lefts.Goals as goal
 
 pub loop-stop-init : goal.loop-stop-init

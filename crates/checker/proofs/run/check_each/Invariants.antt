@@ -1,8 +1,6 @@
 -- `checker::run::check_each` meets its contract: what is left to check after i words is answered as the whole plan is.
 use Prim.Native.Nat.{◌≤◌, ◌-◌}
-use borrow.Author.Rules.{rules}
 use lib.ListN.{length}
-use Rattle.plan_parts.proofs.Reaching.{reached_start, reached_small, reached_tally, reached_fault, stop_byte, reached_next, reached_end}
 use Rattle.plan_parts.specs.Walked.{Reached}
 use Rattle.checker.proofs.run.check_each.Given as goal
 

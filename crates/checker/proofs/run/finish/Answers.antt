@@ -1,5 +1,4 @@
 -- `checker::run::finish` meets its contract: the tests are those of the definition, in its order.
-use borrow.Author.Rules.{rules}
 use Rattle.laws.proofs.Tests.{branches}
 use Rattle.plan_parts.specs.Walked.{end_of}
 use Rattle.checker.proofs.run.finish.Goals as goal

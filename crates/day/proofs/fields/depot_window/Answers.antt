@@ -1,5 +1,4 @@
 -- `day::fields::depot_window` meets its contract.
-use borrow.Author.Rules.{rules}
 use Rattle.day.proofs.Readers.{depot_read}
 use Rattle.day.proofs.fields.depot_window.Goals as goal
 

@@ -1,5 +1,4 @@
 -- `day::fields::stop_quantity` meets its contract.
-use borrow.Author.Rules.{rules}
 use Rattle.day.proofs.Readers.{stop_quantity_read}
 use Rattle.day.proofs.fields.stop_quantity.Goals as goal
 

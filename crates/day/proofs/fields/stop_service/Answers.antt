@@ -1,5 +1,4 @@
 -- `day::fields::stop_service` meets its contract.
-use borrow.Author.Rules.{rules}
 use Rattle.day.proofs.Readers.{stop_service_read}
 use Rattle.day.proofs.fields.stop_service.Goals as goal
 

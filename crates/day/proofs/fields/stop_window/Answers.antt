@@ -1,5 +1,4 @@
 -- `day::fields::stop_window` meets its contract.
-use borrow.Author.Rules.{rules}
 use Rattle.day.proofs.Readers.{stop_window_read}
 use Rattle.day.proofs.fields.stop_window.Goals as goal
 

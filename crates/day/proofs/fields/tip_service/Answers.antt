@@ -1,5 +1,4 @@
 -- `day::fields::tip_service` meets its contract.
-use borrow.Author.Rules.{rules}
 use Rattle.day.proofs.Readers.{tip_service_read}
 use Rattle.day.proofs.fields.tip_service.Goals as goal
 

@@ -1,5 +1,4 @@
 -- `day::fields::tip_window` meets its contract.
-use borrow.Author.Rules.{rules}
 use Rattle.day.proofs.Readers.{tip_window_read}
 use Rattle.day.proofs.fields.tip_window.Goals as goal
 

@@ -1,9 +1,6 @@
 -- `day_faults::faults::head_fault` meets its contract: the answer from word 1 on is that from word i on.
-use Prim.Native.Nat.{◌≤◌, ◌-◌}
 use borrow.Author.Rules.{rules}
-use mathlib.Core.Path.{◌≡◌, refl}
 use Rattle.day_faults.proofs.Parts.{head_stops, head_passes, head_end}
-use Rattle.day_faults.specs.Judging.{judged_from}
 use Rattle.day_faults.proofs.faults.head_fault.Goals as goal
 
 pub returns-then-number-ne0 : goal.returns-then-number-ne0

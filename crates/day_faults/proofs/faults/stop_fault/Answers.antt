@@ -1,5 +1,4 @@
 -- `day_faults::faults::stop_fault` meets its contract.
-use borrow.Author.Rules.{rules}
 use Rattle.day_faults.proofs.Parts.{stop_window_stops, stop_service_stops, stop_quantity_judged}
 use Rattle.day_faults.proofs.faults.stop_fault.Goals as goal
 

@@ -1,9 +1,7 @@
 -- `day_faults::faults::stops_fault` meets its contract: the answer from the stops on is that from stop k + 1 on.
 use Prim.Native.Nat.{◌≤◌, ◌-◌, ◌+◌, ◌*◌}
-use borrow.Author.Rules.{rules}
-use mathlib.Core.Path.{◌≡◌, refl}
+use mathlib.Core.Path.{◌≡◌}
 use Rattle.rules.specs.DayFile.{tips_end}
-use Rattle.day_faults.proofs.Parts.{part_stops, part_passes, stops_end}
 use Rattle.day_faults.specs.Judging.{judged_from}
 use Rattle.day_faults.proofs.faults.stops_fault.Given as goal
 

@@ -1,5 +1,4 @@
 -- `day_faults::faults::tip_fault` meets its contract.
-use borrow.Author.Rules.{rules}
 use Rattle.day_faults.proofs.Parts.{tip_window_stops, tip_service_judged}
 use Rattle.day_faults.proofs.faults.tip_fault.Goals as goal
 

@@ -1,9 +1,6 @@
 -- `day_faults::faults::tips_fault` meets its contract: the answer from the tips on is that from tip k + 1 on.
-use Prim.Native.Nat.{◌≤◌, ◌-◌, ◌+◌, ◌*◌}
 use borrow.Author.Rules.{rules}
-use mathlib.Core.Path.{◌≡◌, refl}
 use Rattle.day_faults.proofs.Parts.{part_stops, part_passes, tips_end_lem}
-use Rattle.day_faults.specs.Judging.{judged_from}
 use Rattle.day_faults.proofs.faults.tips_fault.Goals as goal
 
 pub returns-then-found-ne0 : goal.returns-then-found-ne0

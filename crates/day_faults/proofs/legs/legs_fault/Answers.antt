@@ -1,12 +1,7 @@
 -- `day_faults::legs::legs_fault` meets its contract: the answer from the legs on is that from row p on.
-use Prim.Native.Nat.{◌≤◌, ◌-◌, ◌+◌, ◌*◌}
 use borrow.Author.Rules.{rules}
-use lib.ListN.{length}
-use mathlib.Core.Path.{◌≡◌, refl}
-use Rattle.rules.specs.DayFile.{places_of, legs_at}
 use Rattle.day_faults.proofs.Parts.{part_stops, part_passes}
 use Rattle.day_faults.proofs.Rows.{row_at, row_next, row_within, rows_end}
-use Rattle.day_faults.specs.Judging.{judged_from}
 use Rattle.day_faults.proofs.legs.legs_fault.Goals as goal
 
 pub row_fault-found-requires : goal.row_fault-found-requires

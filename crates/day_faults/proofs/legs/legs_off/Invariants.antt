@@ -1,8 +1,6 @@
 -- `day_faults::legs::legs_off` meets its contract: where the count is 0, every word passed is in range.
 use Prim.Native.Nat.{◌≤◌, ◌-◌}
-use borrow.Author.Rules.{rules}
 use mathlib.Core.Path.{◌≡◌}
-use Rattle.day_faults.proofs.Rows.{range_start, range_next, range_end}
 use Rattle.day_faults.specs.Judging.{InRange}
 use Rattle.day_faults.proofs.legs.legs_off.Given as goal
 

@@ -1,5 +1,4 @@
 -- `day_faults::legs::row_fault` meets its contract.
-use borrow.Author.Rules.{rules}
 use Rattle.day_faults.proofs.Rows.{glance_passes}
 use Rattle.day_faults.proofs.legs.row_fault.Goals as goal
 

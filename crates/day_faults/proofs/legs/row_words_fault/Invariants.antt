@@ -1,8 +1,6 @@
 -- `day_faults::legs::row_words_fault` meets its contract: the answer from the row's start on is that from word i on.
 use Prim.Native.Nat.{◌≤◌, ◌-◌}
-use borrow.Author.Rules.{rules}
-use mathlib.Core.Path.{◌≡◌, refl}
-use Rattle.day_faults.proofs.Rows.{row_word_stops, row_word_passes, row_end}
+use mathlib.Core.Path.{◌≡◌}
 use Rattle.day_faults.specs.Judging.{judged_from}
 use Rattle.day_faults.proofs.legs.row_words_fault.Given as goal
 

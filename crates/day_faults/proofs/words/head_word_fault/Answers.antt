@@ -1,5 +1,4 @@
 -- `day_faults::words::head_word_fault` meets its contract.
-use borrow.Author.Rules.{rules}
 use Rattle.rules.specs.DayFile.{head_form}
 use Rattle.laws.proofs.Tests.{branches}
 use Rattle.day.proofs.WordFaults.{form_fault}

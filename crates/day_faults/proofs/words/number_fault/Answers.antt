@@ -1,5 +1,4 @@
 -- `day_faults::words::number_fault` meets its contract.
-use borrow.Author.Rules.{rules}
 use Rattle.day.proofs.WordFaults.{lone_kind, lone_low, lone_high, lone_right}
 use Rattle.day_faults.proofs.words.number_fault.Goals as goal
 

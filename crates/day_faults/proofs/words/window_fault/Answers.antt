@@ -1,5 +1,4 @@
 -- `day_faults::words::window_fault` meets its contract.
-use borrow.Author.Rules.{rules}
 use Rattle.day.proofs.WordFaults.{window_kind, window_backward, window_late, window_right}
 use Rattle.day_faults.proofs.words.window_fault.Goals as goal
 

@@ -1,8 +1,5 @@
 -- `neighbours::table::fill_keys` meets its contract.
-use borrow.Author.Rules.{rules}
 use Prim.Native.Nat.{◌-◌, ◌≤◌}
-use native.Mathlib.Omega.{arith}
-use Rattle.neighbours.proofs.KeyLaws.{keys_none, keys_next, keys_all}
 use Rattle.neighbours.specs.Tables.{KeysTo}
 use Rattle.neighbours.proofs.table.fill_keys.Given as goal
 

@@ -1,10 +1,7 @@
 -- `neighbours::table::fill_row` meets its contract.
 use borrow.Author.Rules.{rules}
-use Prim.Native.Nat.{◌-◌, ◌≤◌}
-use mathlib.Core.Path.{◌≡◌}
 use native.Mathlib.Omega.{arith}
-use Rattle.neighbours.proofs.NeighbourTable.{key_first, key_next, row_none, row_next, row_all}
-use Rattle.neighbours.specs.Tables.{key_after, RowBy}
+use Rattle.neighbours.proofs.NeighbourTable.{key_first, key_next, row_none, row_next}
 use Rattle.neighbours.proofs.table.fill_row.Goals as goal
 
 pub loop-r-init : goal.loop-r-init

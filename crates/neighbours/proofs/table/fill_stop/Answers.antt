@@ -1,5 +1,4 @@
 -- `neighbours::table::fill_stop` meets its contract.
-use borrow.Author.Rules.{rules}
 use Rattle.neighbours.proofs.NeighbourTable.{row_of}
 use Rattle.neighbours.proofs.table.fill_stop.Goals as goal
 

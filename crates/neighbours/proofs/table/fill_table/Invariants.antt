@@ -1,7 +1,5 @@
 -- `neighbours::table::fill_table` meets its contract.
-use borrow.Author.Rules.{rules}
 use Prim.Native.Nat.{◌-◌, ◌≤◌}
-use Rattle.neighbours.proofs.NeighbourTable.{rows_none, rows_next, rows_all}
 use Rattle.neighbours.specs.Tables.{RowsTo}
 use Rattle.neighbours.proofs.table.fill_table.Given as goal
 

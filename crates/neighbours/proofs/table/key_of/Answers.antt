@@ -1,6 +1,5 @@
 -- `neighbours::table::key_of` meets its contract.
 use native.Mathlib.Omega.{arith}
-use borrow.Author.Rules.{rules}
 use Rattle.neighbours.proofs.KeyLaws.{key_self, key_early, key_late, key_is_lem}
 use Rattle.neighbours.proofs.table.key_of.Goals as goal
 

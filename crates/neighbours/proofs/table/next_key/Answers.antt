@@ -1,9 +1,6 @@
 -- `neighbours::table::next_key` meets its contract.
 use borrow.Author.Rules.{rules}
-use Prim.Native.Nat.{◌-◌, ◌≤◌}
-use mathlib.Core.Path.{◌≡◌}
-use Rattle.neighbours.proofs.KeyLaws.{above_none, above_next, above_all}
-use Rattle.neighbours.specs.Tables.{least_above}
+use Rattle.neighbours.proofs.KeyLaws.{above_none, above_next}
 use Rattle.neighbours.proofs.table.next_key.Goals as goal
 
 pub loop-j-init : goal.loop-j-init

@@ -1,5 +1,4 @@
 -- `neighbours::table::stop_of_key` meets its contract.
-use borrow.Author.Rules.{rules}
 use Rattle.laws.proofs.Tests.{branches}
 use Rattle.neighbours.specs.Tables.{stop_of_key}
 use Rattle.neighbours.proofs.table.stop_of_key.Goals as goal

@@ -1,7 +1,6 @@
 -- `next_task::choice::best_in_word` meets its contract: each turn goes on to the next candidate, by `word_next`.
 use borrow.Author.Rules.{rules}
-use native.Mathlib.Omega.{arith}
-use Rattle.next_task.proofs.ChoiceLaws.{Walked, word_start, word_over, word_next, word_end, next_candidate}
+use Rattle.next_task.proofs.ChoiceLaws.{word_start, word_over, word_next, word_end}
 use Rattle.next_task.proofs.choice.best_in_word.Goals as goal
 
 pub loop-rest-init : goal.loop-rest-init

@@ -1,7 +1,5 @@
 -- `next_task::choice::best_in_word` meets its contract: each turn goes on to the next candidate, by `word_next`.
-use borrow.Author.Rules.{rules}
-use native.Mathlib.Omega.{arith}
-use Rattle.next_task.proofs.ChoiceLaws.{Walked, word_start, word_over, word_next, word_end, next_candidate}
+use Rattle.next_task.proofs.ChoiceLaws.{Walked}
 use Rattle.next_task.proofs.choice.best_in_word.Given as goal
 
 abbrev pub invariant-loop-rest : goal.invariant-loop-rest

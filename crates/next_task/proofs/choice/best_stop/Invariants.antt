@@ -1,15 +1,10 @@
 -- `next_task::choice::best_stop` meets its contract: the best so far is the least of the numbers of the words before word i.
-use borrow.Author.Rules.{rules}
 use Prim.Native.Nat.{◌*◌, ◌-◌, ◌≤◌}
-use mathlib.Core.Path.{◌≡◌, ap, ◌∙◌, refl}
-use native.Mathlib.Omega.{arith}
-use Rattle.rules.specs.Tests.{least}
+use mathlib.Core.Path.{◌≡◌}
 use Rattle.laws.specs.Marks.{marked, both}
 use Rattle.laws.specs.Walk.{least_below}
-use Rattle.laws.proofs.Walk.{below_none, below_all, word_next}
 use Rattle.next_task.specs.Wanted.{wanted, key_of}
 use Rattle.ways_home.specs.Bests.{BestBy}
-use Rattle.ways_home.proofs.BestLaws.{none_so_far}
 use Rattle.next_task.proofs.choice.best_stop.Given as goal
 
 abbrev pub invariant-loop-i : goal.invariant-loop-i

@@ -1,7 +1,5 @@
 -- `next_task::choice::from_candidate` meets its contract: each turn passes the lowest bit that is left, by `passed_next`.
-use borrow.Author.Rules.{rules}
-use native.Mathlib.Omega.{arith}
-use Rattle.next_task.proofs.ChoiceLaws.{Passed, passed_none, passed_next, candidate_here, none_left}
+use Rattle.next_task.proofs.ChoiceLaws.{passed_next, candidate_here, none_left}
 use Rattle.next_task.proofs.choice.from_candidate.Goals as goal
 
 pub returns-then-is_candidate : goal.returns-then-is_candidate

@@ -1,7 +1,5 @@
 -- `next_task::choice::from_candidate` meets its contract: each turn passes the lowest bit that is left, by `passed_next`.
-use borrow.Author.Rules.{rules}
-use native.Mathlib.Omega.{arith}
-use Rattle.next_task.proofs.ChoiceLaws.{Passed, passed_none, passed_next, candidate_here, none_left}
+use Rattle.next_task.proofs.ChoiceLaws.{Passed}
 use Rattle.next_task.proofs.choice.from_candidate.Given as goal
 
 abbrev pub invariant-loop-rest : goal.invariant-loop-rest

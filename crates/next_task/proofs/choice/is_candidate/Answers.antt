@@ -1,5 +1,4 @@
 -- `next_task::choice::is_candidate` meets its contract.
-use borrow.Author.Rules.{rules}
 use Rattle.next_task.proofs.ChoiceLaws.{no_stop, past_stops, not_less, not_fitting, by_minute}
 use Rattle.next_task.proofs.choice.is_candidate.Goals as goal
 

@@ -1,6 +1,5 @@
 -- `next_task::choice::is_suited` meets its contract.
-use borrow.Author.Rules.{rules}
-use Rattle.next_task.proofs.ChoiceLaws.{fit_home, served_trip}
+use Rattle.next_task.proofs.ChoiceLaws.{fit_home}
 use Rattle.next_task.proofs.choice.is_suited.Goals as goal
 
 pub returns : goal.returns

@@ -1,5 +1,4 @@
 -- `next_task::choice::is_timely` meets its contract.
-use borrow.Author.Rules.{rules}
 use Rattle.next_task.proofs.ChoiceLaws.{near_early, near_opened, before_opening}
 use Rattle.next_task.proofs.choice.is_timely.Goals as goal
 

@@ -1,5 +1,4 @@
 -- `next_task::tasks::is_farther` meets its contract.
-use borrow.Author.Rules.{rules}
 use Rattle.next_task.proofs.TaskLaws.{no_tip_lem, by_minutes}
 use Rattle.next_task.proofs.tasks.is_farther.Goals as goal
 

@@ -1,5 +1,4 @@
 -- `next_task::tasks::is_near_capacity` meets its contract.
-use borrow.Author.Rules.{rules}
 use Rattle.next_task.proofs.TaskLaws.{no_load, near_load, near_kg, near_stops}
 use Rattle.next_task.proofs.tasks.is_near_capacity.Goals as goal
 

@@ -1,10 +1,7 @@
 -- `plan_parts::parts::all_parts` meets its contract: what is left to check behind each part is answered as the whole plan is.
 use Prim.Native.Nat.{◌≤◌, ◌-◌}
-use borrow.Author.Rules.{rules}
 use lib.ListN.{length}
 use Rattle.plan_parts.specs.Walked.{Reached}
-use Rattle.plan_parts.proofs.GoingThrough.{part_less, part_most, part_reached, none_told, told_end}
-use Rattle.plan_parts.proofs.Reaching.{reached_start}
 use Rattle.plan_parts.proofs.parts.all_parts.Given as goal
 
 abbrev pub invariant-loop-i : goal.invariant-loop-i

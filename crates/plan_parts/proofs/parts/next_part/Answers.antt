@@ -2,7 +2,7 @@
 use native.Mathlib.Omega.{arith}
 use borrow.Author.Rules.{rules}
 use Rattle.plan_words.proofs.WordForms.{vehicle_told, left_told}
-use Rattle.plan_parts.proofs.GoingThrough.{part_small, part_byte, part_next, part_out, part_behind, no_part}
+use Rattle.plan_parts.proofs.GoingThrough.{part_byte, part_next, part_out}
 use Rattle.plan_parts.proofs.parts.next_part.Goals as goal
 
 pub bounds-met-at : goal.bounds-met-at

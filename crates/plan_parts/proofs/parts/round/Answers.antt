@@ -1,10 +1,7 @@
 -- `plan_parts::parts::round` meets its contract: a vehicle is out, with no word at fault so far.
-use Prim.Native.Nat.{◌≤◌, ◌-◌}
 use native.Mathlib.Omega.{arith}
 use borrow.Author.Rules.{rules}
-use lib.ListN.{length}
-use Rattle.plan_parts.specs.Walked.{out_with, Reached}
-use Rattle.plan_parts.proofs.GoingThrough.{out_start, out_few, out_small, out_byte, out_next, out_again, no_part}
+use Rattle.plan_parts.proofs.GoingThrough.{out_byte, out_next, out_again}
 use Rattle.plan_parts.proofs.parts.round.Goals as goal
 
 pub bounds-met-at : goal.bounds-met-at

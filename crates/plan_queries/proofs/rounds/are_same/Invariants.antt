@@ -1,8 +1,7 @@
 -- `plan_queries::rounds::are_same` meets its contract: what is left of the two plans compares as the whole does.
 use Prim.Native.Nat.{◌≤◌, ◌-◌}
-use borrow.Author.Rules.{rules}
 use lib.ListN.{length}
-use Rattle.plan_queries.proofs.RoundsCompared.{Alike, alike_start, second_shorter, words_differ, words_agree, first_ends}
+use Rattle.plan_queries.proofs.RoundsCompared.{Alike}
 use Rattle.plan_queries.proofs.rounds.are_same.Given as goal
 
 abbrev pub invariant-loop-i : goal.invariant-loop-i

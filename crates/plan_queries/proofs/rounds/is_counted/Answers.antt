@@ -1,5 +1,4 @@
 -- `plan_queries::rounds::is_counted` meets its contract.
-use borrow.Author.Rules.{rules}
 use Rattle.plan_queries.proofs.RoundsCompared.{stop_counts, vehicle_counts}
 use Rattle.plan_queries.proofs.rounds.is_counted.Goals as goal
 

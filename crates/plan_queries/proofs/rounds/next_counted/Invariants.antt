@@ -1,10 +1,8 @@
 -- `plan_queries::rounds::next_counted` meets its contract: what counts from the start on is what counts from word i on.
 use Prim.Native.Nat.{◌≤◌, ◌-◌}
-use borrow.Author.Rules.{rules}
 use lib.ListN.{length, drop}
-use mathlib.Core.Path.{◌≡◌, refl}
+use mathlib.Core.Path.{◌≡◌}
 use Rattle.rules.specs.SameRounds.{is_visit, counted}
-use Rattle.plan_queries.proofs.RoundsCompared.{next_here, next_later, next_none}
 use Rattle.plan_queries.proofs.rounds.next_counted.Given as goal
 
 abbrev pub invariant-loop-i : goal.invariant-loop-i

@@ -1,5 +1,4 @@
 -- `plan_queries::vehicles::is_vehicle` meets its contract.
-use borrow.Author.Rules.{rules}
 use Rattle.plan_queries.proofs.VehicleParts.{other_word, vehicle_word_lem}
 use Rattle.plan_queries.proofs.vehicles.is_vehicle.Goals as goal
 

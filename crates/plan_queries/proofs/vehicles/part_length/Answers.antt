@@ -1,10 +1,6 @@
 -- `plan_queries::vehicles::part_length` meets its contract: the words passed and those to the first E are all of them.
-use Prim.Native.Nat.{◌≤◌, ◌-◌, ◌+◌}
 use borrow.Author.Rules.{rules}
-use lib.ListN.{length, drop}
-use mathlib.Core.Path.{◌≡◌}
-use Rattle.rules.specs.VehiclePlace.{words_to_back}
-use Rattle.plan_queries.proofs.VehicleParts.{part_start, part_goes_on, part_ends, part_cut}
+use Rattle.plan_queries.proofs.VehicleParts.{part_goes_on, part_ends, part_cut}
 use Rattle.plan_queries.proofs.vehicles.part_length.Goals as goal
 
 pub returns-then-is_back : goal.returns-then-is_back

@@ -1,10 +1,8 @@
 -- `plan_queries::vehicles::place_in` meets its contract: the place from word i on is the place in the plan.
 use Prim.Native.Nat.{◌≤◌, ◌-◌}
-use borrow.Author.Rules.{rules}
 use lib.ListN.{length, drop}
-use mathlib.Core.Path.{◌≡◌, refl}
+use mathlib.Core.Path.{◌≡◌}
 use Rattle.rules.specs.VehiclePlace.{place_from}
-use Rattle.plan_queries.proofs.VehicleParts.{place_found, place_goes_on, place_none}
 use Rattle.plan_queries.proofs.vehicles.place_in.Given as goal
 
 abbrev pub invariant-loop-i : goal.invariant-loop-i

@@ -1,7 +1,5 @@
 -- `search_steps::steps::begin` meets its contract.
 use Rattle.search_steps.proofs.BeginLaws.{begins}
-use Rattle.search_steps.proofs.TakeOverLaws.{some_held}
-use borrow.Author.Rules.{rules}
 use Rattle.search_steps.proofs.steps.begin.Goals as goal
 
 pub returns : goal.returns

@@ -1,6 +1,5 @@
 -- `search_steps::steps::take_over` meets its contract.
 use Rattle.search_steps.proofs.TakeOverLaws.{copy_fits, copied_fits, copied_held, takes_over}
-use borrow.Author.Rules.{rules}
 use Rattle.search_steps.proofs.steps.take_over.Goals as goal
 
 pub copy_words-requires : goal.copy_words-requires

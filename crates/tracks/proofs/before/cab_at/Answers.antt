@@ -1,7 +1,6 @@
 -- `tracks::before::cab_at` meets its contract.
 use mathlib.Core.Path.{refl}
 use Rattle.tracks.specs.Before.{cab_at}
-use borrow.Author.Rules.{rules}
 use Rattle.tracks.proofs.before.cab_at.Goals as goal
 
 pub returns : goal.returns

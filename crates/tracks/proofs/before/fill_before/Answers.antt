@@ -1,18 +1,10 @@
 -- `tracks::before::fill_before` meets its contract.
 use borrow.Author.Rules.{rules}
-use Prim.Native.Nat.{ℕ, ◌-◌}
-use mathlib.Core.Path.{◌≡◌, refl, sym, ◌∙◌}
-use mathlib.Core.List.{List, [], ◌∷◌}
+use mathlib.Core.Path.{refl, sym, ◌∙◌}
 use native.Mathlib.Omega.{arith}
-use lib.ListN.{length}
-use Rattle.rules.specs.PlanWords.{vehicle_word}
-use Rattle.rules.specs.Plan.{Round}
-use Rattle.laws.specs.Buffer.{Wrote}
 use Rattle.laws.proofs.Buffer.{wrote_none, wrote_put}
 use Rattle.walks.proofs.MidwayLaws.{stands_size}
-use Rattle.tracks.specs.Before.{RowsKept, Walks}
-use Rattle.tracks.specs.Tables.{before_words}
-use Rattle.tracks.proofs.BeforeLaws.{Filling, place_small, leaving_place, filling_start, filling_task, filling_stands, filling_step, filling_whole}
+use Rattle.tracks.proofs.BeforeLaws.{place_small, filling_start, filling_task, filling_stands, filling_step, filling_whole}
 use Rattle.tracks.proofs.before.fill_before.Goals as goal
 
 pub loop-i-init : goal.loop-i-init

@@ -1,18 +1,14 @@
 -- `tracks::before::fill_before` meets its contract.
-use borrow.Author.Rules.{rules}
 use Prim.Native.Nat.{ℕ, ◌-◌}
-use mathlib.Core.Path.{◌≡◌, refl, sym, ◌∙◌}
-use mathlib.Core.List.{List, [], ◌∷◌}
-use native.Mathlib.Omega.{arith}
+use mathlib.Core.Path.{◌≡◌}
+use mathlib.Core.List.{List, ◌∷◌}
 use lib.ListN.{length}
 use Rattle.rules.specs.PlanWords.{vehicle_word}
 use Rattle.rules.specs.Plan.{Round}
 use Rattle.laws.specs.Buffer.{Wrote}
-use Rattle.laws.proofs.Buffer.{wrote_none, wrote_put}
-use Rattle.walks.proofs.MidwayLaws.{stands_size}
 use Rattle.tracks.specs.Before.{RowsKept, Walks}
 use Rattle.tracks.specs.Tables.{before_words}
-use Rattle.tracks.proofs.BeforeLaws.{Filling, place_small, leaving_place, filling_start, filling_task, filling_stands, filling_step, filling_whole}
+use Rattle.tracks.proofs.BeforeLaws.{Filling}
 use Rattle.tracks.proofs.before.fill_before.Given as goal
 
 abbrev pub invariant-loop-i : goal.invariant-loop-i

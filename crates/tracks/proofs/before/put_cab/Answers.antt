@@ -1,8 +1,5 @@
 -- `tracks::before::put_cab` meets its contract.
-use native.Mathlib.Omega.{arith}
-use lib.ListN.{length-set}
 use Rattle.tracks.proofs.CabRows.{failed_row, failed_others, written_row, written_others}
-use borrow.Author.Rules.{rules}
 use Rattle.tracks.proofs.before.put_cab.Goals as goal
 
 pub returns-then-c-clause-holds : goal.returns-then-c-clause-holds

@@ -1,6 +1,5 @@
 -- `tracks::measure::is_cut` meets its contract.
 use Rattle.tracks.proofs.MeasureLaws.{cut_early, cut_waiting, cut_fits}
-use borrow.Author.Rules.{rules}
 use Rattle.tracks.proofs.measure.is_cut.Goals as goal
 
 pub returns-then-i-last : goal.returns-then-i-last

@@ -1,12 +1,8 @@
 -- `tracks::measure::measure` meets its contract.
 use native.Mathlib.Omega.{arith}
 use mathlib.Core.Path.{sym, ap, ◌∙◌}
-use lib.ListN.{length, length-map, length-set}
-use Rattle.rules.specs.PlanWords.{vehicle_word}
-use Rattle.rules.specs.Plan.{task_word}
 use Rattle.laws.proofs.Buffer.{wrote_put, wrote_none}
 use Rattle.tracks.proofs.MeasureLaws.{measure_failed, measure_starts}
-use borrow.Author.Rules.{rules}
 use Rattle.tracks.proofs.measure.measure.Goals as goal
 
 pub returns-then-c : goal.returns-then-c

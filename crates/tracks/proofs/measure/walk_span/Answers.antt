@@ -1,17 +1,8 @@
 -- `tracks::measure::walk_span` meets its contract.
-use Prim.Native.Nat.{ℕ, ◌+◌, ◌*◌, ◌-◌, ◌≤◌}
-use mathlib.Core.List.{List}
-use borrow.Author.Rules.{rules}
 use native.Mathlib.Omega.{arith}
-use mathlib.Core.Path.{sym, ap, ◌∙◌}
-use lib.ListN.{length, length-map}
-use Rattle.rules.specs.Plan.{Round, task_word}
-use Rattle.edits.specs.EditWords.{edit_of}
-use Rattle.walks.specs.Cabs.{Start}
-use Rattle.walks.specs.Rewalks.{steps, Midway}
+use mathlib.Core.Path.{sym, ◌∙◌}
 use Rattle.walks.proofs.HomeLaws.{again_back}
-use Rattle.walks.proofs.MidwayLaws.{midway_word, midway_step, midway_done, turns_left, stands_size}
-use Rattle.tracks.specs.Measure.{Cuttable}
+use Rattle.walks.proofs.MidwayLaws.{midway_word, midway_step, midway_done}
 use Rattle.tracks.proofs.MeasureLaws.{midway_failed, left_drives, left_small}
 use Rattle.tracks.proofs.measure.walk_span.Goals as goal
 

@@ -1,9 +1,5 @@
 -- `tracks::tables::fill_spots` meets its contract.
 use borrow.Author.Rules.{rules}
-use Prim.Native.Nat.{◌-◌}
-use lib.ListN.{length, take, drop}
-use mathlib.Core.Path.{◌≡◌}
-use Rattle.tracks.specs.Tables.{spots_after}
 use Rattle.tracks.proofs.SpotLaws.{spots_next, spots_done}
 use Rattle.tracks.proofs.tables.fill_spots.Goals as goal
 

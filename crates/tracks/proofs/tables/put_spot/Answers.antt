@@ -1,5 +1,4 @@
 -- `tracks::tables::put_spot` meets its contract.
-use borrow.Author.Rules.{rules}
 use Rattle.tracks.proofs.SpotLaws.{spot_told, spot_kept}
 use Rattle.tracks.proofs.tables.put_spot.Goals as goal
 

@@ -1,8 +1,6 @@
 -- `tracks::tables::track` meets its contract.
 use borrow.Author.Rules.{rules}
-use Prim.Native.Nat.{◌-◌}
-use lib.ListN.{length}
-use Rattle.tracks.proofs.TableLaws.{Tracks, tracks_start, tracks_vehicle, tracks_next, tracks_end}
+use Rattle.tracks.proofs.TableLaws.{tracks_vehicle, tracks_next, tracks_end}
 use Rattle.tracks.proofs.tables.track.Goals as goal
 
 pub track_vehicle-requires-clause-layout_of : goal.track_vehicle-requires-clause-layout_of

@@ -1,8 +1,7 @@
 -- `tracks::tables::track` meets its contract.
-use borrow.Author.Rules.{rules}
 use Prim.Native.Nat.{◌-◌}
 use lib.ListN.{length}
-use Rattle.tracks.proofs.TableLaws.{Tracks, tracks_start, tracks_vehicle, tracks_next, tracks_end}
+use Rattle.tracks.proofs.TableLaws.{Tracks}
 use Rattle.tracks.proofs.tables.track.Given as goal
 
 abbrev pub invariant-loop-v : goal.invariant-loop-v

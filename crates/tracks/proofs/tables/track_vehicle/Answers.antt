@@ -1,10 +1,7 @@
 -- `tracks::tables::track_vehicle` meets its contract.
-use native.Mathlib.Omega.{arith}
-use mathlib.Core.Path.{refl, sym, ◌∙◌}
-use Rattle.tracks.proofs.TableLaws.{vehicle_placed, vehicle_walks, vehicle_short, vehicle_tracked, before_size_lem, behind_size_lem, spots_size_lem}
-use Rattle.trial_list.proofs.LaidLaws.{vehicle_inside}
-use Rattle.tracks.proofs.TableLaws.{first_back, second_back, first_size, second_size, all_size, tracked_back}
-use borrow.Author.Rules.{rules}
+use mathlib.Core.Path.{refl}
+use Rattle.tracks.proofs.TableLaws.{vehicle_placed, vehicle_walks, vehicle_short, vehicle_tracked, before_size_lem, behind_size_lem}
+use Rattle.tracks.proofs.TableLaws.{first_back, first_size, tracked_back}
 use Rattle.tracks.proofs.tables.track_vehicle.Goals as goal
 
 pub fill_before-requires : goal.fill_before-requires

@@ -1,10 +1,6 @@
 -- `trial_list::listing::next_pair` meets its contract.
-use borrow.Author.Rules.{rules}
-use Prim.Native.Nat.{◌≤◌}
 use native.Mathlib.Omega.{arith}
-use Rattle.trial_list.proofs.PairRests.{pairs_over, Passed, pass_on, next_found, next_none}
-use Rattle.trial_list.specs.Listing.{PairsOf, pairs_left}
-use Rattle.trial_list.specs.TrialRest.{pair_rest}
+use Rattle.trial_list.proofs.PairRests.{pairs_over, next_none}
 use Rattle.trial_list.proofs.listing.next_pair.Goals as goal
 
 pub returns : goal.returns

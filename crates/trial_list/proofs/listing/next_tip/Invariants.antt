@@ -1,9 +1,5 @@
 -- `trial_list::listing::next_tip` meets its contract.
-use borrow.Author.Rules.{rules}
-use native.Mathlib.Omega.{arith}
-use Rattle.trial_list.proofs.LaidLaws.{vehicle_in}
-use Rattle.trial_list.proofs.PairRests.{Passed, pass_on, next_found, next_none}
-use Rattle.trial_list.proofs.TipRests.{tips_over}
+use Rattle.trial_list.proofs.PairRests.{Passed}
 use Rattle.trial_list.specs.Listing.{TipsOf, tips_left, TipFits}
 use Rattle.trial_list.specs.TrialRest.{tip_rest}
 use Rattle.trial_list.proofs.listing.next_tip.Given as goal

@@ -1,6 +1,5 @@
 -- `trial_list::listing::next_trial` meets its contract.
-use borrow.Author.Rules.{rules}
-use Rattle.trial_list.proofs.ListRests.{pairs_of, tips_of, lists_pair, lists_tip}
+use Rattle.trial_list.proofs.ListRests.{lists_pair, lists_tip}
 use Rattle.trial_list.proofs.listing.next_trial.Goals as goal
 
 pub returns-then-pair : goal.returns-then-pair

@@ -1,6 +1,5 @@
 -- `trial_list::listing::pair_at` meets its contract.
 use Rattle.trial_list.proofs.PairRests.{ranks_over, neighbours_over, pair_steps}
-use borrow.Author.Rules.{rules}
 use Rattle.trial_list.proofs.listing.pair_at.Goals as goal
 
 pub returns-then-k-rank : goal.returns-then-k-rank

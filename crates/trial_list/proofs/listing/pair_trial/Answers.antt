@@ -1,6 +1,5 @@
 -- `trial_list::listing::pair_trial` meets its contract.
 use Rattle.trial_list.proofs.PairRests.{tells_loose_one, tells_loose_two, tells_no_second, tells_swap, tells_after, tells_before}
-use borrow.Author.Rules.{rules}
 use Rattle.trial_list.proofs.listing.pair_trial.Goals as goal
 
 pub returns-then-one-eq0 : goal.returns-then-one-eq0

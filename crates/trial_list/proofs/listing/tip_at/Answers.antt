@@ -1,6 +1,5 @@
 -- `trial_list::listing::tip_at` meets its contract.
 use Rattle.trial_list.proofs.TipRests.{vehicle_ends, idle_below, idle_above, tip_steps}
-use borrow.Author.Rules.{rules}
 use Rattle.trial_list.proofs.listing.tip_at.Goals as goal
 
 pub returns-then-at-end : goal.returns-then-at-end

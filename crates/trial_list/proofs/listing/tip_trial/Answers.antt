@@ -1,6 +1,5 @@
 -- `trial_list::listing::tip_trial` meets its contract.
 use Rattle.trial_list.proofs.TipRests.{tells_removal, tells_other, tells_none}
-use borrow.Author.Rules.{rules}
 use Rattle.trial_list.proofs.listing.tip_trial.Goals as goal
 
 pub returns-then-q-eq0 : goal.returns-then-q-eq0

@@ -1,7 +1,6 @@
 -- `trial_list::survey::clear` meets its contract.
-use borrow.Author.Rules.{rules}
 use Prim.Native.Nat.{◌-◌, ◌≤◌}
-use Rattle.trial_list.proofs.SurveyLaws.{Cleared, cleared_next, cleared_all}
+use Rattle.trial_list.proofs.SurveyLaws.{Cleared}
 use Rattle.trial_list.proofs.survey.clear.Given as goal
 
 abbrev pub invariant-loop-k : goal.invariant-loop-k

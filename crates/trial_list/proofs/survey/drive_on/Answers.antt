@@ -1,6 +1,5 @@
 -- `trial_list::survey::drive_on` meets its contract.
-use borrow.Author.Rules.{rules}
-use Rattle.trial_list.proofs.RideLaws.{place_rests, distance_rests, ride_inside, ride_place, ride_distance}
+use Rattle.trial_list.proofs.RideLaws.{place_rests, distance_rests, ride_place, ride_distance}
 use Rattle.trial_list.proofs.survey.drive_on.Goals as goal
 
 pub returns-then-w-ge-REST-clause-place : goal.returns-then-w-ge-REST-clause-place

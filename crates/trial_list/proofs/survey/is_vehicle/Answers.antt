@@ -1,7 +1,6 @@
 -- `trial_list::survey::is_vehicle` meets its contract.
 use mathlib.Core.Path.{refl}
 use borrow.Author.Tests.{lt-ltb, le-ltb}
-use borrow.Author.Rules.{rules}
 use Rattle.trial_list.specs.Survey.{is_vehicle}
 use Rattle.trial_list.proofs.survey.is_vehicle.Goals as goal
 

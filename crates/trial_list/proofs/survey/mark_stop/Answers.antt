@@ -1,6 +1,4 @@
 -- `trial_list::survey::mark_stop` meets its contract.
-use native.Mathlib.Omega.{arith}
-use borrow.Author.Rules.{rules}
 use Rattle.trial_list.proofs.RideLaws.{vehicles_first, vehicles_later, vehicles_other}
 use Rattle.trial_list.proofs.survey.mark_stop.Goals as goal
 

@@ -1,5 +1,4 @@
 -- `trial_list::survey::place_of` meets its contract.
-use borrow.Author.Rules.{rules}
 use Rattle.trial_list.proofs.RideLaws.{place_of_stop, place_of_tip}
 use Rattle.trial_list.proofs.survey.place_of.Goals as goal
 

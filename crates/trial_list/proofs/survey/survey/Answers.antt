@@ -1,9 +1,7 @@
 -- `trial_list::survey::survey` meets its contract.
 use borrow.Author.Rules.{rules}
-use Prim.Native.Nat.{◌-◌}
-use mathlib.Core.Path.{refl, sym, ◌∙◌}
-use lib.ListN.{length, length-set}
-use Rattle.trial_list.proofs.SurveyLaws.{Surveys, surveys_start, surveys_round, surveys_less, surveys_next, surveys_end}
+use mathlib.Core.Path.{refl}
+use Rattle.trial_list.proofs.SurveyLaws.{surveys_start, surveys_round, surveys_less, surveys_next, surveys_end}
 use Rattle.trial_list.proofs.survey.survey.Goals as goal
 
 pub loop-layout-init : goal.loop-layout-init

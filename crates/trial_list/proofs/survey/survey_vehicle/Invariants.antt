@@ -1,9 +1,7 @@
 -- `trial_list::survey::survey_vehicle` meets its contract.
-use borrow.Author.Rules.{rules}
 use Prim.Native.Nat.{◌-◌}
-use native.Mathlib.Omega.{arith}
 use lib.ListN.{length}
-use Rattle.trial_list.proofs.RideLaws.{Rides, rides_start, rides_next, rides_end}
+use Rattle.trial_list.proofs.RideLaws.{Rides}
 use Rattle.trial_list.proofs.survey.survey_vehicle.Given as goal
 
 abbrev pub invariant-loop-at : goal.invariant-loop-at

@@ -2,8 +2,6 @@
 use native.Mathlib.Omega.{arith}
 use mathlib.Core.Path.{refl}
 use Rattle.day.proofs.Ranges.{accepted_ranges}
-use Rattle.trials.proofs.ImproveLaws.{improved}
-use borrow.Author.Rules.{rules}
 use Rattle.trials.proofs.improve.improve.Goals as goal
 
 pub fill_table-requires : goal.fill_table-requires

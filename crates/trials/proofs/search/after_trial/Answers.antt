@@ -1,7 +1,5 @@
 -- `trials::search::after_trial` meets its contract.
-use native.Mathlib.Omega.{arith}
 use Rattle.trials.proofs.TrialSteps.{goes_on_lem, kept_plan, keeps_plan}
-use borrow.Author.Rules.{rules}
 use Rattle.trials.proofs.search.after_trial.Goals as goal
 
 pub take_over-count-requires-clause-layout_of : goal.take_over-count-requires-clause-layout_of

@@ -1,8 +1,5 @@
 -- `trials::search::next_step` meets its contract.
-use native.Mathlib.Omega.{arith}
-use Rattle.search_steps.proofs.SetLaws.{sets_few}
 use Rattle.search_steps.proofs.SearchSteps.{at_hand, held_tables, list_ends, ends_spent, next_trial}
-use borrow.Author.Rules.{rules}
 use Rattle.trials.proofs.search.next_step.Goals as goal
 
 pub list_next-listed-requires : goal.list_next-listed-requires

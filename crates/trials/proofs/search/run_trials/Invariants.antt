@@ -1,11 +1,7 @@
 -- `trials::search::run_trials` meets its contract.
-use borrow.Author.Rules.{rules}
-use mathlib.Core.Path.{◌≡◌, refl, sym, ◌∙◌}
-use native.Mathlib.Omega.{arith}
+use mathlib.Core.Path.{◌≡◌}
 use lib.ListN.{length}
 use Rattle.search_steps.specs.Searches.{Searching, sets_of, steps_left}
-use Rattle.search_steps.proofs.SetLaws.{sets_some}
-use Rattle.search_steps.proofs.SearchSteps.{is_on, is_off}
 use Rattle.trials.proofs.search.run_trials.Given as goal
 
 abbrev pub invariant-loop-layout : goal.invariant-loop-layout

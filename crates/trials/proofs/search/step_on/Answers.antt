@@ -2,7 +2,6 @@
 use native.Mathlib.Omega.{arith}
 use Rattle.search_steps.proofs.SearchSteps.{trial_names}
 use Rattle.trials.proofs.TrialSteps.{some_made, after_made}
-use borrow.Author.Rules.{rules}
 use Rattle.trials.proofs.search.step_on.Goals as goal
 
 pub try_next-tried-requires : goal.try_next-tried-requires

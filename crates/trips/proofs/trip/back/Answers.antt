@@ -1,5 +1,4 @@
 -- `trips::trip::back` meets its contract: too late, too late without a rest, or home.
-use borrow.Author.Rules.{rules}
 use Rattle.trips.proofs.Driving.{back_late, back_unrested, back_kept}
 use Rattle.trips.proofs.trip.back.Goals as goal
 

@@ -1,5 +1,4 @@
 -- `trips::trip::rest` meets its contract: a second rest, too late, or taken.
-use borrow.Author.Rules.{rules}
 use Rattle.trips.proofs.Driving.{rest_again, rest_late, rest_kept}
 use Rattle.trips.proofs.trip.rest.Goals as goal
 

@@ -1,5 +1,4 @@
 -- `trips::trip::visit` meets its contract: too late, or served and away.
-use borrow.Author.Rules.{rules}
 use Rattle.trips.proofs.Driving.{visit_late, visit_kept}
 use Rattle.trips.proofs.trip.visit.Goals as goal
 

@@ -1,6 +1,5 @@
 -- `vehicle_writer::state::word_of` meets its contract.
 use Rattle.plan_words.proofs.WordForms.{stop_made, tip_made, back_form}
-use borrow.Author.Rules.{rules}
 use Rattle.vehicle_writer.proofs.state.word_of.Goals as goal
 
 pub returns-in-Stop : goal.returns-in-Stop

@@ -1,6 +1,5 @@
 -- `vehicle_writer::writer::write_rest` meets its contract.
-use Rattle.vehicle_writer.proofs.GoingLaws.{rest_put, rest_none}
-use borrow.Author.Rules.{rules}
+use Rattle.vehicle_writer.proofs.GoingLaws.{rest_put}
 use Rattle.vehicle_writer.proofs.writer.write_rest.Goals as goal
 
 pub returns-then-is_due : goal.returns-then-is_due

@@ -1,7 +1,5 @@
 -- `vehicle_writer::writer::write_start` meets its contract.
-use Rattle.vehicle_writer.proofs.GoingLaws.{rest_size}
 use Rattle.vehicle_writer.proofs.SettingOut.{start_said}
-use borrow.Author.Rules.{rules}
 use Rattle.vehicle_writer.proofs.writer.write_start.Goals as goal
 
 pub returns : goal.returns

@@ -1,5 +1,5 @@
 -- `vehicle_writer::writer::write_task` meets its contract.
-use Rattle.vehicle_writer.proofs.GoingLaws.{ahead_space, ahead_few, ahead_fits, ahead_able, ahead_room, ahead_small, ahead_on, rest_more, rest_size}
+use Rattle.vehicle_writer.proofs.GoingLaws.{ahead_space, ahead_few, ahead_able, ahead_room, ahead_small, ahead_on}
 use native.Mathlib.Omega.{arith}
 use Rattle.vehicle_writer.proofs.writer.write_task.Goals as goal
 

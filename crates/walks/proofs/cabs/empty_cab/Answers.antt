@@ -1,6 +1,5 @@
 -- `walks::cabs::empty_cab` meets its contract.
 use Rattle.walks.proofs.CabLaws.{empty_drives}
-use borrow.Author.Rules.{rules}
 use Rattle.walks.proofs.cabs.empty_cab.Goals as goal
 
 pub returns : goal.returns

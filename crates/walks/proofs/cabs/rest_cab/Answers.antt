@@ -1,6 +1,5 @@
 -- `walks::cabs::rest_cab` meets its contract.
 use Rattle.walks.proofs.CabLaws.{rest_drives, keep_drives}
-use borrow.Author.Rules.{rules}
 use Rattle.walks.proofs.cabs.rest_cab.Goals as goal
 
 pub returns-then-is_due : goal.returns-then-is_due

@@ -1,6 +1,5 @@
 -- `walks::cabs::serve_cab` meets its contract.
 use Rattle.walks.proofs.CabLaws.{serve_drives}
-use borrow.Author.Rules.{rules}
 use Rattle.walks.proofs.cabs.serve_cab.Goals as goal
 
 pub returns : goal.returns

@@ -1,5 +1,5 @@
 -- `walks::cabs::walk_stop` meets its contract.
-use Rattle.walks.proofs.WalkLaws.{full_fails, full_serves, light_serves, full_load, some_served, some_fewer}
+use Rattle.walks.proofs.WalkLaws.{full_fails, full_serves, light_serves, some_served}
 use borrow.Author.Rules.{rules}
 use Rattle.walks.proofs.cabs.walk_stop.Goals as goal
 

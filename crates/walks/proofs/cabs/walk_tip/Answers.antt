@@ -1,6 +1,5 @@
 -- `walks::cabs::walk_tip` meets its contract.
 use Rattle.walks.proofs.WalkLaws.{tip_dropped, tip_driven}
-use borrow.Author.Rules.{rules}
 use Rattle.walks.proofs.cabs.walk_tip.Goals as goal
 
 pub returns-then-c-eq0 : goal.returns-then-c-eq0

@@ -1,9 +1,8 @@
 -- `walks::vehicle::next_turn` meets its contract.
 use mathlib.Core.Path.{refl}
 use Rattle.rules.specs.Plan.{lunch, Known}
-use Rattle.walks.proofs.RewalkLaws.{turn_waiting, turn_single, turn_double, step_waiting, step_single, step_double}
+use Rattle.walks.proofs.RewalkLaws.{turn_waiting, turn_single, turn_double}
 use Rattle.laws.proofs.Lists.{every_at}
-use borrow.Author.Rules.{rules}
 use Rattle.walks.proofs.vehicle.next_turn.Goals as goal
 
 pub returns-then-waiting-ne0-clause-turn : goal.returns-then-waiting-ne0-clause-turn

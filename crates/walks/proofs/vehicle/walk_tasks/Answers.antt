@@ -1,17 +1,7 @@
 -- `walks::vehicle::walk_tasks` meets its contract.
-use borrow.Author.Rules.{rules}
-use Prim.Native.Nat.{ℕ, ◌+◌, ◌-◌, ◌*◌, ◌≤◌}
-use mathlib.Core.List.{List, [], ◌∷◌}
 use native.Mathlib.Omega.{arith}
-use lib.ListN.{length}
-use Rattle.rules.specs.PlanWords.{vehicle_word}
-use Rattle.rules.specs.Plan.{Round}
-use Rattle.laws.specs.Buffer.{Wrote}
 use Rattle.laws.proofs.Buffer.{wrote_none, wrote_put}
-use Rattle.edits.specs.EditWords.{edit_of}
-use Rattle.walks.specs.Cabs.{at_depot}
-use Rattle.walks.specs.Rewalks.{steps, Walkable, Midway}
-use Rattle.walks.proofs.MidwayLaws.{midway_start, midway_word, midway_step, stands_size, midway_done, turns_left}
+use Rattle.walks.proofs.MidwayLaws.{midway_start, midway_word, midway_step, midway_done}
 use Rattle.walks.proofs.vehicle.walk_tasks.Goals as goal
 
 pub loop-i-init : goal.loop-i-init

@@ -2,7 +2,6 @@
 use native.Mathlib.Omega.{arith}
 use mathlib.Core.Path.{refl}
 use Rattle.walks.proofs.HomeLaws.{walked_failed, back_room, walked_back}
-use borrow.Author.Rules.{rules}
 use Rattle.walks.proofs.vehicle.walk_vehicle.Goals as goal
 
 pub returns-then-w : goal.returns-then-w

@@ -3,7 +3,6 @@ use native.Mathlib.Omega.{arith}
 use Rattle.walks.proofs.CabLaws.{some_rested}
 use Rattle.walks.proofs.WalkLaws.{some_fewer}
 use Rattle.walks.proofs.RewalkLaws.{means_stop, means_tip, word_none, word_failed, word_standing, stop_standing, word_stop, word_tip}
-use borrow.Author.Rules.{rules}
 use Rattle.walks.proofs.vehicle.walk_word.Goals as goal
 
 pub returns-then-w-eq0 : goal.returns-then-w-eq0

@@ -1,5 +1,4 @@
 -- `ways_home::home::is_due` meets its contract.
-use borrow.Author.Rules.{rules}
 use Rattle.ways_home.proofs.HomeLaws.{due_done, due_early, due_by}
 use Rattle.ways_home.proofs.home.is_due.Goals as goal
 

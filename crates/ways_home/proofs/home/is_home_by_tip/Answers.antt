@@ -1,7 +1,5 @@
 -- `ways_home::home::is_home_by_tip` meets its contract.
-use borrow.Author.Rules.{rules}
-use native.Mathlib.Omega.{arith}
-use Rattle.ways_home.proofs.HomeLaws.{tip_none, tip_home, visit_minute, tip_trip}
+use Rattle.ways_home.proofs.HomeLaws.{tip_none, tip_home, tip_trip}
 use Rattle.ways_home.proofs.home.is_home_by_tip.Goals as goal
 
 pub returns-then-x-eq0 : goal.returns-then-x-eq0

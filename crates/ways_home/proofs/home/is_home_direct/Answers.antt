@@ -1,5 +1,4 @@
 -- `ways_home::home::is_home_direct` meets its contract.
-use borrow.Author.Rules.{rules}
 use Rattle.ways_home.proofs.HomeLaws.{home_late, home_rested, home_lunch}
 use Rattle.ways_home.proofs.home.is_home_direct.Goals as goal
 

@@ -1,5 +1,4 @@
 -- `ways_home::home::rest_if_due` meets its contract.
-use borrow.Author.Rules.{rules}
 use Rattle.ways_home.proofs.HomeLaws.{rest_taken, rest_not}
 use Rattle.ways_home.proofs.home.rest_if_due.Goals as goal
 

@@ -1,6 +1,4 @@
 -- `ways_home::tips::better_tip` meets its contract: not nearer, taken, or shut.
-use borrow.Author.Rules.{rules}
-use Rattle.ways_home.proofs.BestLaws.{taken_so_far}
 use Rattle.ways_home.proofs.TipLaws.{tip_farther, tip_shut, tip_nearer}
 use Rattle.ways_home.proofs.tips.better_tip.Goals as goal
 

@@ -1,5 +1,4 @@
 -- `ways_home::tips::is_open` meets its contract.
-use borrow.Author.Rules.{rules}
 use Rattle.ways_home.proofs.TipLaws.{not_open_yet, open_till}
 use Rattle.ways_home.proofs.tips.is_open.Goals as goal
 

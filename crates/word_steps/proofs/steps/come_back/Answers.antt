@@ -1,6 +1,5 @@
 -- `word_steps::steps::come_back` meets its contract: with load, at fault by the minute, or back.
-use borrow.Author.Rules.{rules}
-use Rattle.word_steps.proofs.Stepping.{back_loaded, back_refused, back_home, home_fits}
+use Rattle.word_steps.proofs.Stepping.{back_loaded, back_refused, back_home}
 use Rattle.word_steps.proofs.steps.come_back.Goals as goal
 
 pub returns-then-s-gt0 : goal.returns-then-s-gt0

@@ -1,5 +1,4 @@
 -- `word_steps::steps::empty_out` meets its contract.
-use borrow.Author.Rules.{rules}
 use Rattle.word_steps.proofs.Stepping.{tip_emptied}
 use Rattle.word_steps.proofs.steps.empty_out.Goals as goal
 

@@ -1,5 +1,4 @@
 -- `word_steps::steps::leave_out` meets its contract.
-use borrow.Author.Rules.{rules}
 use Rattle.word_steps.proofs.Stepping.{stop_left}
 use Rattle.word_steps.proofs.steps.leave_out.Goals as goal
 

@@ -1,5 +1,4 @@
 -- `word_steps::steps::serve` meets its contract: over a limit, or driven to.
-use borrow.Author.Rules.{rules}
 use Rattle.word_steps.proofs.Stepping.{stop_over, stop_served}
 use Rattle.word_steps.proofs.steps.serve.Goals as goal
 

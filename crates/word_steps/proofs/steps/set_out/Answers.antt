@@ -1,5 +1,4 @@
 -- `word_steps::steps::set_out` meets its contract.
-use borrow.Author.Rules.{rules}
 use Rattle.word_steps.proofs.Stepping.{vehicle_leaves}
 use Rattle.word_steps.proofs.steps.set_out.Goals as goal
 

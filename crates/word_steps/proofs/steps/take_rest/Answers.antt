@@ -1,5 +1,4 @@
 -- `word_steps::steps::take_rest` meets its contract.
-use borrow.Author.Rules.{rules}
 use Rattle.word_steps.proofs.Stepping.{rest_taken}
 use Rattle.word_steps.proofs.steps.take_rest.Goals as goal
 

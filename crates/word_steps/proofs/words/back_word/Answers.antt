@@ -1,6 +1,5 @@
 -- `word_steps::words::back_word` meets its contract: form, then what the word does.
-use borrow.Author.Rules.{rules}
-use Rattle.word_steps.proofs.Forming.{back_formed, is_inside, misformed, goes_on_lem}
+use Rattle.word_steps.proofs.Forming.{back_formed, misformed, goes_on_lem}
 use Rattle.word_steps.specs.Steps.{is_met_in}
 use Rattle.word_steps.proofs.words.back_word.Goals as goal
 

@@ -1,5 +1,4 @@
 -- `word_steps::words::left_word` meets its contract: form, then marks, then what the word does.
-use borrow.Author.Rules.{rules}
 use Rattle.word_steps.proofs.Forming.{left_formed, left_below, left_met, left_unmet, misformed, met_again_lem, goes_on_lem}
 use Rattle.word_steps.proofs.words.left_word.Goals as goal
 

@@ -1,6 +1,4 @@
 -- `word_steps::words::task_step` meets its contract: which word it is, by its distance from the first of its kind.
-use native.Mathlib.Omega.{arith}
-use borrow.Author.Rules.{rules}
 use Rattle.plan_words.proofs.WordForms.{rest_told, back_told}
 use Rattle.word_steps.proofs.Forming.{stop_ranged, tip_ranged, as_word}
 use Rattle.word_steps.proofs.words.task_step.Goals as goal

@@ -1,5 +1,4 @@
 -- `word_steps::words::vehicle_word` meets its contract: form, then what the word does.
-use borrow.Author.Rules.{rules}
 use Rattle.word_steps.proofs.Forming.{vehicle_formed, misformed, goes_on_lem}
 use Rattle.word_steps.specs.Steps.{is_met_in}
 use Rattle.word_steps.proofs.words.vehicle_word.Goals as goal

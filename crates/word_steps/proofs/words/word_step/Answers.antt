@@ -1,5 +1,4 @@
 -- `word_steps::words::word_step` meets its contract: which word it is, by the tests of the definition.
-use borrow.Author.Rules.{rules}
 use Rattle.plan_words.proofs.WordForms.{vehicle_told, stop_told, tip_told, rest_told, back_told, left_told, stray_told}
 use Rattle.word_steps.proofs.Forming.{as_word, as_stray}
 use Rattle.word_steps.proofs.words.word_step.Goals as goal
