@@ -1,7 +1,7 @@
 -- `tracks::before::fill_before` meets its contract.
 use Prim.Native.Nat.{ℕ, ◌-◌}
 use mathlib.Core.Path.{◌≡◌}
-use mathlib.Core.List.{List, ◌∷◌}
+use mathlib.Core.List.{[], List, ◌∷◌}
 use lib.ListN.{length}
 use Rattle.rules.specs.PlanWords.{vehicle_word}
 use Rattle.rules.specs.Plan.{Round}

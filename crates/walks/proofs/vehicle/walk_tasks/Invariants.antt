@@ -1,6 +1,6 @@
 -- `walks::vehicle::walk_tasks` meets its contract.
 use Prim.Native.Nat.{ℕ, ◌+◌, ◌-◌, ◌*◌, ◌≤◌}
-use mathlib.Core.List.{List, ◌∷◌}
+use mathlib.Core.List.{[], List, ◌∷◌}
 use lib.ListN.{length}
 use Rattle.rules.specs.PlanWords.{vehicle_word}
 use Rattle.rules.specs.Plan.{Round}
