@@ -1,0 +1,13 @@
+-- `solomon_words::words::front_word` meets its contract.
+use borrow.Author.Rules.{rules}
+use Rattle.solomon_words.proofs.FrontLaws.{front_head, front_tip, front_stop, depot_fits, stop_index, stop_customer, stop_fits}
+use Rattle.solomon_words.proofs.words.front_word.Goals as goal
+
+pub returns-then-i-lt7 : goal.returns-then-i-lt7
+returns-then-i-lt7 c = search front_head
+
+pub returns-then-i-lt9 : goal.returns-then-i-lt9
+returns-then-i-lt9 c = search front_tip
+
+pub returns : goal.returns
+returns c = search front_stop
