@@ -1,5 +1,4 @@
 -- `planner::plan_growing` meets its contract.
-use mathlib.Core.Path.{refl}
 use Rattle.day.proofs.Answered.{is_accepted, accepted_long}
 use Rattle.planner.proofs.PlanCalls.{refused_growing_answer, refused_growing_buffer}
 use borrow.Author.Rules.{rules}

@@ -1,5 +1,4 @@
 -- `solomon::import_solomon` meets its contract: one law for each way through it.
-use native.Mathlib.Omega.{arith}
 use borrow.Author.Rules.{rules}
 use Rattle.solomon.proofs.ImportLaws.{found_right, found_few, found_stops, import_refused, import_short, import_read}
 use Rattle.solomon.proofs.import_solomon.Goals as goal

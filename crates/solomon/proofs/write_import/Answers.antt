@@ -1,6 +1,5 @@
 -- `solomon::write_import` meets its contract.
 use native.Mathlib.Omega.{arith}
-use borrow.Author.Rules.{rules}
 use Rattle.solomon.proofs.ImportLaws.{table_writable, table_imported}
 use Rattle.solomon.proofs.write_import.Goals as goal
 

@@ -1,8 +1,5 @@
 -- `solomon_form::judge_text` meets its contract: the lines so far are without fault.
-use Prim.Native.Nat.{◌-◌}
 use native.Mathlib.Omega.{arith}
-use borrow.Author.Rules.{rules}
-use Rattle.solomon_form.specs.Reading.{TextRead}
 use Rattle.solomon_form.proofs.LineLaws.{over_lines, text_start, text_over, text_fault, text_next, text_last}
 use Rattle.solomon_form.proofs.judge_text.Goals as goal
 

@@ -1,7 +1,5 @@
 -- `solomon_form::line_offence` meets its contract: the fields so far are without fault.
-use Prim.Native.Nat.{◌-◌, ◌≤◌}
 use borrow.Author.Rules.{rules}
-use Rattle.solomon_form.specs.Reading.{LineRead}
 use Rattle.solomon_form.proofs.LineLaws.{line_start, line_fault, line_next, line_end}
 use Rattle.solomon_form.proofs.line_offence.Goals as goal
 

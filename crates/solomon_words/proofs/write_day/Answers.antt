@@ -1,5 +1,4 @@
 -- `solomon_words::write_day` meets its contract.
-use borrow.Author.Rules.{rules}
 use Rattle.solomon_words.proofs.WayLaws.{front_begins, front_writable, day_written}
 use Rattle.solomon_words.proofs.write_day.Goals as goal
 

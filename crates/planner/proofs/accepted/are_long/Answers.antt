@@ -1,6 +1,5 @@
 -- `planner::accepted::are_long` meets its contract.
 use Rattle.planner.proofs.PlanCalls.{long_not, long_by}
-use borrow.Author.Rules.{rules}
 use Rattle.planner.proofs.accepted.are_long.Goals as goal
 
 pub returns-then-room-need : goal.returns-then-room-need

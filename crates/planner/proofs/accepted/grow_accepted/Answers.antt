@@ -1,6 +1,5 @@
 -- `planner::accepted::grow_accepted` meets its contract.
-use Rattle.planner.proofs.PlanCalls.{sets_fit, growing_answer_lem, growing_buffer_lem, growing_spare}
-use borrow.Author.Rules.{rules}
+use Rattle.planner.proofs.PlanCalls.{growing_answer_lem, growing_buffer_lem, growing_spare}
 use Rattle.planner.proofs.accepted.grow_accepted.Goals as goal
 
 pub returns-clause-answer : goal.returns-clause-answer

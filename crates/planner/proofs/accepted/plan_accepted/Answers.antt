@@ -1,5 +1,4 @@
 -- `planner::accepted::plan_accepted` meets its contract.
-use mathlib.Core.Path.{refl}
 use Rattle.planner.proofs.PlanCalls.{one_fits, outside_answer, outside_buffer, few_answer, few_buffer, few_spare}
 use borrow.Author.Rules.{rules}
 use Rattle.planner.proofs.accepted.plan_accepted.Goals as goal

@@ -1,5 +1,4 @@
 -- `planner::accepted::plan_sets` meets its contract.
-use mathlib.Core.Path.{refl}
 use Rattle.planner.proofs.PlanCalls.{few_stops, long_plan, long_spare, short_answer, short_buffer, worked_answer, worked_buffer, worked_spare}
 use borrow.Author.Rules.{rules}
 use Rattle.planner.proofs.accepted.plan_sets.Goals as goal

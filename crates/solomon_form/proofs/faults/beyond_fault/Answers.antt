@@ -1,5 +1,4 @@
 -- `solomon_form::faults::beyond_fault` meets its contract.
-use borrow.Author.Rules.{rules}
 use Rattle.rules.specs.SolomonForm.{beyond_fault}
 use Rattle.laws.proofs.Tests.{branches}
 use Rattle.solomon_form.proofs.LineLaws.{beyond_stop, beyond_other}

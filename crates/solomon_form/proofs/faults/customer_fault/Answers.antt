@@ -1,5 +1,4 @@
 -- `solomon_form::faults::customer_fault` meets its contract.
-use borrow.Author.Rules.{rules}
 use Rattle.solomon_form.proofs.FieldFaults.{customer_ranged}
 use Rattle.rules.specs.SolomonForm.{customer_fault}
 use Rattle.laws.proofs.Tests.{branches}

@@ -1,5 +1,4 @@
 -- `solomon_form::faults::end_fault` meets its contract.
-use borrow.Author.Rules.{rules}
 use Rattle.laws.proofs.Tests.{branches}
 use Rattle.rules.specs.SolomonForm.{end_fault}
 use Rattle.solomon_form.proofs.faults.end_fault.Goals as goal

@@ -1,5 +1,4 @@
 -- `solomon_form::faults::field_fault` meets its contract.
-use borrow.Author.Rules.{rules}
 use Rattle.rules.specs.SolomonForm.{field_fault}
 use Rattle.laws.proofs.Tests.{branches}
 use Rattle.solomon_form.proofs.faults.field_fault.Goals as goal

@@ -1,5 +1,4 @@
 -- `solomon_form::faults::fleet_fault` meets its contract.
-use borrow.Author.Rules.{rules}
 use Rattle.laws.proofs.Tests.{branches}
 use Rattle.rules.specs.SolomonForm.{fleet_fault}
 use Rattle.solomon_form.proofs.faults.fleet_fault.Goals as goal

@@ -1,5 +1,4 @@
 -- `solomon_form::faults::order_fault` meets its contract.
-use borrow.Author.Rules.{rules}
 use Rattle.solomon_form.proofs.FieldFaults.{order_right, order_other, order_none}
 use Rattle.solomon_form.proofs.faults.order_fault.Goals as goal
 

@@ -1,5 +1,4 @@
 -- `solomon_form::faults::plain_fault` meets its contract.
-use borrow.Author.Rules.{rules}
 use Rattle.laws.proofs.Tests.{branches}
 use Rattle.rules.specs.SolomonForm.{plain_fault}
 use Rattle.solomon_form.proofs.faults.plain_fault.Goals as goal

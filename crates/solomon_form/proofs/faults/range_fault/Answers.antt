@@ -1,5 +1,4 @@
 -- `solomon_form::faults::range_fault` meets its contract.
-use borrow.Author.Rules.{rules}
 use Rattle.solomon_form.proofs.FieldFaults.{range_low, range_high, range_right, range_none}
 use Rattle.solomon_form.proofs.faults.range_fault.Goals as goal
 

@@ -1,5 +1,4 @@
 -- `solomon_form::faults::word_fault` meets its contract.
-use borrow.Author.Rules.{rules}
 use Rattle.laws.proofs.Tests.{branches}
 use Rattle.rules.specs.SolomonForm.{word_fault}
 use Rattle.solomon_form.proofs.faults.word_fault.Goals as goal

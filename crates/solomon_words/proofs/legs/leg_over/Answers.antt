@@ -1,5 +1,4 @@
 -- `solomon_words::legs::leg_over` meets its contract.
-use borrow.Author.Rules.{rules}
 use Rattle.solomon_words.proofs.LegLaws.{minutes_small, both_small, leg_small, leg_is}
 use Rattle.solomon_words.proofs.legs.leg_over.Goals as goal
 

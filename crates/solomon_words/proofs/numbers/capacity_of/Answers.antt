@@ -1,5 +1,4 @@
 -- `solomon_words::numbers::capacity_of` meets its contract.
-use borrow.Author.Rules.{rules}
 use Rattle.solomon_words.proofs.TableLaws.{capacity_read}
 use Rattle.solomon_words.proofs.numbers.capacity_of.Goals as goal
 

@@ -1,9 +1,6 @@
 -- `solomon_words::numbers::line_at` meets its contract.
-use Prim.Native.Nat.{◌-◌, ◌≤◌}
-use mathlib.Core.Path.{◌≡◌}
 use borrow.Author.Rules.{rules}
-use Rattle.rules.specs.TextFields.{line_at}
-use Rattle.solomon_words.proofs.TableLaws.{line_first, line_on, line_reached}
+use Rattle.solomon_words.proofs.TableLaws.{line_first, line_on}
 use Rattle.solomon_words.proofs.numbers.line_at.Goals as goal
 
 pub loop-i-init : goal.loop-i-init

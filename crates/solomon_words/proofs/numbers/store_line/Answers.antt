@@ -1,11 +1,6 @@
 -- `solomon_words::numbers::store_line` meets its contract: i numbers of the line are stored.
-use Prim.Native.Nat.{◌-◌, ◌+◌, ◌*◌, ◌≤◌}
-use mathlib.Core.Path.{◌≡◌}
-use lib.ListN.{length}
 use borrow.Author.Rules.{rules}
-use Rattle.solomon_words.specs.Table.{Stored}
-use Rattle.rules.specs.SolomonForm.{place_of}
-use Rattle.solomon_words.proofs.TableLaws.{field_first, field_on, stored_start, stored_more, stored_line, size_kept}
+use Rattle.solomon_words.proofs.TableLaws.{field_first, field_on, stored_start, stored_more, size_kept}
 use Rattle.solomon_words.proofs.numbers.store_line.Goals as goal
 
 pub loop-i-init : goal.loop-i-init

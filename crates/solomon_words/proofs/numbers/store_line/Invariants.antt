@@ -2,10 +2,8 @@
 use Prim.Native.Nat.{◌-◌, ◌+◌, ◌*◌, ◌≤◌}
 use mathlib.Core.Path.{◌≡◌}
 use lib.ListN.{length}
-use borrow.Author.Rules.{rules}
 use Rattle.solomon_words.specs.Table.{Stored}
 use Rattle.rules.specs.SolomonForm.{place_of}
-use Rattle.solomon_words.proofs.TableLaws.{field_first, field_on, stored_start, stored_more, stored_line, size_kept}
 use Rattle.solomon_words.proofs.numbers.store_line.Given as goal
 
 abbrev pub invariant-loop-i : goal.invariant-loop-i

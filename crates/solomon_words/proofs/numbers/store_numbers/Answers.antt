@@ -1,12 +1,6 @@
 -- `solomon_words::numbers::store_numbers` meets its contract: the numbers of k customers are stored.
-use Prim.Native.Nat.{◌-◌, ◌+◌, ◌*◌, ◌≤◌}
-use mathlib.Core.Path.{◌≡◌}
-use lib.ListN.{length}
-use native.Mathlib.Omega.{arith}
 use borrow.Author.Rules.{rules}
-use Rattle.solomon_words.proofs.TableLaws.{stored_next, stored_all, customer_on, size_still}
-use Rattle.rules.specs.TextFields.{line_at}
-use Rattle.solomon_words.specs.Table.{Stored}
+use Rattle.solomon_words.proofs.TableLaws.{stored_next, customer_on, size_still}
 use Rattle.solomon_words.proofs.numbers.store_numbers.Goals as goal
 
 pub loop-k-preserved : goal.loop-k-preserved

@@ -2,9 +2,6 @@
 use Prim.Native.Nat.{◌-◌, ◌+◌, ◌*◌, ◌≤◌}
 use mathlib.Core.Path.{◌≡◌}
 use lib.ListN.{length}
-use native.Mathlib.Omega.{arith}
-use borrow.Author.Rules.{rules}
-use Rattle.solomon_words.proofs.TableLaws.{stored_next, stored_all, customer_on, size_still}
 use Rattle.rules.specs.TextFields.{line_at}
 use Rattle.solomon_words.specs.Table.{Stored}
 use Rattle.solomon_words.proofs.numbers.store_numbers.Given as goal

@@ -1,6 +1,5 @@
 -- `solomon_words::words::front_word` meets its contract.
-use borrow.Author.Rules.{rules}
-use Rattle.solomon_words.proofs.FrontLaws.{front_head, front_tip, front_stop, depot_fits, stop_index, stop_customer, stop_fits}
+use Rattle.solomon_words.proofs.FrontLaws.{front_head, front_tip, front_stop}
 use Rattle.solomon_words.proofs.words.front_word.Goals as goal
 
 pub returns-then-i-lt7 : goal.returns-then-i-lt7

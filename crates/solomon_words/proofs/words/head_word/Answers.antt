@@ -1,8 +1,7 @@
 -- `solomon_words::words::head_word` meets its contract.
-use borrow.Author.Rules.{rules}
 use Rattle.laws.proofs.Tests.{branches}
 use Rattle.rules.specs.SolomonDay.{head_word}
-use Rattle.solomon_words.proofs.FrontLaws.{depot_fits, head_rest, head_minutes}
+use Rattle.solomon_words.proofs.FrontLaws.{head_rest, head_minutes}
 use Rattle.solomon_words.proofs.words.head_word.Goals as goal
 
 pub returns-then-i-eq0 : goal.returns-then-i-eq0

@@ -1,5 +1,4 @@
 -- `solomon_words::words::stop_word` meets its contract.
-use borrow.Author.Rules.{rules}
 use Rattle.solomon_words.proofs.FrontLaws.{stop_hours, stop_service, stop_demand}
 use Rattle.solomon_words.proofs.words.stop_word.Goals as goal
 

@@ -1,5 +1,4 @@
 -- `solomon_words::words::tip_word` meets its contract.
-use borrow.Author.Rules.{rules}
 use Rattle.rules.specs.SolomonDay.{tip_word}
 use Rattle.laws.proofs.Tests.{branches}
 use Rattle.solomon_words.proofs.words.tip_word.Goals as goal

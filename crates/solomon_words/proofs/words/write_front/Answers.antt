@@ -1,12 +1,7 @@
 -- `solomon_words::words::write_front` meets its contract: the first i words stand at the front.
-use Prim.Native.Nat.{◌-◌, ◌≤◌}
 use borrow.Author.Rules.{rules}
-use Rattle.laws.specs.Buffer.{Wrote}
 use Rattle.solomon_words.proofs.FrontLaws.{front_written}
-use Rattle.laws.proofs.Listed.{wrote_first, wrote_all}
-use Rattle.solomon_words.specs.Table.{cell}
-use Rattle.rules.specs.SolomonDay.{day_word}
-use Rattle.rules.specs.Lists.{listed}
+use Rattle.laws.proofs.Listed.{wrote_first}
 use Rattle.solomon_words.proofs.words.write_front.Goals as goal
 
 pub loop-i-init : goal.loop-i-init
