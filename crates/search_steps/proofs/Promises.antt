@@ -7,7 +7,7 @@ use mathlib.Core.Option.{Option, some}
 use native.Mathlib.Nat.{mul_assoc}
 use native.Mathlib.Omega.{arith}
 use lib.ListN.{length}
-use Rattle.rules.specs.Answers.{given, is_given}
+use Rattle.rules.specs.Answers.{is_given}
 use Rattle.rules.specs.Lists.{Every, total}
 use Rattle.rules.specs.Fields.{stops, tips, IsAccepted}
 use Rattle.rules.specs.Plan.{Round}

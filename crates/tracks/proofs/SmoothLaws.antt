@@ -1,6 +1,6 @@
 -- A vehicle which comes with a load between the least and the most drives what is left as it stands. The day may be any list of words.
 -- Assumes nothing.
-use Prim.Native.Nat.{ℕ, ◌+◌, ◌-◌, ◌≤◌, ◌<◌}
+use Prim.Native.Nat.{ℕ, ◌+◌, ◌≤◌, ◌<◌}
 use mathlib.Core.Path.{◌≡◌, refl, ap, ◌∙◌}
 use mathlib.Core.Bool.{false, and-false}
 use mathlib.Core.List.{List, [], ◌∷◌}
