@@ -13,16 +13,26 @@ pub loop-at-init : goal.loop-at-init
 loop-at-init c = let p = c.requires in filling_start p.2 (c.put_row.auto.behind ∙ p.3) c.put_row.ensures
 
 pub offset_bounds-plan-at : goal.offset_bounds-plan-at
-offset_bounds-plan-at c = let p = c.requires in let l : c.loop-at.at ≤ 1200 = omega (arith, p.1, (filling_inside p.2).1, c.loop-at.invariant.high) in search rules
+offset_bounds-plan-at c =
+    let p = c.requires in
+    let l : c.loop-at.at ≤ 1200 = omega (arith, p.1, (filling_inside p.2).1, c.loop-at.invariant.high) in
+    search rules
 
 pub bounds-plan-at : goal.bounds-plan-at
 bounds-plan-at c = let p = c.requires in omega (arith, (filling_inside p.2).1, c.loop-at.invariant.high)
 
 pub onward_before-o-requires : goal.onward_before-o-requires
-onward_before-o-requires c = let p = c.requires in let w = filling_writes p.2 c.loop-at.invariant (c.loop-at.at - 1) (omega arith) (omega arith) in (p.0, w.word, omega (arith, w.next, p.0.places_are), omega (arith, w.few, p.1))
+onward_before-o-requires c =
+    let p = c.requires in
+    let w = filling_writes p.2 c.loop-at.invariant (c.loop-at.at - 1) (omega arith) (omega arith) in
+    (p.0, w.word, omega (arith, w.next, p.0.places_are), omega (arith, w.few, p.1))
 
 pub put_row-requires-in-loop-at : goal.put_row-requires-in-loop-at
-put_row-requires-in-loop-at c = let p = c.requires in omega (arith, p.1, c.loop-at.invariant.size, c.loop-at.invariant.high, (filling_inside p.2).1)
+put_row-requires-in-loop-at c =
+    let p = c.requires in
+    omega (arith, p.1, c.loop-at.invariant.size, c.loop-at.invariant.high, (filling_inside p.2).1)
 
 pub loop-at-preserved : goal.loop-at-preserved
-loop-at-preserved c = let p = c.requires in filling_next p.2 c.loop-at.invariant (c.loop-at.at - 1) _ (omega arith) (omega arith) c.onward_before-o.ensures c.put_row-in-loop-at.ensures c.put_row-in-loop-at.auto.behind
+loop-at-preserved c =
+    let p = c.requires in
+    filling_next p.2 c.loop-at.invariant (c.loop-at.at - 1) _ (omega arith) (omega arith) c.onward_before-o.ensures c.put_row-in-loop-at.ensures c.put_row-in-loop-at.auto.behind

@@ -15,20 +15,24 @@ pub words_needed-total-requires : goal.words_needed-total-requires
 words_needed-total-requires c = search found_few
 
 pub returns-then-words-total-clause-answer : goal.returns-then-words-total-clause-answer
-returns-then-words-total-clause-answer c = let z = import_short _ _ c.judge_text-found.ensures c.words_needed-total.ensures c.if-found-ne0.false c.if-words-total.true in
+returns-then-words-total-clause-answer c =
+    let z = import_short _ _ c.judge_text-found.ensures c.words_needed-total.ensures c.if-found-ne0.false c.if-words-total.true in
     z.0
 
 pub returns-then-words-total-clause-buffer : goal.returns-then-words-total-clause-buffer
-returns-then-words-total-clause-buffer c = let z = import_short _ _ c.judge_text-found.ensures c.words_needed-total.ensures c.if-found-ne0.false c.if-words-total.true in
+returns-then-words-total-clause-buffer c =
+    let z = import_short _ _ c.judge_text-found.ensures c.words_needed-total.ensures c.if-found-ne0.false c.if-words-total.true in
     z.1
 
 pub write_import-requires : goal.write_import-requires
 write_import-requires c = (search found_right, search found_stops, search rules)
 
 pub returns-clause-answer : goal.returns-clause-answer
-returns-clause-answer c = let z = import_read _ _ c.judge_text-found.ensures c.words_needed-total.ensures c.if-found-ne0.false c.if-words-total.false c.write_import.ensures in
+returns-clause-answer c =
+    let z = import_read _ _ c.judge_text-found.ensures c.words_needed-total.ensures c.if-found-ne0.false c.if-words-total.false c.write_import.ensures in
     z.0
 
 pub returns-clause-buffer : goal.returns-clause-buffer
-returns-clause-buffer c = let z = import_read _ _ c.judge_text-found.ensures c.words_needed-total.ensures c.if-found-ne0.false c.if-words-total.false c.write_import.ensures in
+returns-clause-buffer c =
+    let z = import_read _ _ c.judge_text-found.ensures c.words_needed-total.ensures c.if-found-ne0.false c.if-words-total.false c.write_import.ensures in
     z.1

@@ -3,13 +3,25 @@ use Rattle.spans.proofs.SpanLaws.{before_span, after_span, swap_span, remove_spa
 use Rattle.spans.proofs.span_of.Goals as goal
 
 pub returns-in-Before : goal.returns-in-Before
-returns-in-Before c = λ tasks q s. let w = rw c.in-Before.is at c.requires.0 in let o = rw c.in-Before.is at s in rw c.in-Before.is (before_span _ _ tasks q w.0 w.1 _ o c.span_of_two.ensures.0 c.span_of_two.ensures.1)
+returns-in-Before c =
+    λ tasks q s.
+    let w = rw c.in-Before.is at c.requires.0 in
+    let o = rw c.in-Before.is at s in
+    rw c.in-Before.is (before_span _ _ tasks q w.0 w.1 _ o c.span_of_two.ensures.0 c.span_of_two.ensures.1)
 
 pub returns-in-After : goal.returns-in-After
-returns-in-After c = λ tasks q s. let w = rw c.in-After.is at c.requires.0 in let o = rw c.in-After.is at s in rw c.in-After.is (after_span _ _ tasks q w.0 w.1 _ o c.span_of_two-in-After.ensures.0 c.span_of_two-in-After.ensures.1)
+returns-in-After c =
+    λ tasks q s.
+    let w = rw c.in-After.is at c.requires.0 in
+    let o = rw c.in-After.is at s in
+    rw c.in-After.is (after_span _ _ tasks q w.0 w.1 _ o c.span_of_two-in-After.ensures.0 c.span_of_two-in-After.ensures.1)
 
 pub returns-in-Swap : goal.returns-in-Swap
-returns-in-Swap c = λ tasks q s. let w = rw c.in-Swap.is at c.requires.0 in let o = rw c.in-Swap.is at s in rw c.in-Swap.is (swap_span _ _ tasks q w.0 w.1 _ o c.span_of_swap.ensures)
+returns-in-Swap c =
+    λ tasks q s.
+    let w = rw c.in-Swap.is at c.requires.0 in
+    let o = rw c.in-Swap.is at s in
+    rw c.in-Swap.is (swap_span _ _ tasks q w.0 w.1 _ o c.span_of_swap.ensures)
 
 pub returns-in-Remove : goal.returns-in-Remove
 returns-in-Remove c = λ tasks q s. rw c.in-Remove.is (remove_span _ tasks q c.span_of_word.ensures)

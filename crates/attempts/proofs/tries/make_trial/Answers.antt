@@ -9,7 +9,9 @@ pub is_shorter-requires : goal.is_shorter-requires
 is_shorter-requires c = search (rules, some_measured)
 
 pub write_candidate-c-requires : goal.write_candidate-c-requires
-write_candidate-c-requires c = let p = c.requires in (p.0, p.1, p.2, p.3, trying_made p.1 p.4.made, omega (arith, p.5, c.is_shorter.auto.work))
+write_candidate-c-requires c =
+    let p = c.requires in
+    (p.0, p.1, p.2, p.3, trying_made p.1 p.4.made, omega (arith, p.5, c.is_shorter.auto.work))
 
 pub returns-then-c : goal.returns-then-c
 returns-then-c c = λ rounds h. tried_stuck h _ c.write_candidate-c.ensures c.if-c.true c.not_kept.ensures

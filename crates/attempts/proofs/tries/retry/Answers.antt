@@ -5,7 +5,24 @@ use Rattle.attempts.proofs.TryLaws.{retry_walkable, retry_measurable, retry_shor
 use Rattle.attempts.proofs.tries.retry.Goals as goal
 
 pub measure-requires : goal.measure-requires
-measure-requires c = let s = c.requires.4 in let room = room_is c.requires.0 c.requires.5 in let are = (retry_walkable s.trying s.inside {work = c.args.work.now} c.requires.1 room s.touched).are in (c.requires.0, c.requires.1, c.requires.2, c.requires.3, s.tracked.tracked.before_size, s.tracked.tracked.behind_size, retry_short s.trying s.inside c.requires.1 are, record { tasks = _; measurable = retry_measurable s.trying s.inside c.requires.1 room s.touched s.tracked (c.span_of-span.ensures _ are (valid_single _ s.inside s.trying.valid)) })
+measure-requires c =
+    let s = c.requires.4 in
+    let room = room_is c.requires.0 c.requires.5 in
+    let are = (retry_walkable s.trying s.inside {work = c.args.work.now} c.requires.1 room s.touched).are in
+    (
+      c.requires.0,
+      c.requires.1,
+      c.requires.2,
+      c.requires.3,
+      s.tracked.tracked.before_size,
+      s.tracked.tracked.behind_size,
+      retry_short s.trying s.inside c.requires.1 are,
+      record { tasks = _; measurable = retry_measurable s.trying s.inside c.requires.1 room s.touched s.tracked (c.span_of-span.ensures _ are (valid_single _ s.inside s.trying.valid)) },
+    )
 
 pub returns : goal.returns
-returns c = λ rounds t k l y. let room = room_is c.requires.0 c.requires.5 in let are = (retry_walkable t l {work = c.args.work.now} c.requires.1 room y).are in c.measure.ensures _ (retry_measurable t l c.requires.1 room y k (c.span_of-span.ensures _ are (valid_single _ l t.valid)))
+returns c =
+    λ rounds t k l y.
+    let room = room_is c.requires.0 c.requires.5 in
+    let are = (retry_walkable t l {work = c.args.work.now} c.requires.1 room y).are in
+    c.measure.ensures _ (retry_measurable t l c.requires.1 room y k (c.span_of-span.ensures _ are (valid_single _ l t.valid)))

@@ -11,8 +11,14 @@ pub returns-then-found-ne0 : goal.returns-then-found-ne0
 returns-then-found-ne0 c = search part_stops
 
 pub loop-p-preserved : goal.loop-p-preserved
-loop-p-preserved c = let l = c.loop-p in
-    (search rules, search row_within, search row_next, part_passes _ _ _ _ _ _ _ c.if-found-ne0.false c.row_fault-found.ensures l.invariant.3)
+loop-p-preserved c =
+    let l = c.loop-p in
+    (
+      search rules,
+      search row_within,
+      search row_next,
+      part_passes _ _ _ _ _ _ _ c.if-found-ne0.false c.row_fault-found.ensures l.invariant.3,
+    )
 
 pub returns : goal.returns
 returns c = search rows_end

@@ -15,13 +15,17 @@ pub returns-then-back : goal.returns-then-back
 returns-then-back c = search back_fails
 
 pub leg_between-leg-requires : goal.leg_between-leg-requires
-leg_between-leg-requires c = let t = (some_served _ (done_standing c.requires.2 c.if-c.false) c.walk_home-back.ensures c.if-back.false).trip in (c.requires.0, omega (arith, t.place, c.requires.0.places_are), omega (arith, c.requires.0.places_are))
+leg_between-leg-requires c =
+    let t = (some_served _ (done_standing c.requires.2 c.if-c.false) c.walk_home-back.ensures c.if-back.false).trip in
+    (c.requires.0, omega (arith, t.place, c.requires.0.places_are), omega (arith, c.requires.0.places_are))
 
 pub overflow_add-result : goal.overflow_add-result
 overflow_add-result c = omega (arith, (some_served _ (done_standing c.requires.2 c.if-c.false) c.walk_home-back.ensures c.if-back.false).space.few)
 
 pub overflow_add-result-2 : goal.overflow_add-result-2
-overflow_add-result-2 c = let t = (some_served _ (done_standing c.requires.2 c.if-c.false) c.walk_home-back.ensures c.if-back.false).trip in omega (arith, t.distance, c.leg_between-leg.ensures.spans)
+overflow_add-result-2 c =
+    let t = (some_served _ (done_standing c.requires.2 c.if-c.false) c.walk_home-back.ensures c.if-back.false).trip in
+    omega (arith, t.distance, c.leg_between-leg.ensures.spans)
 
 pub returns : goal.returns
 returns c = search back_comes

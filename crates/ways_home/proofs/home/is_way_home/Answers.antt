@@ -13,7 +13,9 @@ pub returns-then-load-eq0 : goal.returns-then-load-eq0
 returns-then-load-eq0 c = search empty_home
 
 pub nearest_tip-x-requires : goal.nearest_tip-x-requires
-nearest_tip-x-requires c = let s = rest_small _ _ _ _ c.requires.1 c.rest_if_due-rested.ensures in (search rules, omega (arith, s.place), omega (arith, s.minute))
+nearest_tip-x-requires c =
+    let s = rest_small _ _ _ _ c.requires.1 c.rest_if_due-rested.ensures in
+    (search rules, omega (arith, s.place), omega (arith, s.minute))
 
 pub is_home_by_tip-requires : goal.is_home_by_tip-requires
 is_home_by_tip-requires c = (search rules, rest_small _ _ _ _ c.requires.1 c.rest_if_due-rested.ensures, search rules)
