@@ -1,6 +1,6 @@
 -- The words of a day whose numbers are within their limits are an accepted day of one tip. Assumes nothing.
 use Rattle.std.specs.Prelude.{if◌then◌else◌}
-use Prim.Native.Nat.{ℕ, zero, suc, ◌+◌, ◌-◌, ◌*◌, ◌/◌, ◌%◌, ◌≤◌, ◌<◌}
+use Prim.Native.Nat.{ℕ, suc, ◌+◌, ◌-◌, ◌*◌, ◌/◌, ◌%◌, ◌≤◌, ◌<◌}
 use mathlib.Core.Path.{◌≡◌, refl, sym, ap, subst, ◌∙◌}
 use mathlib.Core.Bool.{Bool, true, false}
 use mathlib.Core.List.{List, [], ◌∷◌}
@@ -10,11 +10,11 @@ use lib.Seq.{get_or-drop}
 use lib.Dec.{eqb, ltb}
 use borrow.Author.Tests.{eq-eqb, ne_eqb, le-ltb, eqb-true, ltb-true, ltb-false}
 use Rattle.rules.specs.Answers.{given}
-use Rattle.rules.specs.DayFile.{Form, lone, window, leg, stay, tips_in, stops_in, places_of, legs_at, words_of, head_form, tip_form, stop_form, leg_form, form_at, fault_of, judge_from, judge_sized, judge_day}
+use Rattle.rules.specs.DayFile.{lone, window, leg, stay, places_of, legs_at, words_of, head_form, tip_form, stop_form, leg_form, form_at, fault_of, judge_from, judge_sized, judge_day}
 use Rattle.rules.specs.SolomonDay.{root_up_to, root, lone_word, window_word, leg_word_of, squares, hours_word, head_word, tip_word, stop_word, way_word, day_word, day_words}
 use Rattle.day.proofs.WordFaults.{lone_right, window_right, leg_right, stay_right}
 use Rattle.laws.proofs.Listed.{length_listed, get_listed}
-use Rattle.solomon_words.specs.Table.{CustomerFit, StopFit, Fit}
+use Rattle.solomon_words.specs.Table.{CustomerFit, Fit}
 use Rattle.solomon_words.proofs.LegLaws.{minutes_most_lem, distance_most, squares_most}
 use Rattle.solomon.proofs.DayWords.{row_few, column_few}
 

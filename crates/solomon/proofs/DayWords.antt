@@ -1,16 +1,14 @@
 -- The words of the day by their indices, and that sources that say the same give the same day. Assumes nothing.
 use Rattle.std.specs.Prelude.{if◌then◌else◌}
-use Prim.Native.Nat.{ℕ, zero, suc, ◌+◌, ◌-◌, ◌*◌, ◌/◌, ◌%◌, ◌≤◌, ◌<◌}
-use mathlib.Core.Path.{◌≡◌, refl, sym, ap, ap₂, ◌∙◌}
+use Prim.Native.Nat.{ℕ, ◌+◌, ◌-◌, ◌*◌, ◌/◌, ◌%◌, ◌≤◌, ◌<◌}
+use mathlib.Core.Path.{◌≡◌, refl}
 use mathlib.Core.Bool.{Bool, true, false}
-use mathlib.Core.List.{List}
 use native.Mathlib.Omega.{arith}
 use native.Mathlib.Nat.{div-mul-le_self, lt_of_mul-lt-mul_right, mod-lt}
-use lib.Dec.{eqb, ltb}
+use lib.Dec.{ltb}
 use borrow.Author.Tests.{ltb-false, ltb-true}
-use Rattle.rules.specs.DayFile.{tips_end, legs_at, places_of, words_of}
-use Rattle.rules.specs.Lists.{listed}
-use Rattle.rules.specs.SolomonDay.{lone_word, window_word, apart, squares, hours_word, head_word, tip_word, stop_word, way_word, day_word, day_words}
+use Rattle.rules.specs.DayFile.{legs_at, places_of, words_of}
+use Rattle.rules.specs.SolomonDay.{hours_word, head_word, tip_word, stop_word, way_word, day_word, day_words}
 use Rattle.laws.proofs.Listed.{listed_same}
 use Rattle.solomon_words.specs.Table.{Same}
 

@@ -1,14 +1,14 @@
 -- The numbers of a text without fault are within a day file's limits, and so is the table that they are read into. Assumes nothing.
 use Rattle.std.specs.Prelude.{if◌then◌else◌}
-use Prim.Native.Nat.{ℕ, zero, suc, ◌+◌, ◌-◌, ◌*◌, ◌≤◌, ◌<◌, min}
-use mathlib.Core.Path.{◌≡◌, refl, sym, ap, ap₂, subst, ◌∙◌}
+use Prim.Native.Nat.{ℕ, ◌+◌, ◌-◌, ◌*◌, ◌≤◌, ◌<◌}
+use mathlib.Core.Path.{◌≡◌, refl}
 use mathlib.Core.Bool.{Bool, true, false}
 use mathlib.Core.List.{List}
 use native.Mathlib.Omega.{arith}
-use lib.Dec.{eqb, ltb, leb}
+use lib.Dec.{eqb, ltb}
 use borrow.Author.Tests.{ltb-false, ne_eqb, le-leb, lt-leb}
 use Rattle.rules.specs.TextFields.{is_number, number_at}
-use Rattle.rules.specs.SolomonForm.{plain_fault, range_fault, order_fault, end_fault, fleet_fault, is_unused, most_of, least_of, customer_fault, field_fault, place_of, number_before, fault_at}
+use Rattle.rules.specs.SolomonForm.{range_fault, fleet_fault, is_unused, most_of, least_of, customer_fault, field_fault, place_of, number_before}
 use Rattle.rules.specs.SolomonDay.{customer_number, capacity}
 use Rattle.text_fields.specs.Runs.{held_at}
 use Rattle.text_fields.proofs.Numbers.{held_most}

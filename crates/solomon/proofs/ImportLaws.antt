@@ -9,12 +9,11 @@ use Rattle.rules.specs.Answers.{given, refused}
 use Rattle.rules.specs.DayFile.{words_of}
 use Rattle.rules.specs.Lists.{listed, over}
 use Rattle.rules.specs.SolomonForm.{place_of, judge_text}
-use Rattle.rules.specs.SolomonDay.{day_word, day_words, customer_number, capacity, stops_of, import_words, import_answer, import_buffer}
+use Rattle.rules.specs.SolomonDay.{day_word, stops_of, import_words, import_answer, import_buffer}
 use Rattle.rules.specs.declared.texts.Verdict.{Verdict}
 use Rattle.text_fields.specs.Runs.{held_at}
 use Rattle.solomon_form.proofs.Judged.{TextRight, text_right}
 use Rattle.solomon_words.specs.Table.{cell, Stored, Writable}
-use Rattle.solomon_words.specs.declared.Instance.{Instance}
 use Rattle.solomon.proofs.Fitting.{table_same, load_same, table_fits}
 use Rattle.solomon.proofs.DayWords.{words_same}
 

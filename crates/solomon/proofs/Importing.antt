@@ -1,8 +1,8 @@
 -- What an answer to the import tells: an accepted day was written, or the earliest offence is named. Assumes nothing.
 use Rattle.std.specs.Prelude.{if◌then◌else◌}
-use Prim.Native.Nat.{ℕ, ◌+◌, ◌≤◌, ◌<◌}
-use mathlib.Core.Path.{◌≡◌, refl, sym, ap, ◌∙◌}
-use mathlib.Core.Bool.{Bool, true, false, false≢true, true≢false}
+use Prim.Native.Nat.{ℕ}
+use mathlib.Core.Path.{◌≡◌, refl, sym, ap}
+use mathlib.Core.Bool.{Bool, true, false, false≢true}
 use mathlib.Core.List.{List, [], ◌∷◌}
 use mathlib.Core.Logic.{◌⊎◌, inl, inr}
 use native.Mathlib.Omega.{arith}
@@ -15,7 +15,7 @@ use Rattle.rules.specs.DayFile.{words_of, judge_day}
 use Rattle.rules.specs.SolomonForm.{Offends, judge_text}
 use Rattle.rules.specs.SolomonDay.{customer_number, capacity, stops_of, import_words, import_answer, import_buffer}
 use Rattle.rules.specs.Demands.{AnswersBy, answer, refusal}
-use Rattle.solomon_form.proofs.Judged.{TextRight, text_right, first_fault}
+use Rattle.solomon_form.proofs.Judged.{text_right, first_fault}
 use Rattle.solomon_form.proofs.Earliest.{Later, offence_number, found_earliest, found_offends, none_offends}
 use Rattle.solomon_words.specs.Table.{Fit}
 use Rattle.solomon.proofs.Accepted.{day_long, words_accepted}

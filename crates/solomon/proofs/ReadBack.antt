@@ -1,15 +1,15 @@
 -- What the day of a text says, field by field, under the names of document 01: each is what the text says. Assumes nothing.
-use Prim.Native.Nat.{ℕ, suc, ◌+◌, ◌-◌, ◌*◌, ◌/◌, ◌%◌, ◌≤◌, ◌<◌}
-use mathlib.Core.Path.{◌≡◌, refl, sym, ap, ap₂, subst, ◌∙◌}
-use mathlib.Core.List.{List, [], ◌∷◌}
+use Prim.Native.Nat.{ℕ, ◌+◌, ◌-◌, ◌*◌, ◌≤◌, ◌<◌}
+use mathlib.Core.Path.{◌≡◌, refl, sym, ap, ◌∙◌}
+use mathlib.Core.List.{List}
 use native.Mathlib.Omega.{arith}
-use Rattle.rules.specs.DayFile.{lone_number, window_opening, window_closing, minutes_of, distance_of, legs_at, places_of, words_of}
+use Rattle.rules.specs.DayFile.{lone_number, window_opening, window_closing, minutes_of, distance_of, legs_at, words_of}
 use Rattle.rules.specs.Fields.{word_at, tips, stops, load_limit, day_limit, stop_limit, window_index, opening, closing}
 use Rattle.rules.specs.Fields.{rest_opening, rest_closing, rest_minutes, service, quantity, stop_place, leg_index, leg_minutes, leg_distance}
-use Rattle.rules.specs.SolomonDay.{root, lone_word, window_word, leg_word_of, squares, hours_word, head_word, tip_word, stop_word, way_word, day_word, day_words}
+use Rattle.rules.specs.SolomonDay.{root, lone_word, window_word, squares, hours_word, head_word, tip_word, way_word, day_word, day_words}
 use Rattle.day.proofs.Readers.{stop_index}
 use Rattle.day.proofs.Forms.{square_below}
-use Rattle.solomon_words.specs.Table.{CustomerFit, StopFit, Fit}
+use Rattle.solomon_words.specs.Table.{CustomerFit, Fit}
 use Rattle.solomon.proofs.Accepted.{day_at, day_first}
 use Rattle.solomon_words.proofs.FrontLaws.{front_stop, stop_hours, stop_service, stop_demand}
 use Rattle.solomon_words.proofs.LegLaws.{minutes_most_lem, distance_most, squares_most}

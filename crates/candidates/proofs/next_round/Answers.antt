@@ -7,8 +7,7 @@ use Rattle.candidates.proofs.next_round.Goals as goal
 
 pub write_round-requires : goal.write_round-requires
 write_round-requires c =
-    let s = c.requires.4 in
-    (
+    let s = c.requires.4 in (
       c.requires.0,
       c.requires.1,
       c.requires.2,

@@ -49,9 +49,8 @@ overflow_add-at c =
     omega (arith, room_left s.trying (written_next s.trying w l ((c.next_round-w.ensures s.rounds s.trying l (next_room s.trying w l (room_is c.requires.0 c.requires.5))).written c.if-w.false)))
 
 pub loop-v-preserved : goal.loop-v-preserved
-loop-v-preserved c =
-    (
-      omega (arith, c.loop-v-test.true),
-      (let s = c.requires.4 in let w = c.loop-v.invariant.2 s.rounds s.trying s.counted in let l = below c.loop-v-test.true s.counted in (written_next s.trying w l ((c.next_round-w.ensures s.rounds s.trying l (next_room s.trying w l (room_is c.requires.0 c.requires.5))).written c.if-w.false)).text.size),
-      λ rounds t n. let w = c.loop-v.invariant.2 rounds t n in let l = below c.loop-v-test.true n in written_next t w l ((c.next_round-w.ensures rounds t l (next_room t w l (room_is c.requires.0 c.requires.5))).written c.if-w.false),
-    )
+loop-v-preserved c = (
+  omega (arith, c.loop-v-test.true),
+  (let s = c.requires.4 in let w = c.loop-v.invariant.2 s.rounds s.trying s.counted in let l = below c.loop-v-test.true s.counted in (written_next s.trying w l ((c.next_round-w.ensures s.rounds s.trying l (next_room s.trying w l (room_is c.requires.0 c.requires.5))).written c.if-w.false)).text.size),
+  λ rounds t n. let w = c.loop-v.invariant.2 rounds t n in let l = below c.loop-v-test.true n in written_next t w l ((c.next_round-w.ensures rounds t l (next_room t w l (room_is c.requires.0 c.requires.5))).written c.if-w.false),
+)

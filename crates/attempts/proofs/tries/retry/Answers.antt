@@ -8,8 +8,7 @@ pub measure-requires : goal.measure-requires
 measure-requires c =
     let s = c.requires.4 in
     let room = room_is c.requires.0 c.requires.5 in
-    let are = (retry_walkable s.trying s.inside {work = c.args.work.now} c.requires.1 room s.touched).are in
-    (
+    let are = (retry_walkable s.trying s.inside {work = c.args.work.now} c.requires.1 room s.touched).are in (
       c.requires.0,
       c.requires.1,
       c.requires.2,

@@ -12,8 +12,7 @@ returns-then-found-ne0 c = search part_stops
 
 pub loop-p-preserved : goal.loop-p-preserved
 loop-p-preserved c =
-    let l = c.loop-p in
-    (
+    let l = c.loop-p in (
       search rules,
       search row_within,
       search row_next,

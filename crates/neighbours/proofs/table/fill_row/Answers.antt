@@ -10,8 +10,7 @@ loop-r-init c = (search rules, row_none _ _ _ _, key_first _ _)
 pub loop-r-preserved : goal.loop-r-preserved
 loop-r-preserved c =
     let p = c.requires in
-    let e = key_next _ _ _ _ c.loop-r.invariant.2 c.next_key-last.ensures in
-    (
+    let e = key_next _ _ _ _ c.loop-r.invariant.2 c.next_key-last.ensures in (
       search rules,
       row_next _ _ _ _ _ _ _ _ c.loop-r.invariant.1 p.3 (omega (arith, p.1, c.loop-r-test.true)) p.2 e c.stop_of_key.ensures,
       e,

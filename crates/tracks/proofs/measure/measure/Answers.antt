@@ -11,8 +11,7 @@ returns-then-c c = λ ts h. measure_failed h (ap (λ x. x.stuck) (sym c.cab_at-c
 pub walk_span-requires : goal.walk_span-requires
 walk_span-requires c =
     let s = c.requires.7 in
-    let w = measure_starts s.measurable c.cab_at-c.result c.cab_at-c.ensures c.if-c.false (wrote_put (wrote_none _) _ (omega (arith, s.measurable.cuttable.walkable.room))) in
-    (
+    let w = measure_starts s.measurable c.cab_at-c.result c.cab_at-c.ensures c.if-c.false (wrote_put (wrote_none _) _ (omega (arith, s.measurable.cuttable.walkable.room))) in (
       c.requires.0,
       c.requires.1,
       c.requires.2,

@@ -20,24 +20,21 @@ returns-then-is_cut c = λ ts start p h m. left_drives h (c.loop-i.invariant.1 t
 
 pub walk_word-c-requires : goal.walk_word-c-requires
 walk_word-c-requires c =
-    let s = c.requires.6 in
-    (
+    let s = c.requires.6 in (
       c.requires.0,
       c.requires.1,
       midway_word c.args.e s.cuttable.walkable c.requires.3 c.loop-i-test.true 0 (c.loop-i.invariant.1 s.tasks s.start s.p s.cuttable s.midway) c.next_turn-turn.ensures.turn,
     )
 
 pub loop-i-preserved : goal.loop-i-preserved
-loop-i-preserved c =
-    (
-      omega (arith, c.loop-i-test.true, c.next_turn-turn.ensures.comes.1),
-      λ ts start p h m. midway_step c.args.e h.walkable c.requires.3 c.loop-i-test.true 0 (c.loop-i.invariant.1 ts start p h m) c.next_turn-turn.ensures.turn c.walk_word-c.ensures,
-    )
+loop-i-preserved c = (
+  omega (arith, c.loop-i-test.true, c.next_turn-turn.ensures.comes.1),
+  λ ts start p h m. midway_step c.args.e h.walkable c.requires.3 c.loop-i-test.true 0 (c.loop-i.invariant.1 ts start p h m) c.next_turn-turn.ensures.turn c.walk_word-c.ensures,
+)
 
 pub come_back-requires : goal.come_back-requires
 come_back-requires c =
-    let s = c.requires.6 in
-    (
+    let s = c.requires.6 in (
       c.requires.0,
       c.requires.1,
       record { start = s.start; most = _; p = s.p; o = _; stands = midway_done s.cuttable.walkable c.loop-i-test.false (c.loop-i.invariant.1 s.tasks s.start s.p s.cuttable s.midway) },

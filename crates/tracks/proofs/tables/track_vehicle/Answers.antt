@@ -6,8 +6,7 @@ use Rattle.tracks.proofs.tables.track_vehicle.Goals as goal
 
 pub fill_before-requires : goal.fill_before-requires
 fill_before-requires c =
-    let s = c.requires.layout_of.2 in
-    (
+    let s = c.requires.layout_of.2 in (
       c.requires.layout_of.0,
       c.requires.layout_of.1,
       record { tasks = _; walks = vehicle_walks s.trackable s.inside refl },
@@ -17,8 +16,7 @@ fill_before-requires c =
 
 pub fill_behind-requires : goal.fill_behind-requires
 fill_behind-requires c =
-    let s = c.requires.layout_of.2 in
-    (
+    let s = c.requires.layout_of.2 in (
       c.requires.layout_of.0,
       s.trackable.short,
       vehicle_placed s.trackable s.inside,

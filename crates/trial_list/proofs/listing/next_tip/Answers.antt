@@ -26,4 +26,4 @@ loop-p-preserved c =
 pub returns : goal.returns
 returns c =
     let l = c.loop-p in
-    record { tells = next_none _ _ l.invariant.1 (λ s. tips_over s.day s.rounds l.p (omega (arith, s.counted, c.loop-p-test.false))) c.no_tip.ensures; fits = rw c.no_tip.ensures.1 (λ t. absurd (omega (arith, c.loop-p-test.false))); }
+    record { tells = next_none _ _ l.invariant.1 (λ s. tips_over s.day s.rounds l.p (omega (arith, s.counted, c.loop-p-test.false))) c.no_tip.ensures; fits = rw c.no_tip.ensures.1 (λ t. absurd (omega (arith, c.loop-p-test.false))) }

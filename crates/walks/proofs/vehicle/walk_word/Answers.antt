@@ -19,8 +19,7 @@ overflow_sub-w c = (means_stop c.requires.2.means c.if-w-eq0.false c.if-w-lt-TIP
 
 pub walk_stop-requires : goal.walk_stop-requires
 walk_stop-requires c =
-    let t = means_stop c.requires.2.means c.if-w-eq0.false c.if-w-lt-TIP.true in
-    (
+    let t = means_stop c.requires.2.means c.if-w-eq0.false c.if-w-lt-TIP.true in (
       c.requires.0,
       c.requires.1,
       some_rested (stop_standing t (word_standing c.requires.2 c.if-c.false)) c.rest_cab-rested.ensures,
@@ -33,8 +32,7 @@ returns-then-w-lt-TIP c = search word_stop
 
 pub walk_tip-requires : goal.walk_tip-requires
 walk_tip-requires c =
-    let t = means_tip c.requires.2.means c.if-w-eq0.false c.if-w-lt-TIP.false in
-    (
+    let t = means_tip c.requires.2.means c.if-w-eq0.false c.if-w-lt-TIP.false in (
       c.requires.0,
       c.requires.1,
       some_rested (some_fewer (word_standing c.requires.2 c.if-c.false)) c.rest_cab-rested.ensures,
