@@ -1,16 +1,13 @@
 -- Bringing in Solomon instances: document 02, Q-6. Assumes nothing.
-use Rattle.std.specs.Prelude.{if◌then◌else◌}
-use Prim.Native.Nat.{ℕ, ◌+◌, ◌-◌, ◌*◌, ◌≤◌, ◌<◌}
+use Prim.Native.Nat.{ℕ, ◌-◌, ◌*◌}
 use mathlib.Core.Path.{◌≡◌, refl, sym, ap, subst, ◌∙◌}
-use mathlib.Core.Bool.{true, false}
+use mathlib.Core.Bool.{true}
 use mathlib.Core.List.{List, [], ◌∷◌}
 use lib.ListN.{length, take}
 use Rattle.rules.specs.Answers.{given, refused, is_given}
 use Rattle.rules.specs.DayFile.{judge_day}
-use Rattle.rules.specs.Lists.{over}
-use Rattle.rules.specs.Fields.{leg_minutes, leg_distance}
-use Rattle.rules.specs.SolomonForm.{Offends, judge_text}
-use Rattle.rules.specs.SolomonDay.{IsRoot, root, squares, customer_number, capacity, stops_of, import_words, import_answer, import_buffer}
+use Rattle.rules.specs.SolomonForm.{judge_text}
+use Rattle.rules.specs.SolomonDay.{IsRoot, squares, customer_number, capacity, stops_of, import_words, import_answer, import_buffer}
 use Rattle.laws.proofs.Buffer.{over_front}
 use Rattle.roots.proofs.RootLaws.{root_is}
 use Rattle.solomon.proofs.Importing as solomon

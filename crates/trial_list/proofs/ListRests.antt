@@ -1,13 +1,13 @@
 -- The trial list from a cursor on: the first cursor's rest is the whole list, the next trial of the rest is that of its pairs or else of its
 -- tips, and what a trial of the list names. The day may be any list of words.
 -- Assumes nothing.
-use Prim.Native.Nat.{ℕ, suc, ◌+◌, ◌-◌, ◌≤◌}
+use Prim.Native.Nat.{ℕ, suc, ◌-◌, ◌≤◌}
 use mathlib.Core.Path.{◌≡◌, refl, sym, ap, ◌∙◌}
 use mathlib.Core.Bool.{true, false, true≢false}
 use mathlib.Core.List.{List, [], ◌∷◌, ◌++◌}
 use native.Mathlib.Omega.{arith}
 use Rattle.rules.specs.Lists.{Every}
-use Rattle.rules.specs.Fields.{stops, tips, IsAccepted}
+use Rattle.rules.specs.Fields.{stops, IsAccepted}
 use Rattle.rules.specs.Plan.{Round, plan_words, Known}
 use Rattle.rules.specs.Edits.{Trial}
 use Rattle.rules.specs.TrialList.{stop_trials, trial_list}

@@ -12,7 +12,7 @@ use lib.ListN.{length, length-map, set, length-set}
 use borrow.Author.Tests.{lt-ltb}
 use Rattle.rules.specs.Lists.{mem, unmet}
 use Rattle.rules.specs.Fields.{stops, stop_place}
-use Rattle.rules.specs.PlanWords.{rest, word_of, rest_word}
+use Rattle.rules.specs.PlanWords.{word_of, rest_word}
 use Rattle.rules.specs.Plan.{Task, serve, empty, lunch, Round, stops_on, word_for}
 use Rattle.rules.specs.Cargo.{cargo_after, emptied}
 use Rattle.rules.specs.Trip.{visited}

@@ -8,7 +8,7 @@ use mathlib.Core.List.{List}
 use native.Mathlib.Omega.{arith}
 use lib.Dec.{leb}
 use borrow.Author.Tests.{le-leb, lt-leb, leb-true, eq-eqb, ne_eqb}
-use Rattle.rules.specs.Fields.{places, stop_place, opening, closing, rest_opening, rest_closing, rest_minutes}
+use Rattle.rules.specs.Fields.{stop_place, rest_opening, rest_closing, rest_minutes}
 use Rattle.rules.specs.Trip.{visited, rested_at}
 use Rattle.rules.specs.Home.{nearest_tip, due, rest_if_due, home_direct, home_by_tip, home_loaded, way_home}
 use Rattle.rules.specs.declared.walk.Trip.{Trip}

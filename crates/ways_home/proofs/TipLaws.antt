@@ -8,7 +8,7 @@ use native.Mathlib.Omega.{arith}
 use lib.Dec.{ltb, leb, eqb}
 use borrow.Author.Tests.{le-leb, lt-leb, le-ltb, lt-ltb}
 use Rattle.rules.specs.Tests.{better, least}
-use Rattle.rules.specs.Fields.{tips, opening, closing, leg_minutes}
+use Rattle.rules.specs.Fields.{leg_minutes}
 use Rattle.rules.specs.Home.{open_tip, nearest_tip}
 use Rattle.laws.proofs.Least.{better_fails, better_wins, better_loses, least_none, least_suc}
 use Rattle.day.specs.Layout.{LayoutOf, WindowOf, LegOf}
