@@ -3,6 +3,7 @@
 -- How the definitions speak
 pub mod Tests
 pub mod Answers
+pub mod Faults
 pub mod Lists
 -- Day file
 pub mod DayFile

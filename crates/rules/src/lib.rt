@@ -2,5 +2,6 @@
 #![tactic(auto)]
 
 pub mod answers;
+pub mod faults;
 pub mod texts;
 pub mod walk;
