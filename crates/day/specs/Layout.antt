@@ -1,9 +1,10 @@
 -- A day's layout, decoded once and handed on by value; and what the readers over it say. Assumes nothing.
-use Rattle.std.specs.Prelude.{ℕ, ◌+◌, ◌*◌, ◌≡◌, List, length}
+use Rattle.std.specs.Prelude.{ℕ, ◌+◌, ◌*◌, ◌<◌, ◌≡◌, List, length}
 use Rattle.rules.specs.DayFile.{legs_at}
-use Rattle.rules.specs.Fields.{tips, stops, places, opening, closing, leg_minutes, leg_distance}
+use Rattle.rules.specs.Fields.{tips, stops, places, opening, closing, service, leg_minutes, leg_distance}
 use Rattle.day.specs.declared.fields.Layout.{Layout}
 use Rattle.day.specs.declared.fields.Leg.{Leg}
+use Rattle.day.specs.declared.fields.Visit.{Visit}
 use Rattle.day.specs.declared.fields.Window.{Window}
 
 -- each part is the day's, and every leg is there
@@ -23,3 +24,9 @@ pub record WindowOf (day : List ℕ) (place : ℕ) (w : Window) : Type 0 where
 pub record LegOf (day : List ℕ) (p q : ℕ) (l : Leg) : Type 0 where
   pub takes : l.minutes ≡ leg_minutes day p q
   pub spans : l.distance ≡ leg_distance day p q
+
+-- a visit to a place of the day
+pub record VisitOf (day : List ℕ) (v : Visit) : Type 0 where
+  pub within : v.place < places day
+  pub window : WindowOf day v.place v.hours
+  pub lasts : v.minutes ≡ service day v.place

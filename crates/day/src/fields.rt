@@ -19,6 +19,14 @@ pub struct Window {
     pub closing: u32,
 }
 
+// A visit to a place: the place, its window, and how long it lasts.
+#[derive(Clone, Copy)]
+pub struct Visit {
+    pub place: usize,
+    pub hours: Window,
+    pub minutes: u32,
+}
+
 #[derive(Clone, Copy)]
 pub struct Leg {
     pub minutes: u32,

@@ -7,7 +7,7 @@ use mathlib.Core.List.{List}
 use native.Mathlib.Omega.{arith}
 use lib.Dec.{ltb}
 use borrow.Author.Tests.{lt-ltb, le-ltb}
-use Rattle.rules.specs.Fields.{stop_place, opening, closing, rest_opening, rest_closing, rest_minutes, service}
+use Rattle.rules.specs.Fields.{stop_place, closing, rest_opening, rest_closing, rest_minutes, service}
 use Rattle.rules.specs.Trip.{leaving, arrival, visit_start, rest_start, driven, visited, rested_at, visit_fault, rest_fault, back_fault}
 use Rattle.rules.specs.declared.walk.Trip.{Trip}
 use Rattle.day.specs.Layout.{LayoutOf, WindowOf, LegOf}

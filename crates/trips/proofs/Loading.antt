@@ -1,7 +1,7 @@
 -- Laws of what a vehicle carries: one for each way through the test of the limits. Assumes nothing.
 use Prim.Native.Nat.{ℕ, ◌<◌, ◌≤◌}
 use mathlib.Core.Path.{◌≡◌}
-use mathlib.Core.Bool.{true}
+use mathlib.Core.Bool.{true, ◌||◌}
 use mathlib.Core.List.{List}
 use lib.Dec.{ltb}
 use borrow.Author.Tests.{lt-ltb, le-ltb}
@@ -22,3 +22,9 @@ module _ (day : List ℕ) (c : Cargo) {load : ℕ} (l : load ≡ load_limit day)
     pub over_visits : {visits : ℕ} → c.kg ≤ kg → visits ≡ stop_limit day → ltb visits c.visits ≡ over_limits day c
     unfolding over_limits
     over_visits h v = rw (le-ltb _ _ (rw l at load_kept), le-ltb _ _ (rw k at h), v)
+
+-- the three tests, with the day's limits in place of those read
+pub over_any : (day : List ℕ) (c : Cargo) {load kg visits : ℕ} → load ≡ load_limit day → kg ≡ day_limit day → visits ≡ stop_limit day
+    → (ltb load c.load || ltb kg c.kg || ltb visits c.visits) ≡ over_limits day c
+unfolding over_limits
+over_any day c l k v = rw (l, k, v)

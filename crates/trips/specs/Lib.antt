@@ -1,1 +1,2 @@
 pub mod Trips
+pub mod Drives

@@ -2,7 +2,6 @@
 -- of the check rests on it. Assumes nothing.
 use Rattle.std.specs.Prelude.{ℕ, ◌*◌, ◌<◌, ◌≤◌, ◌≡◌, false, List}
 use Rattle.rules.specs.Fields.{places, load_limit, day_limit, stop_limit}
-use Rattle.rules.specs.PlanWords.{left}
 use Rattle.rules.specs.declared.walk.Cargo.{Cargo}
 use Rattle.rules.specs.declared.walk.Tally.{Tally}
 use Rattle.rules.specs.declared.walk.Trip.{Trip}

@@ -2,5 +2,7 @@
 #![tactic(auto)]
 
 pub mod cargo;
+pub mod drives;
+pub mod limits;
 pub mod tally;
 pub mod trip;

@@ -1,0 +1,26 @@
+// The day's limits, read once for a plan.
+ghost use Rattle.std.specs.Prelude.{◌≡◌};
+ghost use Rattle.rules.specs.Cargo.{over_limits};
+ghost use Rattle.trips.specs.Trips.{LimitsOf};
+
+use crate::cargo::Limits;
+use day::days::Day;
+use rules::walk::Cargo;
+
+pub fn day_limits(day: &Day) -> Limits
+    ensures { LimitsOf day.now result }
+{
+    Limits {
+        load: day.load_limit(),
+        kg: day.day_limit(),
+        visits: day.stop_limit(),
+    }
+}
+
+// Over the load, the day's kg or the day's stops.
+pub fn exceeds(day: &Day, limits: Limits, cargo: Cargo) -> bool
+    requires { LimitsOf day.now limits }
+    ensures { result ≡ over_limits day.now cargo }
+{
+    (limits.load < cargo.load) | (limits.kg < cargo.kg) | (limits.visits < cargo.visits)
+}
