@@ -1,5 +1,5 @@
 // What a day says, read by its layout: n, d and where the legs begin travel by value, and no index is tested.
-ghost use Rattle.std.specs.Prelude.{◌≡◌, ◌+◌, ◌*◌, ◌<◌, ◌≤◌, length};
+ghost use Rattle.std.specs.Prelude.{◌≡◌, ◌+◌, ◌*◌, ◌<◌, ◌≤◌, ◌&&◌, leb, length};
 ghost use Rattle.rules.specs.DayFile.{lone_number, window_opening, window_closing, words_of};
 ghost use Rattle.rules.specs.Fields.{word_at, tips, stops, stop_place, load_limit, day_limit, stop_limit, rest_opening, rest_closing, rest_minutes, service, quantity};
 ghost use Rattle.day.specs.Layout.{LayoutOf, WindowOf, LegOf};
@@ -17,6 +17,15 @@ pub struct Layout {
 pub struct Window {
     pub opening: u32,
     pub closing: u32,
+}
+
+impl Window {
+    // Whether a minute is within the window, its two ends included.
+    pub fn holds(self, minute: u32) -> bool
+        ensures { result ≡ (leb self.opening minute && leb minute self.closing) }
+    {
+        (self.opening <= minute) & (minute <= self.closing)
+    }
 }
 
 // A visit to a place: the place, its window, and how long it lasts.

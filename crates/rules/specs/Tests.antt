@@ -1,6 +1,6 @@
 -- What a test decides: a definition is a chain of such decisions, in the order of the paper's list. And which of the numbers that pass a test
 -- has the least key. Assumes nothing.
-use Rattle.std.specs.Prelude.{ℕ, zero, suc, Bool, not, ◌&&◌, ◌||◌, ltb, eqb, if◌then◌else◌}
+use Rattle.std.specs.Prelude.{ℕ, zero, suc, Option, Some, None, Bool, not, ◌&&◌, ◌||◌, ltb, eqb, if◌then◌else◌}
 
 -- two numbers differ
 abbrev pub neb : ℕ → ℕ → Bool
@@ -18,3 +18,8 @@ better ok key k b = if wins ok key k b then k else b
 unfoldable pub least : (ok : ℕ → Bool) (key : ℕ → ℕ) (m : ℕ) → ℕ
 least ok key zero = 0
 least ok key (suc m) = better ok key (suc m) (least ok key m)
+
+-- a stop or a tip that may be none, as a number
+abbrev pub number_or_none : Option ℕ → ℕ
+number_or_none None = 0
+number_or_none (Some number) = number

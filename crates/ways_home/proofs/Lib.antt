@@ -1,3 +1,4 @@
 pub mod BestLaws
 pub mod HomeLaws
 pub mod TipLaws
+pub mod WayLaws

@@ -1,10 +1,25 @@
 // The best so far of a search for the least key. Its key is carried along, so that each key is read once.
+ghost use Rattle.std.specs.Prelude.{◌≡◌, ◌<◌, IfSome};
+ghost use Rattle.rules.specs.Tests.{number_or_none};
 
 // A number from 1 on with its key; number 0 is none.
 #[derive(Clone, Copy)]
 pub struct Best {
     pub number: usize,
     pub key: u32,
+}
+
+impl Best {
+    // The number, where there is one.
+    pub fn choice(self) -> Option<usize>
+        ensures number { number_or_none result ≡ self.number }
+        ensures some { IfSome result (λ number. 0 < number) }
+    {
+        if self.number == 0 {
+            return None;
+        }
+        Some(self.number)
+    }
 }
 
 // Past every key: minutes of a day file, or such minutes and a closing behind them, of twelve bits each.

@@ -3,4 +3,6 @@
 
 pub mod best;
 pub mod home;
+pub mod nearest;
 pub mod tips;
+pub mod ways;
