@@ -1,4 +1,4 @@
--- The tables of all vehicles of a plan, in one buffer: the tables that come back, and the rows of one vehicle more.
+-- The tables of all vehicles of a plan: the rows of one vehicle more.
 -- Assumes nothing.
 use Prim.Native.Nat.{ℕ, ◌+◌, ◌-◌, ◌≤◌, ◌<◌}
 use mathlib.Core.Path.{◌≡◌, refl, sym, ap, ◌∙◌, subst}
@@ -7,16 +7,15 @@ use mathlib.Core.Logic.{inl}
 use native.Mathlib.Decide.{ℕ_discrete}
 use native.Mathlib.Omega.{arith}
 use lib.ListN.{length, length-map, get_or, take, drop}
-use borrow.Rule.Slice.PartMut.{put_mid, mid_len, same_len_mid}
 use Rattle.rules.specs.Lists.{Every}
 use Rattle.rules.specs.Plan.{Round, task_word, Known}
 use Rattle.laws.proofs.Lists.{every_at}
-use Rattle.onward.specs.Behind.{BehindOf, RoundTo, SomeRoundTo, FillsBehind, behind_words}
+use Rattle.onward.specs.Behind.{BehindOf, RoundTo, SomeRoundTo, FillsBehind}
 use Rattle.trial_list.specs.Survey.{Laid}
 use Rattle.trial_list.proofs.LaidLaws.{behind, starts_rise, start_next, tasks_text, vehicle_in, vehicle_inside, words_are}
 use Rattle.tracks.specs.Before.{Walks, BeforeOf, FilledBefore}
-use Rattle.tracks.specs.Tables.{before_words, behind_end, tracks_words, first_task, before_in, behind_in, spots_in, Trackable, SomeTrackable, TracksIn, SomeVehicle, TracksOne, TracksVehicle}
-use Rattle.tracks.proofs.PartLaws.{part_put, part_before, part_behind}
+use Rattle.tracks.specs.Tables.{first_task, Trackable, SomeTrackable, TracksIn, SomeVehicle, TracksOne, TracksVehicle}
+use Rattle.tracks.specs.declared.plan_tables.Tracks.{Tracks}
 
 -- the first task of vehicle v, counted from 0, stands behind its A word
 pub first_is_lem : {plan starts : List ℕ} {rounds : List Round} {lefts : List ℕ} → Laid plan starts rounds lefts → {v : ℕ} → v < length rounds
@@ -72,72 +71,6 @@ module _ {day plan starts : List ℕ} {room : ℕ} {rounds : List Round} {lefts 
         onward_kept = λ at m. g.others at (inl (omega (arith, here)));
       }
 
--- the tables of a buffer are as long as they have to be
-module _ (tracks : List ℕ) (size : length tracks ≡ tracks_words) where
-  -- six words for each place of the plan
-  pub before_size_lem : length (before_in tracks) ≡ before_words
-  before_size_lem = mid_len 0 before_words tracks (omega (arith, size))
-
-  -- four words for each place of the plan
-  pub behind_size_lem : length (behind_in tracks) ≡ behind_words
-  behind_size_lem = mid_len before_words behind_end tracks (omega (arith, size))
-
-  -- a word for each stop
-  pub spots_size_lem : length (spots_in tracks) ≡ 256
-  spots_size_lem = mid_len behind_end tracks_words tracks (omega (arith, size))
-
--- the three tables of a buffer are lent, one after the other: the first one has come back
-abbrev pub first_back : (tracks walks : List ℕ) → List ℕ
-first_back tracks walks = put_mid 0 (before_words - 0) tracks walks
-
--- then the second one
-abbrev pub second_back : (tracks walks onwards : List ℕ) → List ℕ
-second_back tracks walks onwards = put_mid before_words (behind_end - before_words) (first_back tracks walks) onwards
-
--- then the third one
-abbrev pub all_back : (tracks walks onwards places : List ℕ) → List ℕ
-all_back tracks walks onwards places = put_mid behind_end (tracks_words - behind_end) (second_back tracks walks onwards) places
-
--- each of them is as long as it was
-module _ (tracks walks : List ℕ) (size : length tracks ≡ tracks_words) (walksSize : length walks ≡ length (before_in tracks)) where
-  -- and so is the buffer, after the first one
-  pub first_size : length (first_back tracks walks) ≡ tracks_words
-  first_size = same_len_mid 0 (before_words - 0) tracks walks walksSize ∙ size
-
-  module _ (onwards : List ℕ) (restsSize : length onwards ≡ length (behind_in (first_back tracks walks))) where
-    -- after the second one
-    pub second_size : length (second_back tracks walks onwards) ≡ tracks_words
-    second_size = same_len_mid before_words (behind_end - before_words) (first_back tracks walks) onwards restsSize ∙ first_size
-
-    module _ (places : List ℕ) (placesSize : length places ≡ length (spots_in (second_back tracks walks onwards))) where
-      -- and after the third one
-      pub all_size : length (all_back tracks walks onwards places) ≡ tracks_words
-      all_size = same_len_mid behind_end (tracks_words - behind_end) (second_back tracks walks onwards) places placesSize ∙ second_size
-
-      -- the first table is the one that came back
-      before_back : before_in (all_back tracks walks onwards places) ≡ walks
-      before_back =
-          part_before behind_end tracks_words (second_back tracks walks onwards) places placesSize (omega arith) (omega (arith, second_size)) 0 before_words (omega arith) (omega arith)
-          ∙ part_before before_words behind_end (first_back tracks walks) onwards restsSize (omega arith) (omega (arith, first_size)) 0 before_words (omega arith) (omega arith)
-          ∙ part_put 0 before_words tracks walks walksSize (omega arith) (omega (arith, size))
-
-      -- so is the second one
-      behind_back : behind_in (all_back tracks walks onwards places) ≡ onwards
-      behind_back =
-          part_before behind_end tracks_words (second_back tracks walks onwards) places placesSize (omega arith) (omega (arith, second_size)) before_words behind_end (omega arith) (omega arith)
-          ∙ part_put before_words behind_end (first_back tracks walks) onwards restsSize (omega arith) (omega (arith, first_size))
-
-      -- so the rows of a vehicle are filled in the buffer
-      pub tracked_back : {day : List ℕ} {rounds : List Round} {v : ℕ} → TracksOne day rounds v (before_in tracks) walks (behind_in (first_back tracks walks)) onwards
-          → TracksOne day rounds v (before_in tracks) (before_in (all_back tracks walks onwards places)) (behind_in tracks) (behind_in (all_back tracks walks onwards places))
-      tracked_back {day} {rounds} {v} o =
-          let lent : behind_in (first_back tracks walks) ≡ behind_in tracks =
-          part_behind 0 before_words tracks walks walksSize (omega arith) (omega (arith, size)) before_words behind_end (omega arith)
-          in
-          subst (λ (w : List ℕ). TracksOne day rounds v (before_in tracks) w (behind_in tracks) (behind_in (all_back tracks walks onwards places))) (sym before_back)
-          (subst (λ (r : List ℕ). TracksOne day rounds v (before_in tracks) walks (behind_in tracks) r) (sym behind_back)
-          (subst (λ (b : List ℕ). TracksOne day rounds v (before_in tracks) walks b onwards) lent o))
-
 -- the first v vehicles have their rows
 pub record Tracking (day : List ℕ) (rounds : List Round) (v : ℕ) (before behind : List ℕ) : Type 0 where
   pub walked : (u : ℕ) → u < v → BeforeOf day before (first_task rounds u) (get_or rounds u [])
@@ -163,24 +96,20 @@ tracking_next day rounds v before walks behind onwards l t o =
     }
 
 -- so it is for whatever vehicles the plan has
-pub record Tracks (day plan starts : List ℕ) (room count v : ℕ) (tracks work : List ℕ) : Type 0 where
-  pub counted : v ≤ count
-  pub size : length tracks ≡ tracks_words
+pub record TracksTo (day plan starts : List ℕ) (room count v : ℕ) (tracks : Tracks) (work : List ℕ) : Type 0 where
   pub work_size : length work ≡ room
   pub each : (rounds : List Round) (lefts : List ℕ) → Trackable day plan starts room rounds lefts → count ≡ length rounds
-      → Tracking day rounds v (before_in tracks) (behind_in tracks)
+      → Tracking day rounds v tracks.before tracks.behind
 
 -- before the first vehicle
-pub tracks_start : (day plan starts : List ℕ) (count : ℕ) (tracks work : List ℕ) → length tracks ≡ tracks_words → Tracks day plan starts (length work) count 0 tracks work
-tracks_start day plan starts count tracks work h =
+pub tracks_start : (day plan starts : List ℕ) (count : ℕ) (tracks : Tracks) (work : List ℕ) → TracksTo day plan starts (length work) count 0 tracks work
+tracks_start day plan starts count tracks work =
     record {
-      counted = omega arith;
-      size = h;
       work_size = refl;
       each = λ rounds lefts t e. record { walked = λ u h. absurd (omega arith); onward = λ u h. absurd (omega arith) };
     }
 
-module _ {day plan starts : List ℕ} {room count v : ℕ} {tracks work : List ℕ} (s : Tracks day plan starts room count v tracks work) where
+module _ {day plan starts : List ℕ} {room count v : ℕ} {tracks : Tracks} {work : List ℕ} (s : TracksTo day plan starts room count v tracks work) where
   -- vehicle v is one of the plan's
   pub tracks_vehicle : SomeTrackable day plan starts room count → v < count → SomeVehicle day plan starts (length work) v
   tracks_vehicle some l =
@@ -194,27 +123,22 @@ module _ {day plan starts : List ℕ} {room count v : ℕ} {tracks work : List �
       }
 
   -- one vehicle more
-  pub tracks_next : {after worked : List ℕ} → v < count → length after ≡ length tracks → length worked ≡ length work
-      → TracksVehicle day plan starts (length work) v tracks after → Tracks day plan starts room count (v + 1) after worked
-  tracks_next {after} l a d o =
+  pub tracks_next : {after : Tracks} {worked : List ℕ} → v < count → length worked ≡ length work
+      → TracksVehicle day plan starts (length work) v tracks after → TracksTo day plan starts room count (v + 1) after worked
+  tracks_next {after} l d o =
       record {
-        counted = omega arith;
-        size = a ∙ s.size;
         work_size = d ∙ s.work_size;
         each = λ rounds lefts t e.
-            tracking_next day rounds v (before_in tracks) (before_in after) (behind_in tracks) (behind_in after) (omega arith) (s.each rounds lefts t e)
+            tracking_next day rounds v tracks.before after.before tracks.behind after.behind (omega arith) (s.each rounds lefts t e)
             (o rounds lefts (subst (λ (n : ℕ). Trackable day plan starts n rounds lefts) (sym s.work_size) t) (omega arith));
       }
 
   -- all vehicles have their rows
   pub tracks_end : count ≤ v → TracksIn day plan starts room count tracks
   tracks_end l = λ rounds lefts t e. record {
-    size = s.size;
-    tracked = record {
-      walked = λ u h. (s.each rounds lefts t e).walked u (omega arith);
-      onward = λ u h. (s.each rounds lefts t e).onward u (omega arith);
-      before_size = before_size_lem tracks s.size;
-      behind_size = behind_size_lem tracks s.size;
-      spots_size = spots_size_lem tracks s.size;
-    };
+    walked = λ u h. (s.each rounds lefts t e).walked u (omega arith);
+    onward = λ u h. (s.each rounds lefts t e).onward u (omega arith);
+    before_size = tracks.before_size;
+    behind_size = tracks.behind_size;
+    spots_size = tracks.spots_size;
   }

@@ -1,11 +1,12 @@
 -- The tables of all vehicles of the present plan. They serve the contracts of this crate's own functions. Assumes nothing.
-use Rattle.std.specs.Prelude.{ℕ, ◌+◌, ◌-◌, ◌*◌, ◌≤◌, ◌<◌, ◌≡◌, List, [], ◌∷◌, eqb, length, get_or, take, drop, set, if◌then◌else◌}
+use Rattle.std.specs.Prelude.{ℕ, ◌+◌, ◌*◌, ◌≤◌, ◌<◌, ◌≡◌, List, [], ◌∷◌, eqb, length, get_or, take, set, if◌then◌else◌}
 use Rattle.rules.specs.Lists.{Every}
 use Rattle.rules.specs.PlanWords.{kind_of, number_of, stop_kind}
 use Rattle.rules.specs.Plan.{Round, rounds_words, stops_on, Known}
 use Rattle.onward.specs.Behind.{BehindOf, row_at, behind_words}
 use Rattle.trial_list.specs.Survey.{Laid, VehicleIn}
 use Rattle.tracks.specs.Before.{BeforeOf, RowsKept}
+use Rattle.tracks.specs.declared.plan_tables.Tracks.{Tracks}
 
 -- the place of the plan where the first task of vehicle v, counted from 0, stands
 abbrev pub first_task : List Round → ℕ → ℕ
@@ -15,13 +16,6 @@ first_task rounds v = length (rounds_words 0 (take v rounds)) + 1
 abbrev pub before_words : ℕ
 before_words = 7206
 
--- where the table of what is left behind their words ends in the buffer that holds all three, and how long that is: a word for each stop is last
-abbrev pub behind_end : ℕ
-behind_end = 12010
-
-abbrev pub tracks_words : ℕ
-tracks_words = 12266
-
 -- the tables of the present plan's vehicles; what `spots` says is tested where it is used
 pub record Tracked (day : List ℕ) (rounds : List Round) (before behind spots : List ℕ) : Type 0 where
   pub walked : (v : ℕ) → v < length rounds → BeforeOf day before (first_task rounds v) (get_or rounds v [])
@@ -30,22 +24,9 @@ pub record Tracked (day : List ℕ) (rounds : List Round) (before behind spots :
   pub behind_size : length behind ≡ behind_words
   pub spots_size : length spots ≡ 256
 
--- the three tables stand one behind the other in one buffer: the vehicles before their words
-abbrev pub before_in : List ℕ → List ℕ
-before_in tracks = take (before_words - 0) (drop 0 tracks)
-
--- what is left of them behind their words
-abbrev pub behind_in : List ℕ → List ℕ
-behind_in tracks = take (behind_end - before_words) (drop before_words tracks)
-
--- and the places of the stops
-abbrev pub spots_in : List ℕ → List ℕ
-spots_in tracks = take (tracks_words - behind_end) (drop behind_end tracks)
-
--- the buffer holds the tables
-pub record TrackedIn (day : List ℕ) (rounds : List Round) (tracks : List ℕ) : Type 0 where
-  pub size : length tracks ≡ tracks_words
-  pub tracked : Tracked day rounds (before_in tracks) (behind_in tracks) (spots_in tracks)
+-- the code's tables are those
+abbrev pub TrackedIn : (day : List ℕ) → List Round → Tracks → Type 0
+TrackedIn day rounds tracks = Tracked day rounds tracks.before tracks.behind tracks.spots
 
 -- a vehicle has few stops, and there is room for its words
 pub record Fits (room : ℕ) (tasks : Round) : Type 0 where
@@ -68,7 +49,7 @@ pub record SomeTrackable (day plan starts : List ℕ) (room count : ℕ) : Type 
   pub counted : count ≡ length rounds
 
 -- so the tables are those of whatever vehicles the plan has
-abbrev pub TracksIn : (day plan starts : List ℕ) (room count : ℕ) (tracks : List ℕ) → Type 0
+abbrev pub TracksIn : (day plan starts : List ℕ) (room count : ℕ) (tracks : Tracks) → Type 0
 TracksIn day plan starts room count tracks =
     (rounds : List Round) (lefts : List ℕ) → Trackable day plan starts room rounds lefts → count ≡ length rounds → TrackedIn day rounds tracks
 
@@ -89,10 +70,10 @@ pub record TracksOne (day : List ℕ) (rounds : List Round) (v : ℕ) (before wa
   pub onward_kept : (at : ℕ) → at < first_task rounds v → row_at onwards at ≡ row_at behind at
 
 -- so it is whatever vehicles the plan has
-abbrev pub TracksVehicle : (day plan starts : List ℕ) (room v : ℕ) (tracks after : List ℕ) → Type 0
+abbrev pub TracksVehicle : (day plan starts : List ℕ) (room v : ℕ) (tracks after : Tracks) → Type 0
 TracksVehicle day plan starts room v tracks after =
     (rounds : List Round) (lefts : List ℕ) → Trackable day plan starts room rounds lefts → v < length rounds
-    → TracksOne day rounds v (before_in tracks) (before_in after) (behind_in tracks) (behind_in after)
+    → TracksOne day rounds v tracks.before after.before tracks.behind after.behind
 
 -- the places of the stops once the word at a place is looked at
 unfoldable pub spot_after : (w at : ℕ) → List ℕ → List ℕ

@@ -3,4 +3,5 @@
 
 pub mod before;
 pub mod measure;
+pub mod plan_tables;
 pub mod tables;

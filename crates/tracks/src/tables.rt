@@ -1,19 +1,13 @@
-// The tables of all vehicles of the present plan, one behind the other in one buffer.
+// The tables of the present plan, by which its trials are listed and measured.
 ghost use Rattle.std.specs.Prelude.{◌≡◌, ◌-◌, ◌<◌, ◌≤◌, length, take, drop};
 ghost use Rattle.rules.specs.Fields.{IsAccepted};
 ghost use Rattle.day.specs.Layout.{LayoutOf};
-ghost use Rattle.tracks.specs.Tables.{tracks_words, SomeTrackable, TracksIn, SomeVehicle, TracksVehicle, spot_after, spots_after};
+ghost use Rattle.tracks.specs.Tables.{SomeTrackable, TracksIn, SomeVehicle, TracksVehicle, spot_after, spots_after};
 
 use crate::before::fill_before;
+use crate::plan_tables::Tracks;
 use day::fields::Layout;
 use onward::fill_behind;
-
-// The tables stand one behind the other: six words, then four, for each of 1201 places of a plan, then a word for each stop.
-pub const BEFORE_WORDS: usize = 7206;
-
-pub const BEHIND_END: usize = 12010;
-
-pub const TRACKS_WORDS: usize = 12266;
 
 // The place of a word, where it is a stop's.
 fn put_spot(w: u32, at: usize, spots: &mut [u32])
@@ -44,11 +38,10 @@ fn track_vehicle(
     plan: &[u32],
     starts: &[u32],
     v: usize,
-    tracks: &mut [u32],
+    tracks: &mut Tracks,
     work: &mut [u32],
 )
-    requires layout_of { LayoutOf day.now layout × IsAccepted day.now × SomeVehicle day.now plan.now starts.now (length work.old) v }
-    requires tracks_len { length tracks.old ≡ tracks_words }
+    requires { LayoutOf day.now layout × IsAccepted day.now × SomeVehicle day.now plan.now starts.now (length work.old) v }
     ensures { TracksVehicle day.now plan.now starts.now (length work.old) v tracks.old tracks.new }
 {
     let from = starts[v] as usize + 1;
@@ -58,18 +51,11 @@ fn track_vehicle(
         layout,
         &plan[from..end],
         from,
-        &mut tracks[0..BEFORE_WORDS],
+        &mut tracks.before,
         work,
     );
-    fill_behind(
-        day,
-        layout,
-        plan,
-        from,
-        end,
-        &mut tracks[BEFORE_WORDS..BEHIND_END],
-    );
-    fill_spots(plan, from, end, &mut tracks[BEHIND_END..TRACKS_WORDS]);
+    fill_behind(day, layout, plan, from, end, &mut tracks.behind);
+    fill_spots(plan, from, end, &mut tracks.spots);
 }
 
 // The tables of the plan, made anew. The working buffer is worked in.
@@ -79,16 +65,13 @@ pub fn track(
     plan: &[u32],
     starts: &[u32],
     count: usize,
-    tracks: &mut [u32],
+    tracks: &mut Tracks,
     work: &mut [u32],
 )
-    requires layout_of { LayoutOf day.now layout × IsAccepted day.now × SomeTrackable day.now plan.now starts.now (length work.old) count }
-    requires tracks_len { length tracks.old ≡ tracks_words }
+    requires { LayoutOf day.now layout × IsAccepted day.now × SomeTrackable day.now plan.now starts.now (length work.old) count }
     ensures { TracksIn day.now plan.now starts.now (length work.old) count tracks.new }
 {
-    let mut v: usize = 0;
-    while v < count {
+    for v in 0..count {
         track_vehicle(day, layout, plan, starts, v, tracks, work);
-        v += 1;
     }
 }

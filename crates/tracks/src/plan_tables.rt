@@ -1,0 +1,42 @@
+// The tables of the present plan, by which its trials are listed and measured.
+ghost use Rattle.std.specs.Prelude.{◌≡◌, length};
+
+// What its vehicles are before each word, six words for each of 1201 places of a plan; what is left of them from each word on, four words
+// for each place; and the place of each stop.
+#[derive(Drop)]
+pub struct Tracks {
+    pub before: [u32; 7206],
+    pub behind: [u32; 4804],
+    pub spots: [u32; 256],
+    pub ghost before_size: { length before ≡ 7206 },
+    pub ghost behind_size: { length behind ≡ 4804 },
+    pub ghost spots_size: { length spots ≡ 256 },
+}
+
+// Where each vehicle starts, the vehicle of each stop, how far each vehicle drives, and what its trials are measured by.
+#[derive(Drop)]
+pub struct Tables {
+    pub starts: [u32; 256],
+    pub vehicles: [u8; 256],
+    pub distances: [u32; 256],
+    pub tracks: Tracks,
+    pub ghost starts_size: { length starts ≡ 256 },
+    pub ghost vehicles_size: { length vehicles ≡ 256 },
+    pub ghost distances_size: { length distances ≡ 256 },
+}
+
+impl Tables {
+    // Room for the tables of a plan.
+    pub fn new() -> Self {
+        Tables {
+            starts: [0; 256],
+            vehicles: [0; 256],
+            distances: [0; 256],
+            tracks: Tracks {
+                before: [0; 7206],
+                behind: [0; 4804],
+                spots: [0; 256],
+            },
+        }
+    }
+}
