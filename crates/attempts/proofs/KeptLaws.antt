@@ -1,8 +1,8 @@
 -- A trial's plan is kept where the check calls it lawful and it drives less. Assumes nothing.
-use Rattle.std.specs.Prelude.{if◌then◌else◌}
+use Rattle.std.specs.Prelude.{if◌then◌else◌, Option, Some, None}
 use Prim.Native.Nat.{ℕ, ◌-◌, ◌≤◌, ◌<◌}
 use mathlib.Core.Path.{◌≡◌, refl, sym, ap, ◌∙◌, subst}
-use mathlib.Core.Bool.{Bool, true, false, true≢false, ◌&&◌}
+use mathlib.Core.Bool.{Bool, true, false, ◌&&◌}
 use mathlib.Core.List.{List, [], ◌∷◌}
 use mathlib.Core.Logic.{inl, inr}
 use mathlib.Core.Option.{none, some}
@@ -27,13 +27,14 @@ use Rattle.plan_laws.proofs.Theorems.{told_totals}
 use Rattle.walks.specs.declared.vehicle.Walked.{Walked}
 use Rattle.trial_list.specs.Shapes.{Shaped}
 use Rattle.trial_list.proofs.Shapes.{shaped_formed}
-use Rattle.candidates.specs.Candidates.{Trying, SomeTrying, CandidateAs}
+use Rattle.candidates.specs.Candidates.{Trying, SomeTrying, Candidate, CandidateAs}
 use Rattle.candidates.proofs.CopyLaws.{front_part}
 use Rattle.candidates.proofs.NextRounds.{few_vehicles}
 use Rattle.candidates.proofs.ShapeKept.{valid_shaped}
 use Rattle.candidates.proofs.WrittenLaws.{ends_inside}
-use Rattle.attempts.specs.Tries.{Made, SomeMade, NoneKept, TriedAs, LawfulBy, Judged}
-use Rattle.attempts.specs.declared.tries.Tried.{Tried}
+use Rattle.attempts.specs.Tries.{Made, SomeMade, TriedAs, LawfulBy, Judged}
+use Rattle.tracks.specs.declared.plan_tables.Held.{Held}
+use Rattle.tracks.specs.declared.plan_tables.Tables.{Tables}
 use Rattle.attempts.proofs.ShorterLaws.{attempt_failed}
 
 -- the answer's numbers
@@ -45,25 +46,17 @@ refused_not q = let l : ◌≡◌ {A = ℕ} 2 4 = ap length q in omega (arith, l
 
 -- the check calls it lawful, by some distance, or not at all
 module _ {day plan : List ℕ} {distance : ℕ} where
-  pub judged_shorter : (r : Tried) {driven vehicles served : ℕ} → given (driven ∷ vehicles ∷ served ∷ []) ≡ check_words day plan → driven < distance → r.kept ≡ true → r.distance ≡ driven
-      → Judged day plan distance r
-  judged_shorter r {driven} {vehicles} {served} e l k d =
-      record {
-        some = λ _. record { vehicles = vehicles; served = served; answer = sym e ∙ ap (λ (x : ℕ). given (x ∷ vehicles ∷ served ∷ [])) (sym d) };
-        shorter = λ _. omega (arith, d);
-        none = λ n. absurd (true≢false (sym k ∙ n));
-      }
+  pub judged_shorter : {driven vehicles served words : ℕ} → given (driven ∷ vehicles ∷ served ∷ []) ≡ check_words day plan → driven < distance → words ≡ length plan
+      → Judged day plan distance (Some (record { words = words; distance = driven }))
+  judged_shorter {vehicles = vehicles} {served = served} e l n =
+      record { lawful = record { vehicles = vehicles; served = served; answer = sym e }; shorter = l; words = n }
 
   -- it is not kept
-  judged_none : (r : Tried) → r.kept ≡ false → ((d : ℕ) → LawfulBy day plan d → distance ≤ d) → Judged day plan distance r
-  judged_none r k h = record { some = λ y. absurd (true≢false (sym y ∙ k)); shorter = λ y. absurd (true≢false (sym y ∙ k)); none = λ _. h }
+  pub judged_longer : {driven vehicles served : ℕ} → given (driven ∷ vehicles ∷ served ∷ []) ≡ check_words day plan → distance ≤ driven → Judged day plan distance None
+  judged_longer e l = λ d w. let q = same_distance (e ∙ w.answer) in omega (arith, q)
 
-  pub judged_longer : (r : Tried) {driven vehicles served : ℕ} → given (driven ∷ vehicles ∷ served ∷ []) ≡ check_words day plan → distance ≤ driven → r.kept ≡ false
-      → Judged day plan distance r
-  judged_longer r e l k = judged_none r k (λ d w. let q = same_distance (e ∙ w.answer) in omega (arith, q))
-
-  pub judged_refused : (r : Tried) {number place : ℕ} → refused number place ≡ check_words day plan → r.kept ≡ false → Judged day plan distance r
-  judged_refused r e k = judged_none r k (λ d w. absurd (refused_not (e ∙ w.answer)))
+  pub judged_refused : {number place : ℕ} → refused number place ≡ check_words day plan → Judged day plan distance None
+  judged_refused e = λ d w. absurd (refused_not (e ∙ w.answer))
 
 -- a plan that the check calls lawful drives what its vehicles do
 module _ (day : List ℕ) (ok : IsAccepted day) (q : List Round) (s : Shaped day q) where
@@ -115,25 +108,21 @@ words_fit {ws} {p} w = omega (arith, w.count, ap length w.text, length-append ws
 abbrev pub WritesAll : (day plan starts : List ℕ) (m : Trial) (count : ℕ) (p part : List ℕ) (c : Walked) → Type 0
 WritesAll day plan starts m count p part c = (rounds : List Round) → Trying day plan starts m rounds → count ≡ length rounds → CandidateAs day m rounds p part c
 
-pub candidate_fits : {day plan starts distances tracks : List ℕ} {m : Trial} {count distance : ℕ} {p part : List ℕ} {c : Walked}
-    → SomeMade day plan starts distances tracks m count distance → WritesAll day plan starts m count p part c → c.stuck ≡ false → c.words ≤ length part
+pub candidate_fits : {day plan : List ℕ} {tables : Tables} {m : Trial} {count distance : ℕ} {p part : List ℕ} {c : Walked}
+    → SomeMade day plan tables m count distance → WritesAll day plan tables.starts m count p part c → c.stuck ≡ false → c.words ≤ length part
 candidate_fits s f g = words_fit ((f s.rounds s.made.measured.trying s.made.counted).written g).text
 
 -- what the trial comes to
-module _ {day plan starts distances tracks : List ℕ} {m : Trial} {count distance : ℕ} {rounds : List Round}
-    (h : Made day plan starts distances tracks m count distance rounds) where
-  pub tried_none : {part : List ℕ} (r : Tried) → NoneKept day plan starts distances tracks m → r.kept ≡ false → TriedAs day m rounds part r
-  tried_none r n k = record { none = λ _. n rounds h.measured; some = λ y. absurd (true≢false (sym y ∙ k)) }
-
-  pub tried_stuck : {p part : List ℕ} {c : Walked} (r : Tried) → WritesAll day plan starts m count p part c → c.stuck ≡ true → r.kept ≡ false
-      → TriedAs day m rounds part r
-  tried_stuck r f g k =
+module _ {day plan : List ℕ} {tables : Tables} {m : Trial} {count distance : ℕ} {rounds : List Round}
+    (h : Made day plan tables m count distance rounds) where
+  pub tried_stuck : {p part : List ℕ} {c : Walked} → WritesAll day plan tables.starts m count p part c → c.stuck ≡ true → attempt day (greedy_lefts day) rounds m ≡ none
+  tried_stuck f g =
       let a = f rounds h.measured.trying h.counted in
-      record { none = λ _. attempt_failed day (greedy_lefts day) rounds m (a.failed g); some = λ y. absurd (true≢false (sym y ∙ k)) }
+      attempt_failed day (greedy_lefts day) rounds m (a.failed g)
 
-module _ {day plan starts distances tracks : List ℕ} {m : Trial} {count distance : ℕ} {rounds : List Round} (ok : IsAccepted day)
-    (h : Made day plan starts distances tracks m count distance rounds) where
-  pub trying_made : SomeTrying day plan starts m count
+module _ {day plan : List ℕ} {tables : Tables} {m : Trial} {count distance : ℕ} {rounds : List Round} (ok : IsAccepted day)
+    (h : Made day plan tables m count distance rounds) where
+  pub trying_made : SomeTrying day plan tables.starts m count
   trying_made =
       let t = h.measured.trying in
       record {
@@ -145,25 +134,35 @@ module _ {day plan starts distances tracks : List ℕ} {m : Trial} {count distan
         ends = ends_inside t h.counted;
       }
 
-  pub tried_judged : {p part : List ℕ} {c : Walked} (r : Tried) → WritesAll day plan starts m count p part c → c.stuck ≡ false
-      → Judged day (take (c.words - 0) (drop 0 part)) distance r → (r.kept ≡ true → r.words ≡ length (take (c.words - 0) (drop 0 part)))
-      → TriedAs day m rounds part r
-  tried_judged {part = part} {c = c} r f g j n =
-      let words = take (c.words - 0) (drop 0 part) in
-      let w : words ≡ take c.words part = front_part c.words part in
-      let b = (f rounds h.measured.trying h.counted).written g in
-      let s = valid_shaped day rounds b.q m h.measured.trying.shaped h.measured.trying.valid b.is in
-      let text : words ≡ plan_words b.q (greedy_lefts day) =
-      w ∙ ap (take c.words) b.text.text ∙ over_front (plan_words b.q (greedy_lefts day)) _ c.words (sym b.text.count) in
-      let size : length words ≡ c.words = ap length text ∙ sym b.text.count in
-      record {
-        none = λ k. attempt_none_is day m rounds ok s b.is
-            (λ d y. omega (arith, h.drives, j.none k d (subst (λ (x : List ℕ). LawfulBy day x d) (sym text) y)));
-        some = λ y. record {
-          q = b.q;
-          is = attempt_kept_is day m rounds ok s b.is (subst (λ (x : List ℕ). LawfulBy day x r.distance) text (j.some y)) (omega (arith, h.drives, j.shorter y));
-          fits = omega (arith, n y, size, words_fit b.text);
-          text = ap (λ (k : ℕ). take k part) (n y ∙ size) ∙ sym w ∙ text;
-          distance = lawful_distance day ok b.q s (subst (λ (x : List ℕ). LawfulBy day x r.distance) text (j.some y));
-        };
-      }
+  -- by what the check says of the candidate
+  module _ {p part : List ℕ} {c : Walked} (f : WritesAll day plan tables.starts m count p part c) (g : c.stuck ≡ false) where
+    abbrev words : List ℕ
+    words = take (c.words - 0) (drop 0 part)
+
+    front : words ≡ take c.words part
+    front = front_part c.words part
+
+    candidate : Candidate day m rounds p part c.words
+    candidate = (f rounds h.measured.trying h.counted).written g
+
+    shaped : Shaped day candidate.q
+    shaped = valid_shaped day rounds candidate.q m h.measured.trying.shaped h.measured.trying.valid candidate.is
+
+    text : words ≡ plan_words candidate.q (greedy_lefts day)
+    text = front ∙ ap (take c.words) candidate.text.text ∙ over_front (plan_words candidate.q (greedy_lefts day)) _ c.words (sym candidate.text.count)
+
+    size : length words ≡ c.words
+    size = ap length text ∙ sym candidate.text.count
+
+    pub tried_judged : (r : Option Held) → Judged day words distance r → TriedAs day m rounds part r
+    tried_judged None j =
+        attempt_none_is day m rounds ok shaped candidate.is (λ d y. omega (arith, h.drives, j d (subst (λ (x : List ℕ). LawfulBy day x d) (sym text) y)))
+    tried_judged (Some held) j =
+        let lawful = subst (λ (x : List ℕ). LawfulBy day x held.distance) text j.lawful in
+        record {
+          q = candidate.q;
+          is = attempt_kept_is day m rounds ok shaped candidate.is lawful (omega (arith, h.drives, j.shorter));
+          fits = omega (arith, j.words, size, words_fit candidate.text);
+          text = ap (λ (k : ℕ). take k part) (j.words ∙ size) ∙ sym front ∙ text;
+          distance = lawful_distance day ok candidate.q shaped lawful;
+        }

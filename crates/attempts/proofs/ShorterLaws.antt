@@ -22,6 +22,7 @@ use Rattle.walks.specs.declared.vehicle.Walked.{Walked}
 use Rattle.trial_list.specs.Shapes.{Valid, moved_before, moved_after, swapped, removed, replaced}
 use Rattle.candidates.proofs.NextRounds.{few_vehicles, plan_short, vehicle_stands}
 use Rattle.candidates.proofs.RoundLists.{tried_fails}
+use Rattle.tracks.specs.declared.plan_tables.Tables.{Tables}
 use Rattle.attempts.specs.Tries.{Numbers, SomeTouched, Retries, Measured, SomeMeasured, SomeMade}
 use Rattle.attempts.proofs.Gains.{gain, tried_at, driven_one, driven_pair, tried_length}
 
@@ -85,8 +86,8 @@ module _ {rounds : List Round} {m : Trial} (n : Numbers rounds m) where
   other_touched = record { inside = omega (arith, n.first_other, n.last_other); touched = touches_other m (m.other - 1 + 1) (omega (arith, n.first_other)) }
 
 -- as the code asks for it
-module _ {day plan starts distances tracks : List ℕ} {m : Trial} (ok : IsAccepted day) where
-  pub some_measured : {count distance : ℕ} → SomeMade day plan starts distances tracks m count distance → SomeMeasured day plan starts distances tracks m
+module _ {day plan : List ℕ} {tables : Tables} {m : Trial} (ok : IsAccepted day) where
+  pub some_measured : {count distance : ℕ} → SomeMade day plan tables m count distance → SomeMeasured day plan tables m
   some_measured s =
       let t = s.made.measured.trying in
       record {
@@ -96,7 +97,7 @@ module _ {day plan starts distances tracks : List ℕ} {m : Trial} (ok : IsAccep
         few = omega (arith, few_vehicles t, (accepted_ranges day ok).stops_most);
       }
 
-  some_touched : (s : SomeMeasured day plan starts distances tracks m) {v : ℕ} → IsTouched s.rounds m v → SomeTouched day plan starts tracks m v
+  some_touched : (s : SomeMeasured day plan tables m) {v : ℕ} → IsTouched s.rounds m v → SomeTouched day plan tables m v
   some_touched s i =
       let t = s.measured.trying in
       record {
@@ -109,35 +110,35 @@ module _ {day plan starts distances tracks : List ℕ} {m : Trial} (ok : IsAccep
         short = omega (arith, plan_short t, (accepted_ranges day ok).stops_most);
       }
 
-  pub some_one : SomeMeasured day plan starts distances tracks m → SomeTouched day plan starts tracks m (m.one - 1)
+  pub some_one : SomeMeasured day plan tables m → SomeTouched day plan tables m (m.one - 1)
   some_one s = some_touched s (one_touched s.numbers)
 
-  pub some_other : SomeMeasured day plan starts distances tracks m → SomeTouched day plan starts tracks m (m.other - 1)
+  pub some_other : SomeMeasured day plan tables m → SomeTouched day plan tables m (m.other - 1)
   some_other s = some_touched s (other_touched s.numbers)
 
 -- what the walks of the touched vehicles say of a plan held
-module _ {day plan starts distances tracks : List ℕ} {m : Trial} {rounds : List Round} (h : Measured day plan starts distances tracks m rounds) where
+module _ {day plan : List ℕ} {tables : Tables} {m : Trial} {rounds : List Round} (h : Measured day plan tables m rounds) where
   numbers : Numbers rounds m
   numbers = valid_numbers day rounds m h.trying.valid
 
-  failed_at : {v : ℕ} {r : Walked} → IsTouched rounds m v → Retries day plan starts tracks m v r → r.stuck ≡ true → attempt day (greedy_lefts day) rounds m ≡ none
+  failed_at : {v : ℕ} {r : Walked} → IsTouched rounds m v → Retries day plan tables m v r → r.stuck ≡ true → attempt day (greedy_lefts day) rounds m ≡ none
   failed_at i f g =
       attempt_failed day (greedy_lefts day) rounds m (retry_fails day m rounds _ i.inside i.touched (f rounds h.trying h.tracked i.inside i.touched) g)
 
-  drives_at : {v : ℕ} {r : Walked} → IsTouched rounds m v → Retries day plan starts tracks m v r → r.stuck ≡ false
+  drives_at : {v : ℕ} {r : Walked} → IsTouched rounds m v → Retries day plan tables m v r → r.stuck ≡ false
       → (q : List Round) → tried day rounds m ≡ some q → r.distance ≡ distance_from day 0 (get_or q v [])
   drives_at i f g = retry_drives day m rounds _ i.inside i.touched (f rounds h.trying h.tracked i.inside i.touched) g
 
   -- the trial fails on one of them
-  pub one_failed : {r : Walked} → Retries day plan starts tracks m (m.one - 1) r → r.stuck ≡ true → attempt day (greedy_lefts day) rounds m ≡ none
+  pub one_failed : {r : Walked} → Retries day plan tables m (m.one - 1) r → r.stuck ≡ true → attempt day (greedy_lefts day) rounds m ≡ none
   one_failed = failed_at (one_touched numbers)
 
-  pub other_failed : {r : Walked} → Retries day plan starts tracks m (m.other - 1) r → r.stuck ≡ true → attempt day (greedy_lefts day) rounds m ≡ none
+  pub other_failed : {r : Walked} → Retries day plan tables m (m.other - 1) r → r.stuck ≡ true → attempt day (greedy_lefts day) rounds m ≡ none
   other_failed = failed_at (other_touched numbers)
 
   -- one vehicle drives no less, or two do
-  pub one_longer : {r : Walked} → Retries day plan starts tracks m (m.one - 1) r → r.stuck ≡ false → m.one ≡ m.other
-      → ltb r.distance (get_or distances (m.one - 1) 0) ≡ false → attempt day (greedy_lefts day) rounds m ≡ none
+  pub one_longer : {r : Walked} → Retries day plan tables m (m.one - 1) r → r.stuck ≡ false → m.one ≡ m.other
+      → ltb r.distance (get_or tables.distances (m.one - 1) 0) ≡ false → attempt day (greedy_lefts day) rounds m ≡ none
   one_longer {r} f g e d =
       let v = m.one - 1 in
       let i = one_touched numbers in
@@ -146,7 +147,7 @@ module _ {day plan starts distances tracks : List ℕ} {m : Trial} {rounds : Lis
       attempt_longer day (greedy_lefts day) rounds m
       (λ q s. omega (
         arith,
-        ltb-false r.distance (get_or distances v 0) d,
+        ltb-false r.distance (get_or tables.distances v 0) d,
         h.driven v i.inside,
         drives_at i f g q s,
         gain day m 0 rounds q s,
@@ -154,9 +155,9 @@ module _ {day plan starts distances tracks : List ℕ} {m : Trial} {rounds : Lis
         driven_one day m q v (omega (arith, i.inside, tried_length day m 0 rounds q s)) a b,
       ))
 
-  pub both_longer : {r s : Walked} → Retries day plan starts tracks m (m.one - 1) r → r.stuck ≡ false → (m.one ≡ m.other → ⊥)
-      → Retries day plan starts tracks m (m.other - 1) s → s.stuck ≡ false
-      → {a b x y : ℕ} → a ≡ r.distance → b ≡ s.distance → x ≡ get_or distances (m.one - 1) 0 → y ≡ get_or distances (m.other - 1) 0 → ltb (a + b) (x + y) ≡ false
+  pub both_longer : {r s : Walked} → Retries day plan tables m (m.one - 1) r → r.stuck ≡ false → (m.one ≡ m.other → ⊥)
+      → Retries day plan tables m (m.other - 1) s → s.stuck ≡ false
+      → {a b x y : ℕ} → a ≡ r.distance → b ≡ s.distance → x ≡ get_or tables.distances (m.one - 1) 0 → y ≡ get_or tables.distances (m.other - 1) 0 → ltb (a + b) (x + y) ≡ false
       → attempt day (greedy_lefts day) rounds m ≡ none
   both_longer f g e k n {a} {b} {x} {y} p q ex ey d =
       let v = m.one - 1 in

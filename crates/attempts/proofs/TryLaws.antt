@@ -17,7 +17,8 @@ use Rattle.candidates.specs.Candidates.{Trying}
 use Rattle.candidates.proofs.NextRounds.{plan_short, round_able, stops_here}
 use Rattle.tracks.specs.Before.{BeforeOf}
 use Rattle.tracks.specs.Measure.{Measurable}
-use Rattle.tracks.specs.Tables.{TrackedIn, before_in, behind_in}
+use Rattle.tracks.specs.Tables.{TrackedIn}
+use Rattle.tracks.specs.declared.plan_tables.Tracks.{Tracks}
 use Rattle.tracks.proofs.TableLaws.{first_is_lem}
 
 -- the tasks of vehicle v stand one behind its start and one before its end
@@ -35,20 +36,20 @@ module _ {day plan starts : List ℕ} {m : Trial} {rounds : List Round} (t : Try
       }
 
   -- what the tables say of it
-  pub retry_measurable : {work tracks : List ℕ} {first last : ℕ} → IsAccepted day → 5 * stops day ≤ length work → touches m (v + 1) ≡ true → TrackedIn day rounds tracks
+  pub retry_measurable : {work : List ℕ} {tracks : Tracks} {first last : ℕ} → IsAccepted day → 5 * stops day ≤ length work → touches m (v + 1) ≡ true → TrackedIn day rounds tracks
       → Outside m.edit (get_or rounds v []) first last
       → Measurable day m.edit (take (get_or starts (v + 1) 0 - 1 - (get_or starts v 0 + 1)) (drop (get_or starts v 0 + 1) plan)) work (get_or starts v 0 + 1)
-      (before_in tracks) (behind_in tracks) first last (get_or rounds v [])
+      tracks.before tracks.behind first last (get_or rounds v [])
   retry_measurable {work} {tracks} ok h y k o =
       let able = round_able t l {touched = true} {part = work} ok (omega (arith, stops_here t l)) (sym y) (round_are t.laid l) in
       record {
         cuttable = record {
           walkable = retry_walkable ok h y;
           outside = o;
-          rows = subst (λ (n : ℕ). BehindOf day (behind_in tracks) n (get_or rounds v [])) (sym (first_is_lem t.laid l)) (k.tracked.onward v l);
+          rows = subst (λ (n : ℕ). BehindOf day tracks.behind n (get_or rounds v [])) (sym (first_is_lem t.laid l)) (k.tracked.onward v l);
         };
         same = able.same refl;
-        walked = subst (λ (n : ℕ). BeforeOf day (before_in tracks) n (get_or rounds v [])) (sym (first_is_lem t.laid l)) (k.tracked.walked v l);
+        walked = subst (λ (n : ℕ). BeforeOf day tracks.before n (get_or rounds v [])) (sym (first_is_lem t.laid l)) (k.tracked.walked v l);
       }
 
   -- its words are few

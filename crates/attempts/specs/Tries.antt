@@ -1,5 +1,5 @@
 -- A trial while it is made, as the code has it. It serves the contracts of the functions that make trials. Assumes nothing.
-use Rattle.std.specs.Prelude.{ℕ, ◌+◌, ◌≤◌, ◌<◌, ◌≡◌, true, false, List, [], ◌∷◌, length, get_or, take}
+use Rattle.std.specs.Prelude.{ℕ, ◌+◌, ◌≤◌, ◌<◌, ◌≡◌, true, List, [], ◌∷◌, Option, Some, None, length, get_or, take}
 use Rattle.std.proofs.Math.Option.{none, some}
 use Rattle.rules.specs.Answers.{given}
 use Rattle.rules.specs.Plan.{Round, plan_words}
@@ -13,7 +13,8 @@ use Rattle.walks.specs.declared.vehicle.Walked.{Walked}
 use Rattle.trial_list.specs.Survey.{VehicleIn}
 use Rattle.candidates.specs.Candidates.{Trying}
 use Rattle.tracks.specs.Tables.{TrackedIn}
-use Rattle.attempts.specs.declared.tries.Tried.{Tried}
+use Rattle.tracks.specs.declared.plan_tables.Held.{Held}
+use Rattle.tracks.specs.declared.plan_tables.Tables.{Tables}
 
 -- the numbers of the vehicles that a trial touches
 pub record Numbers (rounds : List Round) (m : Trial) : Type 0 where
@@ -23,61 +24,60 @@ pub record Numbers (rounds : List Round) (m : Trial) : Type 0 where
   pub last_other : m.other ≤ length rounds
 
 -- a vehicle of the plan held that the trial touches
-pub record SomeTouched (day plan starts tracks : List ℕ) (m : Trial) (v : ℕ) : Type 0 where
+pub record SomeTouched (day plan : List ℕ) (tables : Tables) (m : Trial) (v : ℕ) : Type 0 where
   pub rounds : List Round
-  pub trying : Trying day plan starts m rounds
-  pub tracked : TrackedIn day rounds tracks
+  pub trying : Trying day plan tables.starts m rounds
+  pub tracked : TrackedIn day rounds tables.tracks
   pub inside : v < length rounds
   pub touched : touches m (v + 1) ≡ true
-  pub vehicle : VehicleIn plan starts v
+  pub vehicle : VehicleIn plan tables.starts v
   pub short : length plan ≤ 1200
 
 -- so it is measured, whatever vehicles have these words
-abbrev pub Retries : List ℕ → List ℕ → List ℕ → List ℕ → Trial → ℕ → Walked → Type 0
-Retries day plan starts tracks m v r =
-    (rounds : List Round) → Trying day plan starts m rounds → TrackedIn day rounds tracks → v < length rounds → touches m (v + 1) ≡ true
+abbrev pub Retries : List ℕ → List ℕ → Tables → Trial → ℕ → Walked → Type 0
+Retries day plan tables m v r =
+    (rounds : List Round) → Trying day plan tables.starts m rounds → TrackedIn day rounds tables.tracks → v < length rounds → touches m (v + 1) ≡ true
     → AgainAs day (changed m.edit 0 (get_or rounds v [])) r
 
 -- the plan held, and how far each of its vehicles drives
-pub record Measured (day plan starts distances tracks : List ℕ) (m : Trial) (rounds : List Round) : Type 0 where
-  pub trying : Trying day plan starts m rounds
-  pub tracked : TrackedIn day rounds tracks
-  pub driven : (v : ℕ) → v < length rounds → get_or distances v 0 ≡ distance_from day 0 (get_or rounds v [])
-  pub measures : length distances ≡ 256
+pub record Measured (day plan : List ℕ) (tables : Tables) (m : Trial) (rounds : List Round) : Type 0 where
+  pub trying : Trying day plan tables.starts m rounds
+  pub tracked : TrackedIn day rounds tables.tracks
+  pub driven : (v : ℕ) → v < length rounds → get_or tables.distances v 0 ≡ distance_from day 0 (get_or rounds v [])
 
-pub record SomeMeasured (day plan starts distances tracks : List ℕ) (m : Trial) : Type 0 where
+pub record SomeMeasured (day plan : List ℕ) (tables : Tables) (m : Trial) : Type 0 where
   pub rounds : List Round
-  pub measured : Measured day plan starts distances tracks m rounds
+  pub measured : Measured day plan tables m rounds
   pub numbers : Numbers rounds m
   pub few : length rounds ≤ 240
 
 -- how many vehicles it has, and how far they drive
-pub record Made (day plan starts distances tracks : List ℕ) (m : Trial) (count distance : ℕ) (rounds : List Round) : Type 0 where
-  pub measured : Measured day plan starts distances tracks m rounds
+pub record Made (day plan : List ℕ) (tables : Tables) (m : Trial) (count distance : ℕ) (rounds : List Round) : Type 0 where
+  pub measured : Measured day plan tables m rounds
   pub counted : count ≡ length rounds
   pub drives : distance ≡ distance_of day rounds
 
-pub record SomeMade (day plan starts distances tracks : List ℕ) (m : Trial) (count distance : ℕ) : Type 0 where
+pub record SomeMade (day plan : List ℕ) (tables : Tables) (m : Trial) (count distance : ℕ) : Type 0 where
   pub rounds : List Round
-  pub made : Made day plan starts distances tracks m count distance rounds
+  pub made : Made day plan tables m count distance rounds
 
 -- no lawful, shorter plan comes of the trial, whatever vehicles have these words
-abbrev pub NoneKept : List ℕ → List ℕ → List ℕ → List ℕ → List ℕ → Trial → Type 0
-NoneKept day plan starts distances tracks m =
-    (rounds : List Round) → Measured day plan starts distances tracks m rounds → attempt day (greedy_lefts day) rounds m ≡ none
+abbrev pub NoneKept : List ℕ → List ℕ → Tables → Trial → Type 0
+NoneKept day plan tables m =
+    (rounds : List Round) → Measured day plan tables m rounds → attempt day (greedy_lefts day) rounds m ≡ none
 
 -- the plan that is kept stands at the front of the working buffer
-pub record Kept (day : List ℕ) (m : Trial) (rounds : List Round) (part : List ℕ) (r : Tried) : Type 0 where
+pub record Kept (day : List ℕ) (m : Trial) (rounds : List Round) (part : List ℕ) (r : Held) : Type 0 where
   pub q : List Round
   pub is : attempt day (greedy_lefts day) rounds m ≡ some q
   pub fits : r.words ≤ length part
   pub text : take r.words part ≡ plan_words q (greedy_lefts day)
   pub distance : r.distance ≡ distance_of day q
 
--- what a trial of a plan comes to
-pub record TriedAs (day : List ℕ) (m : Trial) (rounds : List Round) (part : List ℕ) (r : Tried) : Type 0 where
-  pub none : r.kept ≡ false → attempt day (greedy_lefts day) rounds m ≡ none
-  pub some : r.kept ≡ true → Kept day m rounds part r
+-- what a trial of a plan comes to: no plan, or one that is kept
+abbrev pub TriedAs : (day : List ℕ) (m : Trial) (rounds : List Round) (part : List ℕ) → Option Held → Type 0
+TriedAs day m rounds part None = attempt day (greedy_lefts day) rounds m ≡ none
+TriedAs day m rounds part (Some held) = Kept day m rounds part held
 
 -- what the check says of a plan, set against a distance
 pub record LawfulBy (day plan : List ℕ) (distance : ℕ) : Type 0 where
@@ -85,7 +85,13 @@ pub record LawfulBy (day plan : List ℕ) (distance : ℕ) : Type 0 where
   pub served : ℕ
   pub answer : check_words day plan ≡ given (distance ∷ vehicles ∷ served ∷ [])
 
-pub record Judged (day plan : List ℕ) (distance : ℕ) (r : Tried) : Type 0 where
-  pub some : r.kept ≡ true → LawfulBy day plan r.distance
-  pub shorter : r.kept ≡ true → r.distance < distance
-  pub none : r.kept ≡ false → (d : ℕ) → LawfulBy day plan d → distance ≤ d
+-- a plan that is kept is lawful and drives less than that distance
+pub record Better (day plan : List ℕ) (distance : ℕ) (held : Held) : Type 0 where
+  pub lawful : LawfulBy day plan held.distance
+  pub shorter : held.distance < distance
+  pub words : held.words ≡ length plan
+
+-- and where none is kept, the plan is not
+abbrev pub Judged : (day plan : List ℕ) (distance : ℕ) → Option Held → Type 0
+Judged day plan distance None = (d : ℕ) → LawfulBy day plan d → distance ≤ d
+Judged day plan distance (Some held) = Better day plan distance held

@@ -1,5 +1,5 @@
 // One trial of the plan held.
-ghost use Rattle.std.specs.Prelude.{◌≡◌, true, false, List, ◌≤◌, ◌<◌, ◌*◌, length};
+ghost use Rattle.std.specs.Prelude.{◌≡◌, false, List, ◌≤◌, ◌<◌, ◌*◌, length};
 ghost use Rattle.rules.specs.Fields.{IsAccepted};
 ghost use Rattle.rules.specs.Plan.{Round};
 ghost use Rattle.day.specs.Layout.{LayoutOf};
@@ -12,7 +12,7 @@ use day::fields::Layout;
 use rules::answers::Answer;
 use spans::span_of;
 use tracks::measure::measure;
-use tracks::tables::{BEFORE_WORDS, BEHIND_END, TRACKS_WORDS};
+use tracks::plan_tables::{Held, Tables};
 use trial_list::listing::Trial;
 use walks::vehicle::Walked;
 
@@ -22,26 +22,18 @@ fn retry(
     layout: Layout,
     t: Trial,
     plan: &[u32],
-    starts: &[u32],
-    tracks: &[u32],
+    tables: &Tables,
     v: usize,
     work: &mut [u32],
 ) -> Walked
-    requires { LayoutOf day.now layout × IsAccepted day.now × EditSmall t.edit × EditKnown day.now t.edit × SomeTouched day.now plan.now starts.now tracks.now (listed_trial t) v × (5 * layout.stops ≤ length work.old) }
-    ensures { Retries day.now plan.now starts.now tracks.now (listed_trial t) v result }
+    requires { LayoutOf day.now layout × IsAccepted day.now × EditSmall t.edit × EditKnown day.now t.edit × SomeTouched day.now plan.now tables.now (listed_trial t) v × (5 * layout.stops ≤ length work.old) }
+    ensures { Retries day.now plan.now tables.now (listed_trial t) v result }
 {
-    let from = starts[v] as usize + 1;
-    let to = starts[v + 1] as usize - 1;
+    let from = tables.starts[v] as usize + 1;
+    let to = tables.starts[v + 1] as usize - 1;
+    let tracks = &tables.tracks;
     let e = t.edit;
-    let span = span_of(
-        e,
-        v + 1 == t.one,
-        &tracks[BEHIND_END..TRACKS_WORDS],
-        from,
-        &plan[from..to],
-    );
-    let before = &tracks[0..BEFORE_WORDS];
-    let behind = &tracks[BEFORE_WORDS..BEHIND_END];
+    let span = span_of(e, v + 1 == t.one, &tracks.spots, from, &plan[from..to]);
     measure(
         day,
         layout,
@@ -49,18 +41,10 @@ fn retry(
         span,
         from,
         &plan[from..to],
-        before,
-        behind,
+        &tracks.before,
+        &tracks.behind,
         work,
     )
-}
-
-// What came of a trial: whether its plan is kept, how many words it has and how far it drives.
-#[derive(Clone, Copy)]
-pub struct Tried {
-    pub kept: bool,
-    pub words: usize,
-    pub distance: u32,
 }
 
 // A distance with room for a sum.
@@ -76,67 +60,52 @@ fn is_shorter(
     layout: Layout,
     t: Trial,
     plan: &[u32],
-    starts: &[u32],
-    distances: &[u32],
-    tracks: &[u32],
+    tables: &Tables,
     work: &mut [u32],
 ) -> bool
-    requires { LayoutOf day.now layout × IsAccepted day.now × EditSmall t.edit × EditKnown day.now t.edit × SomeMeasured day.now plan.now starts.now distances.now tracks.now (listed_trial t) × (5 * layout.stops ≤ length work.old) }
-    ensures { result ≡ false → NoneKept day.now plan.now starts.now distances.now tracks.now (listed_trial t) }
+    requires { LayoutOf day.now layout × IsAccepted day.now × EditSmall t.edit × EditKnown day.now t.edit × SomeMeasured day.now plan.now tables.now (listed_trial t) × (5 * layout.stops ≤ length work.old) }
+    ensures { result ≡ false → NoneKept day.now plan.now tables.now (listed_trial t) }
 {
     let v = t.one - 1;
-    let first = retry(day, layout, t, plan, starts, tracks, v, work);
+    let first = retry(day, layout, t, plan, tables, v, work);
     if first.stuck {
         return false;
     }
     if t.one == t.other {
-        return first.distance < distances[v];
+        return first.distance < tables.distances[v];
     }
     let u = t.other - 1;
-    let second = retry(day, layout, t, plan, starts, tracks, u, work);
+    let second = retry(day, layout, t, plan, tables, u, work);
     if second.stuck {
         return false;
     }
-    wide(first.distance) + wide(second.distance) < wide(distances[v]) + wide(distances[u])
-}
-
-// No plan is kept.
-fn not_kept() -> Tried
-    ensures { result.kept ≡ false }
-{
-    Tried {
-        kept: false,
-        words: 0,
-        distance: 0,
-    }
+    wide(first.distance) + wide(second.distance)
+        < wide(tables.distances[v]) + wide(tables.distances[u])
 }
 
 // A plan is kept where it is lawful and drives less.
-fn judge_candidate(day: &[u32], layout: Layout, distance: u32, plan: &[u32]) -> Tried
+fn judge_candidate(day: &[u32], layout: Layout, distance: u32, plan: &[u32]) -> Option<Held>
     requires { LayoutOf day.now layout }
-    ensures judged { Judged day.now plan.now distance result }
-    ensures words { result.kept ≡ true → result.words ≡ length plan.now }
+    ensures { Judged day.now plan.now distance result }
 {
-    let answer = checker::check_accepted(day, layout, plan);
-    match answer {
+    match checker::check_accepted(day, layout, plan) {
         Answer::Lawful {
             distance: driven,
             vehicles: _,
             served: _,
         } => {
             if driven < distance {
-                return Tried {
-                    kept: true,
+                return Some(Held {
                     words: plan.len(),
                     distance: driven,
-                };
+                });
             }
-            not_kept()
+            None
         }
         Answer::Refused {
             number: _,
             place: _,
-        } => not_kept(),
+        } => None,
     }
 }
 
@@ -146,24 +115,31 @@ pub fn make_trial(
     layout: Layout,
     t: Trial,
     plan: &[u32],
-    starts: &[u32],
-    distances: &[u32],
-    tracks: &[u32],
+    tables: &Tables,
     count: usize,
     distance: u32,
     work: &mut [u32],
-) -> Tried
-    requires { LayoutOf day.now layout × IsAccepted day.now × EditSmall t.edit × EditKnown day.now t.edit × SomeMade day.now plan.now starts.now distances.now tracks.now (listed_trial t) count distance × (5 * layout.stops ≤ length work.old) }
-    ensures { (rounds : List Round) → Made day.now plan.now starts.now distances.now tracks.now (listed_trial t) count distance rounds → TriedAs day.now (listed_trial t) rounds work.new result }
+) -> Option<Held>
+    requires { LayoutOf day.now layout × IsAccepted day.now × EditSmall t.edit × EditKnown day.now t.edit × SomeMade day.now plan.now tables.now (listed_trial t) count distance × (5 * layout.stops ≤ length work.old) }
+    ensures { (rounds : List Round) → Made day.now plan.now tables.now (listed_trial t) count distance rounds → TriedAs day.now (listed_trial t) rounds work.new result }
 {
-    if is_shorter(day, layout, t, plan, starts, distances, tracks, work) {
-        let e = t.edit;
-        let c = write_candidate(day, layout, e, t.one, t.other, plan, starts, count, work);
-        if c.stuck {
-            return not_kept();
-        }
-        let words = c.words;
-        return judge_candidate(day, layout, distance, &work[0..words]);
+    if !is_shorter(day, layout, t, plan, tables, work) {
+        return None;
     }
-    not_kept()
+    let e = t.edit;
+    let c = write_candidate(
+        day,
+        layout,
+        e,
+        t.one,
+        t.other,
+        plan,
+        &tables.starts,
+        count,
+        work,
+    );
+    if c.stuck {
+        return None;
+    }
+    judge_candidate(day, layout, distance, &work[0..c.words])
 }

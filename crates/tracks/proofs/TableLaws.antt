@@ -136,9 +136,11 @@ module _ {day plan starts : List ℕ} {room count v : ℕ} {tracks : Tracks} {wo
   -- all vehicles have their rows
   pub tracks_end : count ≤ v → TracksIn day plan starts room count tracks
   tracks_end l = λ rounds lefts t e. record {
-    walked = λ u h. (s.each rounds lefts t e).walked u (omega arith);
-    onward = λ u h. (s.each rounds lefts t e).onward u (omega arith);
-    before_size = tracks.before_size;
-    behind_size = tracks.behind_size;
-    spots_size = tracks.spots_size;
+    tracked = record {
+      walked = λ u h. (s.each rounds lefts t e).walked u (omega arith);
+      onward = λ u h. (s.each rounds lefts t e).onward u (omega arith);
+      before_size = tracks.before_size;
+      behind_size = tracks.behind_size;
+      spots_size = tracks.spots_size;
+    };
   }

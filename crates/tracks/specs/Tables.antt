@@ -25,8 +25,8 @@ pub record Tracked (day : List ℕ) (rounds : List Round) (before behind spots :
   pub spots_size : length spots ≡ 256
 
 -- the code's tables are those
-abbrev pub TrackedIn : (day : List ℕ) → List Round → Tracks → Type 0
-TrackedIn day rounds tracks = Tracked day rounds tracks.before tracks.behind tracks.spots
+pub record TrackedIn (day : List ℕ) (rounds : List Round) (tracks : Tracks) : Type 0 where
+  pub tracked : Tracked day rounds tracks.before tracks.behind tracks.spots
 
 -- a vehicle has few stops, and there is room for its words
 pub record Fits (room : ℕ) (tasks : Round) : Type 0 where

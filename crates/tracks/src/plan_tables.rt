@@ -40,3 +40,10 @@ impl Tables {
         }
     }
 }
+
+// A plan held: how many words it has, and how far it drives.
+#[derive(Clone, Copy)]
+pub struct Held {
+    pub words: usize,
+    pub distance: u32,
+}
