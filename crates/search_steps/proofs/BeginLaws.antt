@@ -12,16 +12,17 @@ use Rattle.trial_list.specs.TrialRest.{list_start}
 use Rattle.trial_list.specs.declared.listing.Cursor.{Cursor}
 use Rattle.trial_list.proofs.ListRests.{start_fits, start_valid}
 use Rattle.search_laws.proofs.Searching.{loop_start}
+use Rattle.tracks.specs.declared.plan_tables.Tables.{Tables}
 use Rattle.search_steps.specs.Searches.{PlanAt, MakesTables, k_at, Searching, going_on}
 use Rattle.search_steps.specs.declared.steps.Search.{Search}
 use Rattle.search_steps.proofs.SetLaws.{lists_at}
 use Rattle.search_steps.proofs.TakeOverLaws.{taken_over}
 
 -- the greedy plan is held
-pub begins : {day plan starts vehicles distances tracks : List ℕ} {words count distance : ℕ} {first : Cursor} {s : Search} → PlanAt day plan words (greedy_rounds day)
-    → MakesTables day (take (words - 0) (drop 0 plan)) starts vehicles distances tracks count → distance ≡ distance_of day (greedy_rounds day)
+pub begins : {day plan : List ℕ} {tables : Tables} {words count distance : ℕ} {first : Cursor} {s : Search} → PlanAt day plan words (greedy_rounds day)
+    → MakesTables day (take (words - 0) (drop 0 plan)) tables count → distance ≡ distance_of day (greedy_rounds day)
     → first ≡ list_start → s ≡ going_on words count distance 0 0 first
-    → (Ks : List ℕ) (budget : ℕ) → 0 < length Ks → Searching day Ks budget plan starts vehicles distances tracks s
+    → (Ks : List ℕ) (budget : ℕ) → 0 < length Ks → Searching day Ks budget plan tables s
 unfolding searched
 begins {day} p f far n e Ks budget some =
     let over = taken_over p f in

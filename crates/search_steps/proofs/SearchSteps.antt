@@ -25,6 +25,7 @@ use Rattle.trial_list.specs.TrialRest.{rest_of, listed_trial}
 use Rattle.trial_list.specs.declared.listing.Listed.{Listed}
 use Rattle.trial_list.proofs.ListRests.{plan_tables, start_fits, start_valid, next_valid, valid_names, Names}
 use Rattle.search_laws.proofs.Searching.{run_nil, run_next, loop_spent}
+use Rattle.tracks.specs.declared.plan_tables.Tables.{Tables}
 use Rattle.search_steps.specs.Searches.{sets_of, SetsFit, k_at, Going, Searching, ended_by, next_list, steps_left, NextTrial}
 use Rattle.search_steps.specs.declared.steps.Search.{Search}
 use Rattle.search_steps.specs.declared.steps.Setting.{Setting}
@@ -32,9 +33,9 @@ use Rattle.search_steps.proofs.SetLaws.{sets_few, sets_within, lists_at, lists_p
 use Rattle.search_steps.proofs.TakeOverLaws.{slice_is}
 
 -- the search goes on with a plan held
-module _ {day : List ℕ} {layout : Layout} {set : Setting} {budget : ℕ} {table plan starts vehicles distances tracks : List ℕ} {s : Search}
+module _ {day : List ℕ} {layout : Layout} {set : Setting} {budget : ℕ} {table plan : List ℕ} {tables : Tables} {s : Search}
     (laid : LayoutOf day layout) (ok : IsAccepted day) (fit : SetsFit set) (t : TableOf day set.k table)
-    (h : Searching day (sets_of set) budget plan starts vehicles distances tracks s) (g : s.ended ≡ false) where
+    (h : Searching day (sets_of set) budget plan tables s) (g : s.ended ≡ false) where
   -- the K at hand
   abbrev K : ℕ
   K = k_at (sets_of set) s.stage
@@ -46,18 +47,18 @@ module _ {day : List ℕ} {layout : Layout} {set : Setting} {budget : ℕ} {tabl
   within = sets_within fit s.stage at_hand
 
   -- the tables of the plan held
-  pub held_tables : PlanTables layout K table starts vehicles (take (s.words - 0) (drop 0 plan)) s.count
+  pub held_tables : PlanTables layout K table tables.starts tables.vehicles (take (s.words - 0) (drop 0 plan)) s.count
   held_tables =
-      plan_tables layout K table starts vehicles (take (s.words - 0) (drop 0 plan)) s.count day h.rounds (greedy_lefts day) distances laid ok
+      plan_tables layout K table tables.starts tables.vehicles (take (s.words - 0) (drop 0 plan)) s.count day h.rounds (greedy_lefts day) tables.distances laid ok
       (omega (arith, within, fit.most)) h.held.plan_at.shaped (table_fewer t K within) h.held.surveyed (slice_is h.held.plan_at)
 
   -- the search ends
   ends : (settled : Bool) → record { plan = h.rounds; trials = s.made; settled = settled } ≡ searched day (sets_of set) budget
-      → Searching day (sets_of set) budget plan starts vehicles distances tracks (ended_by s settled)
+      → Searching day (sets_of set) budget plan tables (ended_by s settled)
   ends settled e =
       record { rounds = h.rounds; held = h.held; drives = h.drives; within = h.within; going = λ n. absurd (true≢false n); done = λ _. e }
 
-  module _ {l : Listed} (a : ListAnswer layout K table starts vehicles (take (s.words - 0) (drop 0 plan)) s.count s.cursor l) where
+  module _ {l : Listed} (a : ListAnswer layout K table tables.starts tables.vehicles (take (s.words - 0) (drop 0 plan)) s.count s.cursor l) where
     -- the list at hand is at its end
     module _ (f : l.found ≡ false) where
       behind : run (trial_lists day (sets_of set)) (attempt day (greedy_lefts day)) (budget - s.made) h.rounds (trial_lists day (drop (s.stage + 1) (sets_of set)) h.rounds) s.made
@@ -75,7 +76,7 @@ module _ {day : List ℕ} {layout : Layout} {set : Setting} {budget : ℕ} {tabl
           ∙ rw (lists_past day (sets_of set) h.rounds (s.stage + 1) last) at behind
 
       -- else that of the next K begins
-      begins : s.stage + 1 < length (sets_of set) → Going day (sets_of set) budget starts h.rounds (next_list set s)
+      begins : s.stage + 1 < length (sets_of set) → Going day (sets_of set) budget tables.starts h.rounds (next_list set s)
       begins more =
           record {
             staged = more;
@@ -84,7 +85,7 @@ module _ {day : List ℕ} {layout : Layout} {set : Setting} {budget : ℕ} {tabl
             same = rw (lists_at day (sets_of set) h.rounds (s.stage + 1) more) behind;
           }
 
-      next_searching : Searching day (sets_of set) budget plan starts vehicles distances tracks (next_list set s)
+      next_searching : Searching day (sets_of set) budget plan tables (next_list set s)
       next_searching =
           record {
             rounds = h.rounds;
@@ -102,7 +103,7 @@ module _ {day : List ℕ} {layout : Layout} {set : Setting} {budget : ℕ} {tabl
       ]
 
       pub list_ends : {r : Search} → r ≡ next_list set s
-          → Searching day (sets_of set) budget plan starts vehicles distances tracks r × (steps_left budget r < steps_left budget s)
+          → Searching day (sets_of set) budget plan tables r × (steps_left budget r < steps_left budget s)
       list_ends e = rw e (next_searching, next_fewer)
 
     -- a trial is listed
@@ -113,7 +114,7 @@ module _ {day : List ℕ} {layout : Layout} {set : Setting} {budget : ℕ} {tabl
 
       -- but the budget is gone
       pub ends_spent : {r : Search} → s.made ≡ budget → r ≡ ended_by s false
-          → Searching day (sets_of set) budget plan starts vehicles distances tracks r × (steps_left budget r < steps_left budget s)
+          → Searching day (sets_of set) budget plan tables r × (steps_left budget r < steps_left budget s)
       ends_spent b e =
           let same = (h.going g).same in
           let spent = loop_spent (trial_lists day (sets_of set)) (attempt day (greedy_lefts day)) budget h.rounds (listed_trial l.trial) (rest_of day K h.rounds l.next) _ s.made b in
@@ -123,7 +124,7 @@ module _ {day : List ℕ} {layout : Layout} {set : Setting} {budget : ℕ} {tabl
       next_may : Valid day h.rounds (listed_trial l.trial) × Every (Valid day h.rounds) (rest_of day K h.rounds l.next)
       next_may = next_valid day h.rounds K s.cursor l.next l.trial next_is_lem (h.going g).valid
 
-      pub next_trial : (s.made ≡ budget → ⊥) → NextTrial day (sets_of set) budget plan starts vehicles distances tracks s l
+      pub next_trial : (s.made ≡ budget → ⊥) → NextTrial day (sets_of set) budget plan tables s l
       next_trial b =
           record {
             rounds = h.rounds;
@@ -140,8 +141,8 @@ module _ {day : List ℕ} {layout : Layout} {set : Setting} {budget : ℕ} {tabl
           }
 
 -- the stops and tips that a listed trial names
-module _ {day Ks : List ℕ} {budget : ℕ} {plan starts vehicles distances tracks : List ℕ} {s : Search} (l : Listed) (ok : IsAccepted day)
-    (h : NextTrial day Ks budget plan starts vehicles distances tracks s l) where
+module _ {day Ks : List ℕ} {budget : ℕ} {plan : List ℕ} {tables : Tables} {s : Search} (l : Listed) (ok : IsAccepted day)
+    (h : NextTrial day Ks budget plan tables s l) where
   pub trial_names : Names day l.trial
   trial_names = valid_names day h.rounds l.trial (accepted_ranges day ok).stops_most h.may_be
 

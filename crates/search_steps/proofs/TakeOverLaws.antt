@@ -20,6 +20,7 @@ use Rattle.trial_list.proofs.Shapes.{shaped_few, shaped_length}
 use Rattle.candidates.proofs.CopyLaws.{front_part}
 use Rattle.tracks.specs.Tables.{SomeTrackable, TracksIn}
 use Rattle.tracks.proofs.TrackableLaws.{shaped_trackable, some_trackable}
+use Rattle.tracks.specs.declared.plan_tables.Tables.{Tables}
 use Rattle.search_steps.specs.Searches.{PlanAt, SomePlanAt, SomeHeld, MakesTables, TakenOver, TakesOver}
 
 -- the vehicles of a plan that trials work on, for its tables
@@ -68,16 +69,16 @@ module _ {day plan : List ℕ} (ok : IsAccepted day) (s : SomeHeld day plan) whe
   held_trackable laid l f = some_trackable ok s.shaped (f s.rounds (greedy_lefts day) (held_of ok s.shaped s.text)) s.text (room_is laid l)
 
 -- its tables are made
-pub tables_made : {day plan starts vehicles distances tracks : List ℕ} {layout : Layout} {room count : ℕ} → LayoutOf day layout → IsAccepted day
+pub tables_made : {day plan : List ℕ} {tables : Tables} {layout : Layout} {room count : ℕ} → LayoutOf day layout → IsAccepted day
     → 5 * layout.stops ≤ room
-    → SurveysAll day plan starts vehicles distances count → TracksIn day plan starts room count tracks → MakesTables day plan starts vehicles distances tracks count
+    → SurveysAll day plan tables.starts tables.vehicles tables.distances count → TracksIn day plan tables.starts room count tables.tracks → MakesTables day plan tables count
 tables_made {day} laid ok l f g rounds shaped text =
     let s = f rounds (greedy_lefts day) (held_of ok shaped text) in
     record { surveyed = s; tracked = g rounds (greedy_lefts day) (shaped_trackable ok shaped s text (room_is laid l)) s.counted }
 
 -- the plan held, with its tables
-pub taken_over : {day plan starts vehicles distances tracks : List ℕ} {words count : ℕ} {rounds : List Round} → PlanAt day plan words rounds
-    → MakesTables day (take (words - 0) (drop 0 plan)) starts vehicles distances tracks count → TakenOver day plan words rounds starts vehicles distances tracks count
+pub taken_over : {day plan : List ℕ} {tables : Tables} {words count : ℕ} {rounds : List Round} → PlanAt day plan words rounds
+    → MakesTables day (take (words - 0) (drop 0 plan)) tables count → TakenOver day plan words rounds tables count
 taken_over h f = let t = f _ h.shaped (slice_is h) in record { plan_at = h; surveyed = t.surveyed; tracked = t.tracked }
 
 -- the plan is taken over from the working buffer
@@ -92,7 +93,7 @@ module _ {day work : List ℕ} {words : ℕ} {layout : Layout} (p : List ℕ) (l
     pub copied_held : SomePlanAt day work words → SomeHeld day (take (words - 0) (drop 0 plan))
     copied_held s = some_held (copied s.plan_at laid room w)
 
-    pub takes_over : {starts vehicles distances tracks : List ℕ} {count : ℕ}
-        → MakesTables day (take (words - 0) (drop 0 plan)) starts vehicles distances tracks count
-        → TakesOver day work words plan starts vehicles distances tracks count
+    pub takes_over : {tables : Tables} {count : ℕ}
+        → MakesTables day (take (words - 0) (drop 0 plan)) tables count
+        → TakesOver day work words plan tables count
     takes_over f rounds h = taken_over (copied h laid room w) f

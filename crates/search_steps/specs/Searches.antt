@@ -13,6 +13,7 @@ use Rattle.trial_list.specs.TrialRest.{rest_of, list_start, listed_trial}
 use Rattle.trial_list.specs.declared.listing.Cursor.{Cursor}
 use Rattle.trial_list.specs.declared.listing.Listed.{Listed}
 use Rattle.tracks.specs.Tables.{TrackedIn}
+use Rattle.tracks.specs.declared.plan_tables.Tables.{Tables}
 use Rattle.search_steps.specs.declared.steps.Search.{Search}
 use Rattle.search_steps.specs.declared.steps.Setting.{Setting}
 
@@ -33,24 +34,24 @@ pub record SomeHeld (day plan : List ℕ) : Type 0 where
   pub text : plan ≡ plan_words rounds (greedy_lefts day)
 
 -- the tables of such a plan
-pub record Tables (day : List ℕ) (rounds : List Round) (starts vehicles distances tracks : List ℕ) (count : ℕ) : Type 0 where
-  pub surveyed : Surveyed day rounds starts vehicles distances count
-  pub tracked : TrackedIn day rounds tracks
+pub record TablesOf (day : List ℕ) (rounds : List Round) (tables : Tables) (count : ℕ) : Type 0 where
+  pub surveyed : Surveyed day rounds tables.starts tables.vehicles tables.distances count
+  pub tracked : TrackedIn day rounds tables.tracks
 
-abbrev pub MakesTables : List ℕ → List ℕ → List ℕ → List ℕ → List ℕ → List ℕ → ℕ → Type 0
-MakesTables day plan starts vehicles distances tracks count =
-    (rounds : List Round) → Shaped day rounds → plan ≡ plan_words rounds (greedy_lefts day) → Tables day rounds starts vehicles distances tracks count
+abbrev pub MakesTables : List ℕ → List ℕ → Tables → ℕ → Type 0
+MakesTables day plan tables count =
+    (rounds : List Round) → Shaped day rounds → plan ≡ plan_words rounds (greedy_lefts day) → TablesOf day rounds tables count
 
 -- the plan is taken over, and its tables are made
-pub record TakenOver (day plan : List ℕ) (words : ℕ) (rounds : List Round) (starts vehicles distances tracks : List ℕ) (count : ℕ) : Type 0 where
+pub record TakenOver (day plan : List ℕ) (words : ℕ) (rounds : List Round) (tables : Tables) (count : ℕ) : Type 0 where
   pub plan_at : PlanAt day plan words rounds
-  pub surveyed : Surveyed day rounds starts vehicles distances count
-  pub tracked : TrackedIn day rounds tracks
+  pub surveyed : Surveyed day rounds tables.starts tables.vehicles tables.distances count
+  pub tracked : TrackedIn day rounds tables.tracks
 
 -- so it is, whatever vehicles have these words
-abbrev pub TakesOver : List ℕ → List ℕ → ℕ → List ℕ → List ℕ → List ℕ → List ℕ → List ℕ → ℕ → Type 0
-TakesOver day buffer words plan starts vehicles distances tracks count =
-    (rounds : List Round) → PlanAt day buffer words rounds → TakenOver day plan words rounds starts vehicles distances tracks count
+abbrev pub TakesOver : List ℕ → List ℕ → ℕ → List ℕ → Tables → ℕ → Type 0
+TakesOver day buffer words plan tables count =
+    (rounds : List Round) → PlanAt day buffer words rounds → TakenOver day plan words rounds tables count
 
 -- the K that are asked for: one, or 5, 10 and 25 before it
 abbrev pub sets_of : Setting → List ℕ
@@ -82,12 +83,12 @@ pub record Going (day Ks : List ℕ) (budget : ℕ) (starts : List ℕ) (rounds 
   pub same : GoesOn day Ks budget rounds s.made s.stage s.cursor
 
 -- the search, going on or ended
-pub record Searching (day Ks : List ℕ) (budget : ℕ) (plan starts vehicles distances tracks : List ℕ) (s : Search) : Type 0 where
+pub record Searching (day Ks : List ℕ) (budget : ℕ) (plan : List ℕ) (tables : Tables) (s : Search) : Type 0 where
   pub rounds : List Round
-  pub held : TakenOver day plan s.words rounds starts vehicles distances tracks s.count
+  pub held : TakenOver day plan s.words rounds tables s.count
   pub drives : s.distance ≡ distance_of day rounds
   pub within : s.made ≤ budget
-  pub going : s.ended ≡ false → Going day Ks budget starts rounds s
+  pub going : s.ended ≡ false → Going day Ks budget tables.starts rounds s
   pub done : s.ended ≡ true → record { plan = rounds; trials = s.made; settled = s.settled } ≡ searched day Ks budget
 
 -- the search goes on with a plan held
@@ -114,9 +115,9 @@ abbrev pub steps_left : ℕ → Search → ℕ
 steps_left budget s = if s.ended then 0 else 8 * (budget - s.made) + (5 - s.stage)
 
 -- the trial m of the plan held is listed and may be made, and the list goes on behind it
-pub record Ahead (day Ks : List ℕ) (budget : ℕ) (plan starts vehicles distances tracks : List ℕ) (s : Search) (m : Trial) (next : Cursor) : Type 0 where
+pub record Ahead (day Ks : List ℕ) (budget : ℕ) (plan : List ℕ) (tables : Tables) (s : Search) (m : Trial) (next : Cursor) : Type 0 where
   pub rounds : List Round
-  pub held : TakenOver day plan s.words rounds starts vehicles distances tracks s.count
+  pub held : TakenOver day plan s.words rounds tables s.count
   pub drives : s.distance ≡ distance_of day rounds
   pub left : s.made < budget
   pub on : s.ended ≡ false
@@ -124,13 +125,13 @@ pub record Ahead (day Ks : List ℕ) (budget : ℕ) (plan starts vehicles distan
   pub ms : rest_of day (k_at Ks s.stage) rounds s.cursor ≡ m ∷ rest_of day (k_at Ks s.stage) rounds next
   pub valid : Every (Valid day rounds) (rest_of day (k_at Ks s.stage) rounds next)
   pub may_be : Valid day rounds m
-  pub fits : CursorFits starts s.count next
+  pub fits : CursorFits tables.starts s.count next
   pub same : GoesOn day Ks budget rounds s.made s.stage s.cursor
 
-abbrev pub NextTrial : List ℕ → List ℕ → ℕ → List ℕ → List ℕ → List ℕ → List ℕ → List ℕ → Search → Listed → Type 0
-NextTrial day Ks budget plan starts vehicles distances tracks s l = Ahead day Ks budget plan starts vehicles distances tracks s (listed_trial l.trial) l.next
+abbrev pub NextTrial : List ℕ → List ℕ → ℕ → List ℕ → Tables → Search → Listed → Type 0
+NextTrial day Ks budget plan tables s l = Ahead day Ks budget plan tables s (listed_trial l.trial) l.next
 
 -- the greedy plan is held, and no trial is made yet
-abbrev pub BeginsAll : List ℕ → List ℕ → List ℕ → List ℕ → List ℕ → List ℕ → Search → Type 0
-BeginsAll day plan starts vehicles distances tracks s =
-    (Ks : List ℕ) (budget : ℕ) → 0 < length Ks → Searching day Ks budget plan starts vehicles distances tracks s
+abbrev pub BeginsAll : List ℕ → List ℕ → Tables → Search → Type 0
+BeginsAll day plan tables s =
+    (Ks : List ℕ) (budget : ℕ) → 0 < length Ks → Searching day Ks budget plan tables s

@@ -5,12 +5,12 @@ ghost use Rattle.rules.specs.Build.{greedy_rounds};
 ghost use Rattle.rules.specs.Attempts.{distance_of};
 ghost use Rattle.day.specs.Layout.{LayoutOf};
 ghost use Rattle.trial_list.specs.Listing.{PlanTables, CursorFits, ListAnswer};
-ghost use Rattle.tracks.specs.Tables.{tracks_words};
 ghost use Rattle.search_steps.specs.Searches.{PlanAt, SomePlanAt, TakesOver, BeginsAll, sets_of, k_at, ended_by, going_on, at_list, next_list};
 
-use crate::held::{Held, make_tables};
+use crate::held::make_tables;
 use candidates::copy_words;
 use day::fields::Layout;
+use tracks::plan_tables::{Held, Tables};
 use trial_list::listing::{Cursor, Listed, first_trial, next_trial};
 
 // What is asked for: K, whether 5, 10 and 25 come before it, and how many trials may be made.
@@ -42,26 +42,13 @@ pub fn take_over(
     work: &mut [u32],
     words: usize,
     plan: &mut [u32],
-    starts: &mut [u32],
-    vehicles: &mut [u8],
-    driven: &mut [u32],
-    tracks: &mut [u32],
+    tables: &mut Tables,
 ) -> usize
-    requires layout_of { LayoutOf day.now layout × IsAccepted day.now × SomePlanAt day.now work.old words × (5 * layout.stops ≤ length plan.old) × (5 * layout.stops ≤ length work.old) }
-    requires starts_len { (length starts.old ≡ 256) × (length vehicles.old ≡ 256) × (length driven.old ≡ 256) × (length tracks.old ≡ tracks_words) }
-    ensures { TakesOver day.now work.old words plan.new starts.new vehicles.new driven.new tracks.new result }
+    requires { LayoutOf day.now layout × IsAccepted day.now × SomePlanAt day.now work.old words × (5 * layout.stops ≤ length plan.old) × (5 * layout.stops ≤ length work.old) }
+    ensures { TakesOver day.now work.old words plan.new tables.new result }
 {
     copy_words(&work[0..words], plan);
-    make_tables(
-        day,
-        layout,
-        &plan[0..words],
-        starts,
-        vehicles,
-        driven,
-        tracks,
-        work,
-    )
+    make_tables(day, layout, &plan[0..words], tables, work)
 }
 
 // The search has ended.
@@ -165,13 +152,12 @@ pub fn list_next(
     layout: Layout,
     set: Setting,
     table: &[u8],
-    starts: &[u32],
-    vehicles: &[u8],
+    tables: &Tables,
     plan: &[u32],
     s: Search,
 ) -> Listed
-    requires { (s.stage < length (sets_of set)) × PlanTables layout (k_at (sets_of set) s.stage) table.now starts.now vehicles.now (take (s.words - 0) (drop 0 plan.now)) s.count × CursorFits starts.now s.count s.cursor × (s.words ≤ length plan.now) }
-    ensures { ListAnswer layout (k_at (sets_of set) s.stage) table.now starts.now vehicles.now (take (s.words - 0) (drop 0 plan.now)) s.count s.cursor result }
+    requires { (s.stage < length (sets_of set)) × PlanTables layout (k_at (sets_of set) s.stage) table.now tables.now.starts tables.now.vehicles (take (s.words - 0) (drop 0 plan.now)) s.count × CursorFits tables.now.starts s.count s.cursor × (s.words ≤ length plan.now) }
+    ensures { ListAnswer layout (k_at (sets_of set) s.stage) table.now tables.now.starts tables.now.vehicles (take (s.words - 0) (drop 0 plan.now)) s.count s.cursor result }
 {
     let words = s.words;
     let cursor = s.cursor;
@@ -180,8 +166,8 @@ pub fn list_next(
         layout,
         k_at(set, s.stage),
         table,
-        starts,
-        vehicles,
+        &tables.starts,
+        &tables.vehicles,
         s.count,
         held,
         cursor,
@@ -204,18 +190,14 @@ pub fn begin(
     layout: Layout,
     held: Held,
     plan: &[u32],
-    starts: &mut [u32],
-    vehicles: &mut [u8],
-    driven: &mut [u32],
-    tracks: &mut [u32],
+    tables: &mut Tables,
     work: &mut [u32],
 ) -> Search
-    requires layout_of { LayoutOf day.now layout × IsAccepted day.now × PlanAt day.now plan.now held.words (greedy_rounds day.now) × (held.distance ≡ distance_of day.now (greedy_rounds day.now)) × (5 * layout.stops ≤ length work.old) }
-    requires starts_len { (length starts.old ≡ 256) × (length vehicles.old ≡ 256) × (length driven.old ≡ 256) × (length tracks.old ≡ tracks_words) }
-    ensures { BeginsAll day.now plan.now starts.new vehicles.new driven.new tracks.new result }
+    requires { LayoutOf day.now layout × IsAccepted day.now × PlanAt day.now plan.now held.words (greedy_rounds day.now) × (held.distance ≡ distance_of day.now (greedy_rounds day.now)) × (5 * layout.stops ≤ length work.old) }
+    ensures { BeginsAll day.now plan.now tables.new result }
 {
     let words = held.words;
     let front = &plan[0..words];
-    let count = make_tables(day, layout, front, starts, vehicles, driven, tracks, work);
+    let count = make_tables(day, layout, front, tables, work);
     going(words, count, held.distance, 0, 0, first_trial())
 }

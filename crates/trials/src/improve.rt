@@ -11,8 +11,8 @@ use crate::search::run_trials;
 use builder::lefts::fill_zeros;
 use day::fields::Layout;
 use neighbours::table::fill_table;
-use search_steps::held::Held;
 use search_steps::steps::{Search, Setting};
+use tracks::plan_tables::{Held, Tables};
 
 // The plan that the trials come to fills the buffer, with zeros behind it. Neighbours are worked out once, for the greatest K.
 pub fn improve(
@@ -28,10 +28,7 @@ pub fn improve(
     ensures { Improved day.now (sets_of set) set.budget plan.new result }
 {
     let mut table = [0u8; 12050];
-    let mut starts = [0u32; 256];
-    let mut vehicles = [0u8; 256];
-    let mut driven = [0u32; 256];
-    let mut tracks = [0u32; 12266];
+    let mut tables = Tables::new();
     fill_table(day, layout, set.k, &mut table);
     let last = run_trials(
         day,
@@ -41,10 +38,7 @@ pub fn improve(
         &table,
         work,
         plan,
-        &mut starts,
-        &mut vehicles,
-        &mut driven,
-        &mut tracks,
+        &mut tables,
     );
     let end = plan.len();
     fill_zeros(plan, last.words, end);

@@ -8,17 +8,16 @@ ghost use Rattle.day.specs.Layout.{LayoutOf};
 ghost use Rattle.neighbours.specs.Tables.{TableOf};
 ghost use Rattle.edits.specs.EditWords.{EditKnown, EditSmall};
 ghost use Rattle.trial_list.specs.TrialRest.{listed_trial};
-ghost use Rattle.tracks.specs.Tables.{tracks_words};
 ghost use Rattle.attempts.specs.Tries.{Made, SomeMade, TriedAs};
 ghost use Rattle.search_steps.specs.Searches.{PlanAt, NextTrial, Searching, sets_of, SetsFit, steps_left};
 ghost use Rattle.trials.specs.Improvements.{AfterTrial};
 
-use attempts::tries::{Tried, make_trial};
+use attempts::tries::make_trial;
 use day::fields::Layout;
-use search_steps::held::Held;
 use search_steps::steps::{
     Search, Setting, begin, end, going, is_going, list_next, next_list, take_over,
 };
+use tracks::plan_tables::{Held, Tables};
 use trial_list::listing::{Cursor, Listed, Trial, first_trial};
 
 // A trial was made: its plan is taken over where it is kept, and else the list goes on.
@@ -28,25 +27,22 @@ fn after_trial(
     set: Setting,
     work: &mut [u32],
     plan: &mut [u32],
-    starts: &mut [u32],
-    vehicles: &mut [u8],
-    driven: &mut [u32],
-    tracks: &mut [u32],
+    tables: &mut Tables,
     s: Search,
     next: Cursor,
-    tried: Tried,
+    tried: Option<Held>,
 ) -> Search
-    requires { LayoutOf day.now layout × IsAccepted day.now × (5 * layout.stops ≤ length plan.old) × (5 * layout.stops ≤ length work.old) × AfterTrial day.now (sets_of set) set.budget work.old plan.old starts.old vehicles.old driven.old tracks.old s next tried }
-    ensures { Searching day.now (sets_of set) set.budget plan.new starts.new vehicles.new driven.new tracks.new result × (steps_left set.budget result < steps_left set.budget s) }
+    requires { LayoutOf day.now layout × IsAccepted day.now × (5 * layout.stops ≤ length plan.old) × (5 * layout.stops ≤ length work.old) × AfterTrial day.now (sets_of set) set.budget work.old plan.old tables.old s next tried }
+    ensures { Searching day.now (sets_of set) set.budget plan.new tables.new result × (steps_left set.budget result < steps_left set.budget s) }
 {
-    if tried.kept {
-        let words = tried.words;
-        let count = take_over(
-            day, layout, work, words, plan, starts, vehicles, driven, tracks,
-        );
-        return going(words, count, tried.distance, s.made + 1, 0, first_trial());
+    let made = s.made + 1;
+    match tried {
+        Some(held) => {
+            let count = take_over(day, layout, work, held.words, plan, tables);
+            going(held.words, count, held.distance, made, 0, first_trial())
+        }
+        None => going(s.words, s.count, s.distance, made, s.stage, next),
     }
-    going(s.words, s.count, s.distance, s.made + 1, s.stage, next)
 }
 
 // A trial of the plan held is made.
@@ -55,14 +51,12 @@ fn try_next(
     layout: Layout,
     t: Trial,
     plan: &[u32],
-    starts: &[u32],
-    driven: &[u32],
-    tracks: &[u32],
+    tables: &Tables,
     s: Search,
     work: &mut [u32],
-) -> Tried
-    requires { LayoutOf day.now layout × IsAccepted day.now × EditSmall t.edit × EditKnown day.now t.edit × SomeMade day.now (take (s.words - 0) (drop 0 plan.now)) starts.now driven.now tracks.now (listed_trial t) s.count s.distance × (5 * layout.stops ≤ length work.old) × (s.words ≤ length plan.now) }
-    ensures { (rounds : List Round) → Made day.now (take (s.words - 0) (drop 0 plan.now)) starts.now driven.now tracks.now (listed_trial t) s.count s.distance rounds → TriedAs day.now (listed_trial t) rounds work.new result }
+) -> Option<Held>
+    requires { LayoutOf day.now layout × IsAccepted day.now × EditSmall t.edit × EditKnown day.now t.edit × SomeMade day.now (take (s.words - 0) (drop 0 plan.now)) tables.now (listed_trial t) s.count s.distance × (5 * layout.stops ≤ length work.old) × (s.words ≤ length plan.now) }
+    ensures { (rounds : List Round) → Made day.now (take (s.words - 0) (drop 0 plan.now)) tables.now (listed_trial t) s.count s.distance rounds → TriedAs day.now (listed_trial t) rounds work.new result }
 {
     let words = s.words;
     make_trial(
@@ -70,9 +64,7 @@ fn try_next(
         layout,
         t,
         &plan[0..words],
-        starts,
-        driven,
-        tracks,
+        tables,
         s.count,
         s.distance,
         work,
@@ -86,22 +78,17 @@ fn step_on(
     set: Setting,
     work: &mut [u32],
     plan: &mut [u32],
-    starts: &mut [u32],
-    vehicles: &mut [u8],
-    driven: &mut [u32],
-    tracks: &mut [u32],
+    tables: &mut Tables,
     s: Search,
     listed: Listed,
 ) -> Search
-    requires { LayoutOf day.now layout × IsAccepted day.now × (5 * layout.stops ≤ length work.old) × (5 * layout.stops ≤ length plan.old) × NextTrial day.now (sets_of set) set.budget plan.old starts.old vehicles.old driven.old tracks.old s listed }
-    ensures { Searching day.now (sets_of set) set.budget plan.new starts.new vehicles.new driven.new tracks.new result × (steps_left set.budget result < steps_left set.budget s) }
+    requires { LayoutOf day.now layout × IsAccepted day.now × (5 * layout.stops ≤ length work.old) × (5 * layout.stops ≤ length plan.old) × NextTrial day.now (sets_of set) set.budget plan.old tables.old s listed }
+    ensures { Searching day.now (sets_of set) set.budget plan.new tables.new result × (steps_left set.budget result < steps_left set.budget s) }
 {
     let t = listed.trial;
     let next = listed.next;
-    let tried = try_next(day, layout, t, plan, starts, driven, tracks, s, work);
-    after_trial(
-        day, layout, set, work, plan, starts, vehicles, driven, tracks, s, next, tried,
-    )
+    let tried = try_next(day, layout, t, plan, tables, s, work);
+    after_trial(day, layout, set, work, plan, tables, s, next, tried)
 }
 
 // The next trial is made, or the search ends, not settled, once the budget is gone; at the end of a list that of the next K begins, or the
@@ -113,24 +100,19 @@ fn next_step(
     table: &[u8],
     work: &mut [u32],
     plan: &mut [u32],
-    starts: &mut [u32],
-    vehicles: &mut [u8],
-    driven: &mut [u32],
-    tracks: &mut [u32],
+    tables: &mut Tables,
     s: Search,
 ) -> Search
     requires layout_of { LayoutOf day.now layout × IsAccepted day.now × SetsFit set × TableOf day.now set.k table.now × (5 * layout.stops ≤ length work.old) × (5 * layout.stops ≤ length plan.old) }
-    requires searching { Searching day.now (sets_of set) set.budget plan.old starts.old vehicles.old driven.old tracks.old s × (s.ended ≡ false) }
-    ensures { Searching day.now (sets_of set) set.budget plan.new starts.new vehicles.new driven.new tracks.new result × (steps_left set.budget result < steps_left set.budget s) }
+    requires searching { Searching day.now (sets_of set) set.budget plan.old tables.old s × (s.ended ≡ false) }
+    ensures { Searching day.now (sets_of set) set.budget plan.new tables.new result × (steps_left set.budget result < steps_left set.budget s) }
 {
-    let listed = list_next(layout, set, table, starts, vehicles, plan, s);
+    let listed = list_next(layout, set, table, tables, plan, s);
     if listed.found {
         if s.made == set.budget {
             return end(s, false);
         }
-        return step_on(
-            day, layout, set, work, plan, starts, vehicles, driven, tracks, s, listed,
-        );
+        return step_on(day, layout, set, work, plan, tables, s, listed);
     }
     next_list(set, s)
 }
@@ -144,23 +126,15 @@ pub(crate) fn run_trials(
     table: &[u8],
     work: &mut [u32],
     plan: &mut [u32],
-    starts: &mut [u32],
-    vehicles: &mut [u8],
-    driven: &mut [u32],
-    tracks: &mut [u32],
+    tables: &mut Tables,
 ) -> Search
     requires layout_of { LayoutOf day.now layout × IsAccepted day.now × SetsFit set × TableOf day.now set.k table.now × (5 * layout.stops ≤ length work.old) × (5 * layout.stops ≤ length plan.old) }
     requires plan_at { PlanAt day.now plan.old held.words (greedy_rounds day.now) × (held.distance ≡ distance_of day.now (greedy_rounds day.now)) }
-    requires starts_len { (length starts.old ≡ 256) × (length vehicles.old ≡ 256) × (length driven.old ≡ 256) × (length tracks.old ≡ tracks_words) }
-    ensures { Searching day.now (sets_of set) set.budget plan.new starts.new vehicles.new driven.new tracks.new result × (result.ended ≡ true) }
+    ensures { Searching day.now (sets_of set) set.budget plan.new tables.new result × (result.ended ≡ true) }
 {
-    let mut s = begin(
-        day, layout, held, plan, starts, vehicles, driven, tracks, work,
-    );
+    let mut s = begin(day, layout, held, plan, tables, work);
     while is_going(s) {
-        s = next_step(
-            day, layout, set, table, work, plan, starts, vehicles, driven, tracks, s,
-        );
+        s = next_step(day, layout, set, table, work, plan, tables, s);
     }
     s
 }

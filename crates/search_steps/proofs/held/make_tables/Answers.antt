@@ -6,9 +6,8 @@ use Rattle.search_steps.proofs.held.make_tables.Goals as goal
 pub survey-count-requires-clause-layout_of : goal.survey-count-requires-clause-layout_of
 survey-count-requires-clause-layout_of c = search (rules, held_short, held_plan)
 
-pub track-requires-clause-layout_of : goal.track-requires-clause-layout_of
-track-requires-clause-layout_of c = let p = c.requires in
-    (p.layout_of.0, p.layout_of.1, held_trackable p.layout_of.1 p.layout_of.2 p.layout_of.0 p.layout_of.3 c.survey-count.ensures)
+pub track-requires : goal.track-requires
+track-requires c = let p = c.requires in (p.0, p.1, held_trackable p.1 p.2 p.0 p.3 c.survey-count.ensures)
 
 pub returns : goal.returns
 returns c = search tables_made

@@ -3,5 +3,5 @@ use Rattle.search_steps.proofs.BeginLaws.{begins}
 use Rattle.search_steps.proofs.steps.begin.Goals as goal
 
 pub returns : goal.returns
-returns c = let p = c.requires.layout_of in
+returns c = let p = c.requires in
     begins p.2 c.make_tables-count.ensures p.3 c.first_trial.ensures c.going.ensures

@@ -8,10 +8,10 @@ copy_words-requires c = search copy_fits
 pub slice_bounds-make_tables-end : goal.slice_bounds-make_tables-end
 slice_bounds-make_tables-end c = search copied_fits
 
-pub make_tables-requires-clause-layout_of : goal.make_tables-requires-clause-layout_of
-make_tables-requires-clause-layout_of c = let p = c.requires in
-    (p.layout_of.0, p.layout_of.1, copied_held _ p.layout_of.0 p.layout_of.3 c.copy_words.ensures p.layout_of.2, p.layout_of.4)
+pub make_tables-requires : goal.make_tables-requires
+make_tables-requires c = let p = c.requires in
+    (p.0, p.1, copied_held _ p.0 p.3 c.copy_words.ensures p.2, p.4)
 
 pub returns : goal.returns
-returns c = let p = c.requires.layout_of in
+returns c = let p = c.requires in
     takes_over _ p.0 p.3 c.copy_words.ensures c.make_tables.ensures

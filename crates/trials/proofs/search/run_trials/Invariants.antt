@@ -5,7 +5,7 @@ use Rattle.search_steps.specs.Searches.{Searching, sets_of, steps_left}
 use Rattle.trials.proofs.search.run_trials.Given as goal
 
 abbrev pub invariant-loop-layout : goal.invariant-loop-layout
-invariant-loop-layout l = Searching l.day (sets_of l.set) l.set.budget l.plan l.starts l.vehicles l.driven l.tracks l.s × (length l.plan ≡ length l.initial.plan) × (length l.work ≡ length l.initial.work)
+invariant-loop-layout l = Searching l.day (sets_of l.set) l.set.budget l.plan l.tables l.s × (length l.plan ≡ length l.initial.plan) × (length l.work ≡ length l.initial.work)
 
 abbrev pub decreases-loop-layout : goal.decreases-loop-layout
 decreases-loop-layout l = steps_left l.set.budget l.s
