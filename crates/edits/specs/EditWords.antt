@@ -1,9 +1,11 @@
 -- An edit as the code names it, and what it makes of a task's word. It serves the contracts of the functions that make trials.
 -- Assumes nothing.
-use Rattle.std.specs.Prelude.{ℕ, ◌<◌, ◌≡◌, List, [], ◌∷◌, ◌++◌}
+use Rattle.std.specs.Prelude.{ℕ, ◌<◌, List, [], ◌∷◌}
 use Rattle.rules.specs.PlanWords.{stop_word, tip_word}
 use Rattle.rules.specs.Plan.{Task, serve, empty, Round, Known}
 use Rattle.rules.specs.Edits.{Edit, before, after, swap, remove, replace, change, Trial, on_two}
+use Rattle.edits.specs.declared.Change.{Change}
+use Rattle.edits.specs.declared.Change.TheVariants.{Gone, One, Two}
 use Rattle.edits.specs.declared.Edit as Code
 use Rattle.edits.specs.declared.Edit.TheVariants as Edits
 
@@ -38,16 +40,17 @@ EditSmall (Edits.Swap i j) = (i < 256) × (j < 256)
 EditSmall (Edits.Remove at) = Unit {0}
 EditSmall (Edits.Replace at x) = x < 256
 
--- a word that is walked, 0 for none
-pub data Means (day : List ℕ) : ℕ → Round → Type 0 where
-  nothing : Means day 0 []
-  a_stop : (k : ℕ) → Known day (serve k) → Means day (stop_word k) (serve k ∷ [])
-  a_tip : (x : ℕ) → Known day (empty x) → Means day (tip_word x) (empty x ∷ [])
+-- a word that is walked, of a stop or a tip
+pub data Means (day : List ℕ) : ℕ → Task → Type 0 where
+  a_stop : (k : ℕ) → Known day (serve k) → Means day (stop_word k) (serve k)
+  a_tip : (x : ℕ) → Known day (empty x) → Means day (tip_word x) (empty x)
 
--- what becomes of a task, as two words
-pub record Becomes (day : List ℕ) (e : Edit) (t : ℕ) (task : Task) (first second : ℕ) : Type 0 where
-  pub one : Round
-  pub two : Round
-  pub one_is : Means day first one
-  pub two_is : Means day second two
-  pub same : one ++ two ≡ change e t task
+-- the words that there are now, and their tasks
+pub data Makes (day : List ℕ) : Change → Round → Type 0 where
+  makes_none : Makes day Gone []
+  makes_one : (w : ℕ) (task : Task) → Means day w task → Makes day (One w) (task ∷ [])
+  makes_two : (v w : ℕ) (first second : Task) → Means day v first → Means day w second → Makes day (Two v w) (first ∷ second ∷ [])
+
+-- what becomes of a task, as words
+abbrev pub Becomes : List ℕ → Edit → ℕ → Task → Change → Type 0
+Becomes day e t task made = Makes day made (change e t task)

@@ -18,100 +18,72 @@ pub enum Edit {
     Replace { at: usize, tip: u32 },
 }
 
-// What a word becomes: two words, 0 for none.
+// What a word becomes: no word, one, or two.
 #[derive(Clone, Copy)]
-pub struct Change {
-    pub first: u32,
-    pub second: u32,
+pub enum Change {
+    Gone,
+    One(u32),
+    Two(u32, u32),
 }
 
 // A word that is moved is dropped, and the one that it is moved to becomes both.
-fn move_word(w: u32, moved: u32, stop: u32, first: u32, second: u32) -> Change
-    ensures { (result.first ≡ (if eqb w moved then 0 else if eqb w stop then first else w)) × (result.second ≡ (if eqb w moved then 0 else if eqb w stop then second else 0)) }
+fn move_word(word: u32, moved: u32, stop: u32, both: Change) -> Change
+    ensures { result ≡ (if eqb word moved then Change.Gone else if eqb word stop then both else Change.One word) }
 {
-    if w == moved {
-        return Change {
-            first: 0,
-            second: 0,
-        };
-    }
-    if w == stop {
-        return Change { first, second };
-    }
-    Change {
-        first: w,
-        second: 0,
+    if word == moved {
+        Change::Gone
+    } else if word == stop {
+        both
+    } else {
+        Change::One(word)
     }
 }
 
 // Two words are interchanged.
-fn swap_word(w: u32, stop: u32, other: u32) -> Change
-    ensures { (result.first ≡ (if eqb w stop then other else if eqb w other then stop else w)) × (result.second ≡ 0) }
+fn swap_word(word: u32, stop: u32, other: u32) -> u32
+    ensures { result ≡ (if eqb word stop then other else if eqb word other then stop else word) }
 {
-    if w == stop {
-        return Change {
-            first: other,
-            second: 0,
-        };
-    }
-    if w == other {
-        return Change {
-            first: stop,
-            second: 0,
-        };
-    }
-    Change {
-        first: w,
-        second: 0,
+    if word == stop {
+        other
+    } else if word == other {
+        stop
+    } else {
+        word
     }
 }
 
-// The tip that is task number `at` gives way to another word, or to none.
-fn tip_word(w: u32, t: usize, at: usize, other: u32) -> Change
-    ensures { (result.first ≡ (if eqb t at && leb (tip_word 0) w then other else w)) × (result.second ≡ 0) }
+// The tip that is task number `at` gives way.
+fn tip_word(word: u32, task: usize, at: usize, other: Change) -> Change
+    ensures { result ≡ (if eqb task at && leb (tip_word 0) word then other else Change.One word) }
 {
-    if t == at {
-        if TIP <= w {
-            return Change {
-                first: other,
-                second: 0,
-            };
-        }
-        return Change {
-            first: w,
-            second: 0,
-        };
-    }
-    Change {
-        first: w,
-        second: 0,
+    if (task == at) & (TIP <= word) {
+        other
+    } else {
+        Change::One(word)
     }
 }
 
-// What the word of task number t becomes; a rest is taken off.
-pub fn change_word(e: Edit, t: usize, w: u32) -> Change
-    requires { EditSmall e }
-    ensures { (day : List ℕ) (task : Task) → EditKnown day e → w ≡ task_word task → Known day task → Becomes day (edit_of e) t task result.first result.second }
+// What the word of a task becomes, by the task's number; a rest is taken off.
+pub fn change_word(edit: Edit, task: usize, word: u32) -> Change
+    requires { EditSmall edit }
+    ensures { (day : List ℕ) (t : Task) → EditKnown day edit → word ≡ task_word t → Known day t → Becomes day (edit_of edit) task t result }
 {
-    if w == REST {
-        return Change {
-            first: 0,
-            second: 0,
-        };
+    if word == REST {
+        return Change::Gone;
     }
-    match e {
+    match edit {
         Edit::Before { stop, moved } => {
             let i = STOP + stop;
             let j = STOP + moved;
-            move_word(w, j, i, j, i)
+            move_word(word, j, i, Change::Two(j, i))
         }
         Edit::After { stop, moved } => {
             let i = STOP + stop;
             let j = STOP + moved;
-            move_word(w, j, i, i, j)
+            move_word(word, j, i, Change::Two(i, j))
         }
-        Edit::Swap { stop, other } => swap_word(w, STOP + stop, STOP + other),
-        Edit::Remove { at } => tip_word(w, t, at, 0),
-        Edit::Replace { at, tip } => tip_word(w, t, at, TIP + tip),
+        Edit::Swap { stop, other } => Change::One(swap_word(word, STOP + stop, STOP + other)),
+        Edit::Remove { at } => tip_word(word, task, at, Change::Gone),
+        Edit::Replace { at, tip } => tip_word(word, task, at, Change::One(TIP + tip)),
     }
 }
