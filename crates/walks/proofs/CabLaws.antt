@@ -4,10 +4,11 @@ use mathlib.Core.Path.{◌≡◌, refl, sym, ap, ◌∙◌, subst}
 use mathlib.Core.Bool.{Bool, true, false}
 use mathlib.Core.List.{List, [], ◌∷◌, ◌++◌, map-append, append_assoc}
 use mathlib.Core.Option.{some}
+use Rattle.std.specs.Prelude.{Some, None}
 use native.Mathlib.Omega.{arith}
 use lib.ListN.{length, length-append, length-map, set}
 use borrow.Author.Tests.{ne_eqb}
-use Rattle.rules.specs.Fields.{stops, places, stop_place, quantity, IsAccepted}
+use Rattle.rules.specs.Fields.{stops, tips, places, stop_place, quantity, IsAccepted}
 use Rattle.rules.specs.PlanWords.{vehicle_word, stop_word, tip_word, rest_word}
 use Rattle.rules.specs.Plan.{Task, serve, empty, lunch, Round, task_word, stops_on}
 use Rattle.rules.specs.Cargo.{cargo_after}
@@ -19,8 +20,6 @@ use Rattle.rules.specs.declared.walk.Trip.{Trip}
 use Rattle.laws.proofs.Buffer.{wrote_put, wrote_same}
 use Rattle.laws.proofs.Decided.{bit_most}
 use Rattle.laws.proofs.Plan.{stops_append}
-use Rattle.day.specs.Layout.{LayoutOf}
-use Rattle.day.specs.declared.fields.Layout.{Layout}
 use Rattle.day.proofs.Ranges.{accepted_ranges}
 use Rattle.trips.specs.Trips.{SmallTrip}
 use Rattle.greedy_laws.specs.Rooms.{Paid}
@@ -54,7 +53,7 @@ pub standing_fewer : {day : List ℕ} {start : Start} {most more less : ℕ} {p 
 standing_fewer l s =
     let r = s.riding in
     record {
-      riding = record { going = r.going; trip_is = r.trip_is; load_is = r.load_is; able = r.able; few = omega (arith, r.few); limit = r.limit };
+      riding = record { trip_is = r.trip_is; load_is = r.load_is; able = r.able; few = omega (arith, r.few); limit = r.limit };
       since = s.since;
       tasks = s.tasks;
       text = s.text;
@@ -88,7 +87,7 @@ module _ {day : List ℕ} {start : Start} {most more : ℕ} {p part : List ℕ} 
       }
 
 -- a vehicle on its way is standing
-pub on_road_lem : {day : List ℕ} {start : Start} {most more : ℕ} {p part : List ℕ} {v : Truck} {c : Cab} → Stands day start most more p part (some v) c
+pub on_road_lem : {day : List ℕ} {start : Start} {most more : ℕ} {p part : List ℕ} {v : Truck} {c : Cab} → Stands day start most more p part (some v) (Some c)
     → Standing day start most more p part v c
 on_road_lem (on_road v c s) = s
 
@@ -110,16 +109,16 @@ able_doing day v task a place minute distance load paid =
 
 -- a task done behind the others: its word is written, and the code carries the trip and the load
 abbrev drove : Cab → Trip → ℕ → Cab
-drove c trip load = record { trip = trip; load = load; at = c.at + 1; stuck = false }
+drove c trip load = record { trip = trip; load = load; at = c.at + 1 }
 
 module _ {day : List ℕ} {start : Start} {most more less : ℕ} {p part : List ℕ} {v : Truck} {c : Cab} (s : Standing day start most more p part v c) where
   stands_more : (task : Task) {trip : Trip} {load : ℕ} → trip ≡ (doing day v task).trip → load ≡ (doing day v task).cargo.load
       → Able day (doing day v task) → (doing day v task).cargo.visits + less ≤ most
-      → Stands day start most less p (set part c.at (task_word task)) (some (doing day v task)) (drove c trip load)
+      → Stands day start most less p (set part c.at (task_word task)) (some (doing day v task)) (Some (drove c trip load))
   stands_more task t l a few =
       let written = wrote_put s.text (task_word task) (omega (arith, (standing_space s).inside, s.text.size)) in
       on_road _ _ (record {
-        riding = record { going = refl; trip_is = t; load_is = l; able = a; few = few; limit = s.riding.limit };
+        riding = record { trip_is = t; load_is = l; able = a; few = few; limit = s.riding.limit };
         since = s.since ++ (task ∷ []);
         tasks = ap (λ (ts : Round). ts ++ (task ∷ [])) s.tasks ∙ append_assoc start.done s.since (task ∷ []);
         text = wrote_same written (ap (λ (ws : List ℕ). vehicle_word start.number ∷ ws) (sym (map-append task_word s.since (task ∷ [])))) refl;
@@ -129,7 +128,7 @@ module _ {day : List ℕ} {start : Start} {most more less : ℕ} {p part : List 
 -- a rest is taken where one is due
 module _ {day part : List ℕ} (c : Cab) {isDue : Bool} (decided : isDue ≡ due day c.trip) where
   pub rest_drives : {trip : Trip} → IsAccepted day → isDue ≡ true → trip ≡ rest_if_due day c.trip
-      → Drives day 0 part c (λ v. some (resting day v)) (set part c.at rest_word) (drove c trip c.load)
+      → Drives day 0 part c (λ v. some (resting day v)) (set part c.at rest_word) (Some (drove c trip c.load))
   unfolding rest_if_due resting task_word cargo_after
   rest_drives ok y t start most more p v s =
       let r = s.riding in
@@ -138,53 +137,52 @@ module _ {day part : List ℕ} (c : Cab) {isDue : Bool} (decided : isDue ≡ due
       let able = able_doing day v lunch r.able r.able.place (omega (arith, (accepted_ranges day ok).rest_most)) (omega arith) (omega arith) (paid_rest day v e r.able.paid) in
       rw e (stands_more s lunch (t ∙ rw (d, r.trip_is) refl) r.load_is able (omega (arith, r.few)))
 
-  pub keep_drives : isDue ≡ false → Drives day 0 part c (λ v. some (resting day v)) part c
+  pub keep_drives : isDue ≡ false → Drives day 0 part c (λ v. some (resting day v)) part (Some c)
   unfolding resting
   keep_drives n start most more p v s =
       let e : due day v.trip ≡ false = ap (due day) (sym s.riding.trip_is) ∙ sym decided ∙ n in
       rw e (on_road v c (standing_fewer (omega arith) s))
 
 -- the load is emptied at a tip, and a stop is served
-module _ {day part : List ℕ} {layout : Layout} (c : Cab) (laid : LayoutOf day layout) (ok : IsAccepted day) where
-  pub empty_drives : (x : ℕ) {trip : Trip} → 0 < c.load → 0 < x → x ≤ layout.tips → trip ≡ visited day c.trip x
-      → Drives day 0 part c (λ v. some (doing day v (empty x))) (set part c.at (tip_word x)) (drove c trip 0)
+module _ {day part : List ℕ} (c : Cab) (ok : IsAccepted day) where
+  pub empty_drives : (x : ℕ) {trip : Trip} → 0 < c.load → 0 < x → x ≤ tips day → trip ≡ visited day c.trip x
+      → Drives day 0 part c (λ v. some (doing day v (empty x))) (set part c.at (tip_word x)) (Some (drove c trip 0))
   unfolding task_word cargo_after
   empty_drives x q h k t start most more p v s =
       let r = s.riding in
-      let service = (accepted_ranges day ok).service_most x h (omega (arith, laid.tips_are)) in
-      let able = able_doing day v (empty x) r.able (omega (arith, laid.tips_are)) (omega (arith, service)) (omega arith) (omega arith) (paid_empty day v x (omega (arith, r.load_is)) r.able.paid) in
+      let service = (accepted_ranges day ok).service_most x h (omega arith) in
+      let able = able_doing day v (empty x) r.able (omega arith) (omega (arith, service)) (omega arith) (omega arith) (paid_empty day v x (omega (arith, r.load_is)) r.able.paid) in
       stands_more s (empty x) (t ∙ ap (λ (u : Trip). visited day u x) r.trip_is) refl able (omega (arith, r.few))
 
-  pub serve_drives : (k : ℕ) {trip : Trip} {kg : ℕ} → 0 < k → k ≤ layout.stops → trip ≡ visited day c.trip (stop_place day k)
-      → kg ≡ quantity day (stop_place day k) → Drives day 1 part c (λ v. some (doing day v (serve k))) (set part c.at (stop_word k)) (drove c trip (c.load + kg))
+  pub serve_drives : (k : ℕ) {trip : Trip} {kg : ℕ} → 0 < k → k ≤ stops day → trip ≡ visited day c.trip (stop_place day k)
+      → kg ≡ quantity day (stop_place day k) → Drives day 1 part c (λ v. some (doing day v (serve k))) (set part c.at (stop_word k)) (Some (drove c trip (c.load + kg)))
   unfolding task_word cargo_after
   serve_drives k h b t q start most more p v s =
       let r = s.riding in
       let ranges = accepted_ranges day ok in
-      let within : k ≤ stops day = omega (arith, laid.stops_are) in
-      let able = able_doing day v (serve k) r.able (omega arith) (omega (arith, ranges.service_most (stop_place day k) (omega arith) (omega arith))) (omega arith) (omega (arith, ranges.quantity_most k h within)) (paid_serve day v k r.able.paid) in
+      let able = able_doing day v (serve k) r.able (omega arith) (omega (arith, ranges.service_most (stop_place day k) (omega arith) (omega arith))) (omega arith) (omega (arith, ranges.quantity_most k h b)) (paid_serve day v k r.able.paid) in
       stands_more s (serve k) (t ∙ ap (λ (u : Trip). visited day u (stop_place day k)) r.trip_is) (omega (arith, q, r.load_is)) able (omega (arith, r.few))
 
 -- the nearest tip is inserted: there is none, or it is driven to and a rest taken where one is due
-pub insert_fails : {day part : List ℕ} (c r : Cab) {x : ℕ} → x ≡ nearest_tip day c.trip.place c.trip.minute → x ≡ 0 → r.stuck ≡ true
-    → Drives day 0 part c (λ v. inserting day v (nearest_tip day v.trip.place v.trip.minute)) part r
+pub insert_fails : {day part : List ℕ} (c : Cab) → 0 ≡ nearest_tip day c.trip.place c.trip.minute
+    → Drives day 0 part c (λ v. inserting day v (nearest_tip day v.trip.place v.trip.minute)) part None
 unfolding inserting
-insert_fails {day} c r e z g start most more p v s =
-    let n : nearest_tip day v.trip.place v.trip.minute ≡ 0 = ap (λ (t : Trip). nearest_tip day t.place t.minute) (sym s.riding.trip_is) ∙ sym e ∙ z in
-    rw n (failed r g s.text.size)
+insert_fails {day} c e start most more p v s =
+    let n : nearest_tip day v.trip.place v.trip.minute ≡ 0 = ap (λ (t : Trip). nearest_tip day t.place t.minute) (sym s.riding.trip_is) ∙ sym e in
+    rw n (failed s.text.size)
 
-pub insert_drives : {day part mid now : List ℕ} (c e r : Cab) {x : ℕ} → x ≡ nearest_tip day c.trip.place c.trip.minute → (x ≡ 0 → ⊥)
-    → Drives day 0 part c (λ v. some (doing day v (empty x))) mid e → Drives day 0 mid e (λ v. some (resting day v)) now r
-    → Drives day 0 part c (λ v. inserting day v (nearest_tip day v.trip.place v.trip.minute)) now r
+pub insert_drives : {day part mid now : List ℕ} (c e r : Cab) {x : ℕ} → x ≡ nearest_tip day c.trip.place c.trip.minute → 0 < x
+    → Drives day 0 part c (λ v. some (doing day v (empty x))) mid (Some e) → Drives day 0 mid e (λ v. some (resting day v)) now (Some r)
+    → Drives day 0 part c (λ v. inserting day v (nearest_tip day v.trip.place v.trip.minute)) now (Some r)
 unfolding inserting
 insert_drives {day} c e r {x} q z f g start most more p v s =
     let n : nearest_tip day v.trip.place v.trip.minute ≡ x = ap (λ (t : Trip). nearest_tip day t.place t.minute) (sym s.riding.trip_is) ∙ sym q in
-    rw (n, ne_eqb x 0 z) (g start most more p _ (standing_fewer (omega arith) (on_road_lem (f start most more p v s))))
+    rw (n, ne_eqb x 0 (λ y. omega (arith, y))) (g start most more p _ (standing_fewer (omega arith) (on_road_lem (f start most more p v s))))
 
 -- there is still a vehicle behind a task that cannot fail, and so behind a rest
 module _ {day part now : List ℕ} {c e : Cab} {least : ℕ} (s : SomeStanding day least part c) where
-  pub some_still : (f : Truck → Truck) → Drives day 0 part c (λ v. some (f v)) now e → SomeStanding day least now e
+  pub some_still : (f : Truck → Truck) → Drives day 0 part c (λ v. some (f v)) now (Some e) → SomeStanding day least now e
   some_still f d = some_standing s.enough (on_road_lem (d s.start s.most s.more s.p s.v (standing_fewer (omega arith) s.standing)))
 
-  pub some_rested : Drives day 0 part c (λ v. some (resting day v)) now e → SomeStanding day least now e
+  pub some_rested : Drives day 0 part c (λ v. some (resting day v)) now (Some e) → SomeStanding day least now e
   some_rested = some_still (resting day)

@@ -1,11 +1,12 @@
 -- The way back of a vehicle that is walked again. Assumes nothing.
-use Prim.Native.Nat.{ℕ, ◌+◌, ◌-◌, ◌≤◌}
+use Prim.Native.Nat.{ℕ, ◌+◌, ◌-◌, ◌≤◌, ◌<◌}
 use mathlib.Core.Path.{◌≡◌, sym, ap, ◌∙◌, refl, subst}
-use mathlib.Core.Bool.{true, false, true≢false}
 use mathlib.Core.List.{List, [], ◌∷◌, ◌++◌, map}
-use mathlib.Core.Option.{Option, none, some, none-ne-some}
+use mathlib.Core.Option as maybe
+use mathlib.Core.Option.{none, some, none-ne-some}
 use native.Mathlib.Omega.{arith}
-use lib.ListN.{length, set}
+use lib.ListN.{length, set, get_or}
+use Rattle.std.specs.Prelude.{Option, Some, None}
 use Rattle.rules.specs.Lists.{Every}
 use Rattle.rules.specs.Fields.{leg_distance}
 use Rattle.rules.specs.PlanWords.{vehicle_word, back_word}
@@ -17,44 +18,31 @@ use Rattle.rules.specs.Attempts.{walk_on, walk_home, done_by, walked_again}
 use Rattle.rules.specs.declared.walk.Trip.{Trip}
 use Rattle.laws.specs.Buffer.{Wrote}
 use Rattle.laws.proofs.Buffer.{wrote_put, wrote_same}
-use Rattle.walks.specs.Cabs.{Start, at_depot, SomeStanding, Drives}
-use Rattle.walks.specs.Rewalks.{Walkable, Through, SomeDone, BackAs, ComesBack, Again, AgainAs, WalkedAs}
+use Rattle.walks.specs.Cabs.{Start, at_depot, failed, on_road, SomeStanding, Drives}
+use Rattle.walks.specs.Rewalks.{WalksTask, Walkable, Midway, Through, Back, BackAs, ComesBack, Again, AgainAs, WalkedAs}
 use Rattle.walks.specs.declared.cabs.Cab.{Cab}
 use Rattle.walks.specs.declared.vehicle.Walked.{Walked}
 use Rattle.walks.proofs.CabLaws.{standing_fewer, standing_space, some_standing}
+use Rattle.walks.proofs.MidwayLaws.{midway_fails, midway_size, midway_done, midway_whole}
 use Rattle.walks.proofs.WalkLaws.{stands_goes, stands_failed}
 use Rattle.walks.proofs.Walking.{walked_on, walked_home, walked_distance}
 
--- the vehicle before its way back
-pub done_standing : {day part : List ℕ} {c : Cab} → SomeDone day part c → c.stuck ≡ false → SomeStanding day 0 part c
-done_standing s g = some_standing (omega arith) (stands_goes s.o s.stands g).standing
-
--- a trial that has failed among the tasks, and on the way back
-pub back_failed : {day part : List ℕ} {c : Cab} (r : Walked) → c.stuck ≡ true → r.stuck ≡ true → ComesBack day part c part r
-unfolding walk_home
-back_failed r g s start most p o h =
-    let f = stands_failed o h g in
-    record { size = f.1; failed = λ _. rw f.0 refl; back = λ n. absurd (true≢false (sym s ∙ n)) }
-
-pub back_fails : {day part now : List ℕ} {c b : Cab} (r : Walked) → c.stuck ≡ false → Drives day 0 part c (λ v. walk_home day (some v)) now b → b.stuck ≡ true → r.stuck ≡ true
-    → ComesBack day part c now r
-back_fails {day} r g d q s start most p o h =
-    let t = stands_goes o h g in
-    let f = stands_failed (walk_home day (some t.v)) (d start most 0 p t.v (standing_fewer (omega arith) t.standing)) q in
-    record { size = f.1; failed = λ _. rw (t.is, f.0) refl; back = λ n. absurd (true≢false (sym s ∙ n)) }
+-- the trial fails on the way back
+pub back_fails : {day part now : List ℕ} {c : Cab} → Drives day 0 part c (λ v. walk_home day (some v)) now None → ComesBack day part c now None
+back_fails {day} d start most p v s =
+    let f = stands_failed (walk_home day (some v)) (d start most 0 p v (standing_fewer (omega arith) s)) in
+    record { size = f.1; back = f.0 }
 
 -- the vehicle is back
-pub back_comes : {day part now : List ℕ} {c b : Cab} {leg : ℕ} (r : Walked) → c.stuck ≡ false → Drives day 0 part c (λ v. walk_home day (some v)) now b → b.stuck ≡ false
-    → leg ≡ leg_distance day b.trip.place 0 → r.stuck ≡ false → r.words ≡ b.at + 1 → r.distance ≡ b.trip.distance + leg → ComesBack day part c now r
-back_comes {day} {b = b} r g d q k s n l start most p o h =
-    let t = stands_goes o h g in
-    let f = stands_goes (walk_home day (some t.v)) (d start most 0 p t.v (standing_fewer (omega arith) t.standing)) q in
+pub back_comes : {day part now : List ℕ} {c b : Cab} {leg : ℕ} (r : Walked) → Drives day 0 part c (λ v. walk_home day (some v)) now (Some b)
+    → leg ≡ leg_distance day b.trip.place 0 → r.words ≡ b.at + 1 → r.distance ≡ b.trip.distance + leg → ComesBack day part c now (Some r)
+back_comes {day} {b = b} r d k n l start most p v s =
+    let f = stands_goes (walk_home day (some v)) (d start most 0 p v (standing_fewer (omega arith) s)) in
     record {
       size = f.standing.text.size;
-      failed = λ y. absurd (true≢false (sym y ∙ s));
-      back = λ _. record {
+      back = record {
         v = f.v;
-        is = ap (walk_home day) t.is ∙ f.is;
+        is = f.is;
         cab = b;
         standing = f.standing;
         words = n;
@@ -64,7 +52,7 @@ back_comes {day} {b = b} r g d q k s n l start most p o h =
     }
 
 -- how far a vehicle that is back drives
-home_drives : (day : List ℕ) (tasks : Round) (o : Option Truck) (u : Truck) → Every (Known day) tasks → walk_on day tasks (some (fresh day [])) ≡ o → walk_home day o ≡ some u
+home_drives : (day : List ℕ) (tasks : Round) (o : maybe.Option Truck) (u : Truck) → Every (Known day) tasks → walk_on day tasks (some (fresh day [])) ≡ o → walk_home day o ≡ some u
     → u.trip.distance + leg_distance day u.trip.place 0 ≡ distance_from day 0 u.tasks
 unfolding walk_home
 home_drives day tasks none u k e h = absurd (none-ne-some u h)
@@ -81,44 +69,69 @@ unfolding walked_again done_by
 again_none day tasks h = ap done_by h
 
 -- what a vehicle that was walked again comes to, once it is back
-pub again_back : (day : List ℕ) (tasks : Round) {start : Start} {most : ℕ} {p part : List ℕ} {r : Walked} → Every (Known day) tasks
-    → BackAs day start most p part (walk_on day tasks (some (fresh day []))) r → AgainAs day tasks r
-again_back day tasks k b =
-    record {
-      failed = λ y. again_none day tasks (b.failed y);
-      again = λ n. let u = b.back n in again_by day tasks u.v k u.is u.distance;
-    }
+pub again_back : (day : List ℕ) (tasks : Round) {start : Start} {most : ℕ} {p part : List ℕ} (o : maybe.Option Truck) (r : Option Walked) → Every (Known day) tasks
+    → walk_on day tasks (some (fresh day [])) ≡ o → BackAs day start most p part o r → AgainAs day tasks r
+again_back day tasks o None k e b = again_none day tasks (ap (walk_home day) e ∙ b.back)
+again_back day tasks o (Some r) k e b = again_by day tasks b.back.v k (ap (walk_home day) e ∙ b.back.is) b.back.distance
 
-module _ {day : List ℕ} {e : Edit} {number : ℕ} {words p part mid : List ℕ} {tasks : Round} {c : Cab} {r : Walked} (h : Walkable day e words p tasks)
-    (m : Through day e number p part tasks c) (b : ComesBack day part c mid r) where
-  abbrev came : BackAs day (at_depot number) (length (stops_on (changed e 0 tasks))) p mid (walk_on day (changed e 0 tasks) (some (fresh day []))) r
-  came = b (at_depot number) _ p _ m.stands
+-- all of a vehicle's tasks, changed and walked again
+abbrev whole : List ℕ → Edit → Round → maybe.Option Truck
+whole day e tasks = walk_on day (changed e 0 tasks) (some (fresh day []))
 
-  pub walked_failed : r.stuck ≡ true → WalkedAs day number (changed e 0 tasks) p mid r
-  walked_failed y = record { size = came.size; again = again_back day (changed e 0 tasks) h.edited came; text = λ n. absurd (true≢false (sym y ∙ n)) }
+module _ {day : List ℕ} {e : Edit} {number : ℕ} {words p part : List ℕ} {tasks : Round} (h : Walkable day e words p tasks) {i : ℕ} {c : Cab} where
+  -- a task on which the trial fails, and the end of the tasks
+  pub through_failed : i < length words → (d : ℕ) → Midway day e (at_depot number) p part tasks i c → {now : List ℕ}
+      → WalksTask day e i part c (get_or words i d) now None → Through day e number p now tasks None
+  through_failed l d m g =
+      record { stands = rw (midway_fails h l d m g) (failed (midway_size h l d m g)) }
 
-  -- there is room for the E word
-  pub back_room : (n : r.stuck ≡ false) → (1 ≤ r.words) × (r.words ≤ length mid)
-  back_room n =
-      let u = came.back n in
-      (omega (arith, u.words), omega (arith, u.words, (standing_space u.standing).inside))
+  pub through_done : length words ≤ i → Midway day e (at_depot number) p part tasks i c → Through day e number p part tasks (Some c)
+  through_done l m = record { stands = rw (midway_whole h l m) (on_road m.v c (midway_done h l m)) }
 
-  pub walked_back : {now : List ℕ} → r.stuck ≡ false → now ≡ set mid (r.words - 1) back_word → WalkedAs day number (changed e 0 tasks) p now r
-  unfolding round_words again_by again_back
-  walked_back {now} s w =
-      let u = came.back s in
-      let k : r.words - 1 ≡ u.cab.at = omega (arith, u.words) in
-      let text : Wrote (vehicle_word number ∷ map task_word u.v.tasks) p mid u.cab.at =
-      subst (λ (ts : Round). Wrote (vehicle_word number ∷ map task_word ts) p mid u.cab.at) (sym u.standing.tasks) u.standing.text in
-      let put : Wrote (vehicle_word number ∷ (map task_word u.v.tasks ++ (back_word ∷ []))) p (set mid u.cab.at back_word) (u.cab.at + 1) =
-      wrote_put text back_word (omega (arith, (standing_space u.standing).inside, u.standing.text.size)) in
-      let same : now ≡ set mid u.cab.at back_word = w ∙ ap (λ (i : ℕ). set mid i back_word) k in
-      record {
-        size = ap length same ∙ put.size;
-        again = record {
-          failed = λ y. absurd (true≢false (sym y ∙ s));
-          again = λ _. again_by day (changed e 0 tasks) u.v h.edited u.is u.distance;
-        };
-        text = λ _. subst (λ (x : List ℕ). Wrote (vehicle_word number ∷ (map task_word u.v.tasks ++ (back_word ∷ []))) p x r.words) (sym same)
-            (wrote_same put refl (sym u.words));
-      }
+module _ {day : List ℕ} {e : Edit} {number : ℕ} {words p part : List ℕ} {tasks : Round} (h : Walkable day e words p tasks) where
+  -- the trial has failed among the tasks
+  pub through_fails : Through day e number p part tasks None → WalkedAs day number (changed e 0 tasks) p part None
+  unfolding walk_home
+  through_fails m =
+      let f = stands_failed (whole day e tasks) m.stands in
+      record { size = f.1; written = again_none day (changed e 0 tasks) (rw f.0 refl) }
+
+  module _ {c : Cab} (m : Through day e number p part tasks (Some c)) where
+    -- there is a vehicle before its way back
+    pub through_some : SomeStanding day 0 part c
+    through_some = some_standing (omega arith) (stands_goes (whole day e tasks) m.stands).standing
+
+    came : {mid : List ℕ} {r : Option Walked} → ComesBack day part c mid r → BackAs day (at_depot number) (length (stops_on (changed e 0 tasks))) p mid (whole day e tasks) r
+    came {mid} {r} b =
+        let t = stands_goes (whole day e tasks) m.stands in
+        subst (λ (o : maybe.Option Truck). BackAs day (at_depot number) (length (stops_on (changed e 0 tasks))) p mid o r) (sym t.is) (b (at_depot number) _ p t.v t.standing)
+
+    -- the trial has failed on the way back
+    pub walked_failed : {mid : List ℕ} → ComesBack day part c mid None → WalkedAs day number (changed e 0 tasks) p mid None
+    walked_failed b = record { size = (came b).size; written = again_none day (changed e 0 tasks) (came b).back }
+
+    module _ {mid : List ℕ} {r : Walked} (b : ComesBack day part c mid (Some r)) where
+      abbrev u : Back day (at_depot number) (length (stops_on (changed e 0 tasks))) p mid (whole day e tasks) r
+      u = (came b).back
+
+      -- there is room for the E word
+      pub back_room : (1 ≤ r.words) × (r.words ≤ length mid)
+      back_room = (omega (arith, u.words), omega (arith, u.words, (standing_space u.standing).inside))
+
+      pub walked_back : {now : List ℕ} → now ≡ set mid (r.words - 1) back_word → WalkedAs day number (changed e 0 tasks) p now (Some r)
+      unfolding round_words again_by
+      walked_back {now} w =
+          let k : r.words - 1 ≡ u.cab.at = omega (arith, u.words) in
+          let text : Wrote (vehicle_word number ∷ map task_word u.v.tasks) p mid u.cab.at =
+          subst (λ (ts : Round). Wrote (vehicle_word number ∷ map task_word ts) p mid u.cab.at) (sym u.standing.tasks) u.standing.text in
+          let put : Wrote (vehicle_word number ∷ (map task_word u.v.tasks ++ (back_word ∷ []))) p (set mid u.cab.at back_word) (u.cab.at + 1) =
+          wrote_put text back_word (omega (arith, (standing_space u.standing).inside, u.standing.text.size)) in
+          let same : now ≡ set mid u.cab.at back_word = w ∙ ap (λ (i : ℕ). set mid i back_word) k in
+          record {
+            size = ap length same ∙ put.size;
+            written = record {
+              again = again_by day (changed e 0 tasks) u.v h.edited u.is u.distance;
+              text = subst (λ (x : List ℕ). Wrote (vehicle_word number ∷ (map task_word u.v.tasks ++ (back_word ∷ []))) p x r.words) (sym same)
+                  (wrote_same put refl (sym u.words));
+            };
+          }

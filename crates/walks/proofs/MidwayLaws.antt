@@ -1,41 +1,38 @@
--- The tasks of a vehicle, changed and walked again one by one, and the way back. Assumes nothing.
-use Rattle.std.specs.Prelude.{if◌then◌else◌}
-use Prim.Native.Nat.{ℕ, ◌+◌, ◌-◌, ◌*◌, ◌≤◌, ◌<◌}
-use mathlib.Core.Path.{◌≡◌, refl, sym, ap, ◌∙◌, subst}
-use mathlib.Core.Bool.{Bool, true, false}
-use mathlib.Core.List.{List, [], ◌∷◌}
-use mathlib.Core.Option.{Option, some}
+-- The tasks of a vehicle, changed and walked again one by one. Assumes nothing.
+use Prim.Native.Nat.{ℕ, ◌+◌, ◌*◌, ◌≤◌, ◌<◌}
+use mathlib.Core.Path.{◌≡◌, refl, sym, ap, ◌∙◌}
+use mathlib.Core.List.{List, [], ◌∷◌, ◌++◌}
+use mathlib.Core.Option.{none, some}
+use native.Mathlib.Numerals.{add-one}
 use native.Mathlib.Omega.{arith}
-use lib.Dec.{eqb}
-use lib.ListN.{length, length-append, length-map, get_or, drop, drop_of_length-le}
+use lib.ListN.{length, length-map, get_or, drop, drop_of_length-le}
+use lib.Seq.{drop-cons}
+use Rattle.std.specs.Prelude.{Option, Some, None}
 use Rattle.rules.specs.PlanWords.{vehicle_word}
-use Rattle.rules.specs.Plan.{lunch, Round, stops_on, task_word}
+use Rattle.rules.specs.Plan.{Task, lunch, Round, stops_on, task_word, Known}
 use Rattle.rules.specs.Trip.{leaving}
-use Rattle.rules.specs.Build.{Truck, fresh}
-use Rattle.rules.specs.Edits.{Edit, changed}
+use Rattle.rules.specs.Build.{fresh}
+use Rattle.rules.specs.Edits.{Edit, change, changed}
 use Rattle.rules.specs.Attempts.{walk_on}
 use Rattle.laws.specs.Buffer.{Wrote}
 use Rattle.laws.proofs.Buffer.{wrote_same}
-use Rattle.laws.proofs.Lists.{get_map}
-use Rattle.laws.proofs.Plan.{stops_append}
+use Rattle.laws.proofs.Lists.{get_map, every_at}
 use Rattle.greedy_laws.proofs.GreedyRoom.{paid_fresh}
-use Rattle.edits.specs.EditWords.{edit_of, EditKnown}
-use Rattle.edits.specs.declared.Edit as Code
-use Rattle.walks.specs.Cabs.{Start, at_depot, Stands, failed, on_road}
-use Rattle.walks.specs.Rewalks.{SomeWord, WalksWord, Left, from_task, from_waiting, Turned, TakesTurn, steps, Walkable, Midway}
+use Rattle.walks.specs.Cabs.{Start, at_depot, Standing, Stands}
+use Rattle.walks.specs.Rewalks.{SomeTask, WalksTask, Walkable, Midway}
 use Rattle.walks.specs.declared.cabs.Cab.{Cab}
-use Rattle.walks.specs.declared.vehicle.Turn.{Turn}
-use Rattle.walks.proofs.RewalkLaws.{stands_fewer, walk_append}
+use Rattle.walks.proofs.CabLaws.{standing_fewer, some_standing}
+use Rattle.walks.proofs.WalkLaws.{stands_goes, stands_failed}
+use Rattle.walks.proofs.RewalkLaws.{walk_append, stops_both}
+use Rattle.walks.proofs.Walking.{failed_on}
 
 -- an empty vehicle at the depot, behind its A word
 pub fresh_stands : {day : List ℕ} {number most : ℕ} {p part : List ℕ} {c : Cab} → Wrote (vehicle_word number ∷ []) p part 1 → most ≤ 240 → 3 + 2 * most ≤ length p
-    → c.stuck ≡ false → c.trip ≡ leaving day → c.load ≡ 0 → c.at ≡ 1 → Stands day (at_depot number) most most p part (some (fresh day [])) c
+    → c.trip ≡ leaving day → c.load ≡ 0 → c.at ≡ 1 → Standing day (at_depot number) most most p part (fresh day []) c
 unfolding stops_on
-fresh_stands {day} {c = c} w few room g t l n =
-    on_road (fresh day []) c
-    (record {
+fresh_stands {day} w few room t l n =
+    record {
       riding = record {
-        going = g;
         trip_is = t;
         load_is = l;
         able = record { place = omega arith; minute = omega arith; distance = omega arith; load = omega arith; paid = paid_fresh day []; served = refl };
@@ -46,79 +43,70 @@ fresh_stands {day} {c = c} w few room g t l n =
       tasks = refl;
       text = wrote_same w refl (sym n);
       room = room;
-    })
+    }
 
 -- before the first task
 pub midway_start : {day : List ℕ} {e : Edit} {number : ℕ} {words p part : List ℕ} {tasks : Round} {c : Cab} → Wrote (vehicle_word number ∷ []) p part 1
-    → Walkable day e words p tasks → c.stuck ≡ false → c.trip ≡ leaving day → c.load ≡ 0 → c.at ≡ 1 → Midway day e (at_depot number) p part tasks 0 0 c
-midway_start {day} w h g t l n =
-    record { o = some (fresh day []); rest = _; left = from_task 0; stands = fresh_stands w h.few h.room g t l n; same = refl }
+    → Walkable day e words p tasks → c.trip ≡ leaving day → c.load ≡ 0 → c.at ≡ 1 → Midway day e (at_depot number) p part tasks 0 c
+midway_start {day} w h t l n = record { v = fresh day []; standing = fresh_stands w h.few h.room t l n; same = refl }
 
--- the next word
-module _ {day : List ℕ} (e : Code.Edit) {words p : List ℕ} {tasks : Round} (h : Walkable day (edit_of e) words p tasks) (k : EditKnown day e) {i : ℕ} (l : i < length words) where
+-- the next task
+module _ {day : List ℕ} {e : Edit} {words p : List ℕ} {tasks : Round} (h : Walkable day e words p tasks) {i : ℕ} (l : i < length words) where
   tasks_long : i < length tasks
   tasks_long = omega (arith, ap length h.are, length-map tasks task_word)
 
-  word_is : (d : ℕ) → get_or words i d ≡ task_word (get_or tasks i lunch)
+  abbrev task : Task
+  task = get_or tasks i lunch
+
+  abbrev others : Round
+  others = changed e (i + 1) (drop (i + 1) tasks)
+
+  word_is : (d : ℕ) → get_or words i d ≡ task_word task
   word_is d = ap (λ (ws : List ℕ). get_or ws i d) h.are ∙ get_map task_word tasks i d lunch tasks_long
 
-  module _ (d : ℕ) {start : Start} {waiting : ℕ} {part : List ℕ} {c : Cab} {r : Turn} (m : Midway day (edit_of e) start p part tasks i waiting c)
-      (f : TakesTurn e i (get_or words i d) waiting r) where
-    turned : Turned day (edit_of e) tasks m.rest r
-    turned = f day tasks m.rest k h.known tasks_long (word_is d) m.left
+  task_known : Known day task
+  task_known = every_at (Known day) tasks i lunch h.known tasks_long
 
-    turned_stops : length (stops_on m.rest) ≡ length (stops_on turned.here) + length (stops_on turned.others)
-    turned_stops =
-        ap (λ (ts : Round). length (stops_on ts)) turned.whole ∙ ap length (stops_append turned.here turned.others)
-        ∙ length-append (stops_on turned.here) (stops_on turned.others)
+  next_tasks : changed e i (drop i tasks) ≡ change e i task ++ others
+  unfolding changed
+  next_tasks = rw (add-one, drop-cons tasks i lunch tasks_long) refl
 
-    pub midway_word : SomeWord day part c r.word
-    midway_word =
-        record {
-          start = start;
-          most = _;
-          more = length (stops_on turned.others);
-          p = p;
-          o = m.o;
-          tasks = turned.here;
-          means = turned.means;
-          stands = stands_fewer (omega (arith, turned_stops)) m.stands;
-        }
+  next_stops : length (stops_on (changed e i (drop i tasks))) ≡ length (stops_on (change e i task)) + length (stops_on others)
+  next_stops = ap (λ (ts : Round). length (stops_on ts)) next_tasks ∙ stops_both (change e i task) others
 
-    pub midway_step : {now : List ℕ} {b : Cab} → WalksWord day part c r.word now b → Midway day (edit_of e) start p now tasks r.next r.waiting b
+  module _ (d : ℕ) {start : Start} {part : List ℕ} {c : Cab} (m : Midway day e start p part tasks i c) where
+    pub midway_task : SomeTask day e i part c (get_or words i d)
+    midway_task = record { task = task; is = word_is d; known = task_known; stands = some_standing (omega (arith, next_stops)) m.standing }
+
+    next_same : walk_on day others (walk_on day (change e i task) (some m.v)) ≡ walk_on day (changed e 0 tasks) (some (fresh day []))
+    next_same = sym (walk_append day (change e i task) others (some m.v)) ∙ ap (λ (ts : Round). walk_on day ts (some m.v)) (sym next_tasks) ∙ m.same
+
+    next_stands : {now : List ℕ} {r : Option Cab} → WalksTask day e i part c (get_or words i d) now r
+        → Stands day start (length (stops_on (changed e 0 tasks))) (length (stops_on others)) p now (walk_on day (change e i task) (some m.v)) r
+    next_stands g = g task (word_is d) task_known start _ (length (stops_on others)) p m.v (standing_fewer (omega (arith, next_stops)) m.standing)
+
+    pub midway_step : {now : List ℕ} {b : Cab} → WalksTask day e i part c (get_or words i d) now (Some b) → Midway day e start p now tasks (i + 1) b
     midway_step g =
-        record {
-          o = walk_on day turned.here m.o;
-          rest = turned.others;
-          left = turned.left;
-          stands = g start _ _ p m.o turned.here turned.means (stands_fewer (omega (arith, turned_stops)) m.stands);
-          same = sym (walk_append day turned.here turned.others m.o) ∙ ap (λ (ts : Round). walk_on day ts m.o) (sym turned.whole) ∙ m.same;
-        }
+        let t = stands_goes (walk_on day (change e i task) (some m.v)) (next_stands g) in
+        record { v = t.v; standing = t.standing; same = sym (ap (walk_on day others) t.is) ∙ next_same }
 
--- the part keeps its length
-pub stands_size : {day : List ℕ} {start : Start} {most more : ℕ} {p part : List ℕ} {o : Option Truck} {c : Cab} → Stands day start most more p part o c → length part ≡ length p
-stands_size (failed c g z) = z
-stands_size (on_road v c s) = s.text.size
+    -- the trial fails on it, so on all
+    pub midway_fails : {now : List ℕ} → WalksTask day e i part c (get_or words i d) now None → walk_on day (changed e 0 tasks) (some (fresh day [])) ≡ none
+    midway_fails g = sym next_same ∙ ap (walk_on day others) (stands_failed (walk_on day (change e i task) (some m.v)) (next_stands g)).0 ∙ failed_on day others
+
+    pub midway_size : {now : List ℕ} → WalksTask day e i part c (get_or words i d) now None → length now ≡ length p
+    midway_size g = (stands_failed (walk_on day (change e i task) (some m.v)) (next_stands g)).1
 
 -- behind the last task
-none_left : {day : List ℕ} {e : Edit} {tasks : Round} {i waiting : ℕ} {rest : Round} → Left day e tasks i waiting rest → length tasks ≤ i → rest ≡ []
-unfolding changed
-none_left {tasks = tasks} (from_task i) l = let q : drop i tasks ≡ [] = drop_of_length-le tasks {i = i} l in rw q refl
-none_left (from_waiting i waiting two y g b) l = absurd (omega arith)
+module _ {day : List ℕ} {e : Edit} {start : Start} {words p part : List ℕ} {tasks : Round} {i : ℕ} {c : Cab} (h : Walkable day e words p tasks) (l : length words ≤ i)
+    (m : Midway day e start p part tasks i c) where
+  none_left : changed e i (drop i tasks) ≡ []
+  unfolding changed
+  none_left = let q : drop i tasks ≡ [] = drop_of_length-le tasks {i = i} (omega (arith, l, ap length h.are, length-map tasks task_word)) in rw q refl
 
-pub midway_done : {day : List ℕ} {e : Edit} {start : Start} {words p part : List ℕ} {tasks : Round} {i waiting : ℕ} {c : Cab} → Walkable day e words p tasks → length words ≤ i
-    → Midway day e start p part tasks i waiting c
-    → Stands day start (length (stops_on (changed e 0 tasks))) 0 p part (walk_on day (changed e 0 tasks) (some (fresh day []))) c
-unfolding walk_on
-midway_done {day} {e} {start} {words} {p} {part} {tasks} {i} {waiting} {c} h l m =
-    let q : m.rest ≡ [] = none_left m.left (omega (arith, l, ap length h.are, length-map tasks task_word)) in
-    let o : m.o ≡ walk_on day (changed e 0 tasks) (some (fresh day [])) = rw q at m.same in
-    subst (λ (x : Option Truck). Stands day start (length (stops_on (changed e 0 tasks))) 0 p part x c) o (stands_fewer (omega arith) m.stands)
+  pub midway_done : Standing day start (length (stops_on (changed e 0 tasks))) 0 p part m.v c
+  midway_done = standing_fewer (omega arith) m.standing
 
--- each turn leaves fewer
-pub turns_left : (n i waiting next behind : ℕ) → i < n → steps i waiting < steps next behind → 2 * n + 2 - steps next behind < 2 * n + 2 - steps i waiting
-turns_left n i waiting next behind l s = omega (arith, l, s, one_most (eqb waiting 0))
-  where
-    one_most : (b : Bool) → (if b then 0 else 1) ≤ 1
-    one_most true = omega arith
-    one_most false = omega arith
+  pub midway_whole : walk_on day (changed e 0 tasks) (some (fresh day [])) ≡ some m.v
+  unfolding walk_on
+  midway_whole = sym m.same ∙ ap (λ (ts : Round). walk_on day ts (some m.v)) none_left

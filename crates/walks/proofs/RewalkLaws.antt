@@ -1,166 +1,140 @@
 -- A vehicle's words changed and walked again, word by word. Assumes nothing.
 use Prim.Native.Nat.{ℕ, ◌+◌, ◌-◌, ◌≤◌, ◌<◌}
-use mathlib.Core.Path.{◌≡◌, refl, sym, ap, ◌∙◌}
-use mathlib.Core.Bool.{true, false}
-use mathlib.Core.List.{List, [], ◌∷◌, ◌++◌, append-nil, append_assoc}
-use mathlib.Core.Option.{Option, some}
+use mathlib.Core.Path.{◌≡◌, refl, ap, ◌∙◌}
+use mathlib.Core.List.{List, [], ◌∷◌, ◌++◌}
+use mathlib.Core.Option as maybe
+use mathlib.Core.Option.{some}
 use native.Mathlib.Omega.{arith}
-use native.Mathlib.Numerals.{add-one}
-use lib.ListN.{length, get_or, drop}
-use lib.Seq.{drop-cons}
-use borrow.Author.Tests.{eq-eqb, ne_eqb}
+use lib.ListN.{length, length-append}
+use Rattle.std.specs.Prelude.{Option, Some, None}
 use Rattle.rules.specs.Fields.{stops, tips}
 use Rattle.rules.specs.PlanWords.{stop_word, tip_word}
-use Rattle.rules.specs.Plan.{Task, serve, empty, lunch, Round, stops_on, Known}
+use Rattle.rules.specs.Plan.{Task, serve, empty, Round, stops_on, Known}
 use Rattle.rules.specs.Build.{Truck, resting}
-use Rattle.rules.specs.Edits.{Edit, change, changed}
 use Rattle.rules.specs.Attempts.{walk_task, walk_next, walk_on}
-use Rattle.edits.specs.EditWords.{Means, nothing, a_stop, a_tip, Becomes}
-use Rattle.walks.specs.Cabs.{Start, Stands, failed, on_road, SomeStanding, Drives}
-use Rattle.walks.specs.Rewalks.{SomeWord, WalksWord, Left, from_task, from_waiting, Turned, steps}
+use Rattle.laws.proofs.Plan.{stops_append}
+use Rattle.edits.specs.EditWords.{Means, a_stop, a_tip, Makes, makes_none, makes_one, makes_two}
+use Rattle.edits.specs.declared.Change.TheVariants.{Gone, One, Two}
+use Rattle.walks.specs.Cabs.{failed, on_road, SomeStanding, Drives}
+use Rattle.walks.specs.Rewalks.{Walks, SomeWord, WalksWord, WalksChange, SomeChange}
 use Rattle.walks.specs.declared.cabs.Cab.{Cab}
-use Rattle.walks.specs.declared.vehicle.Turn.{Turn}
 use Rattle.walks.proofs.CabLaws.{standing_fewer, some_standing, on_road_lem}
 use Rattle.walks.proofs.WalkLaws.{stands_goes, stands_failed}
 use Rattle.walks.proofs.Walking.{failed_on}
 
--- it may serve as many stops or fewer
-pub stands_fewer : {day : List ℕ} {start : Start} {most more less : ℕ} {p part : List ℕ} {o : Option Truck} {c : Cab} → less ≤ more
-    → Stands day start most more p part o c → Stands day start most less p part o c
-stands_fewer l (failed c g z) = failed c g z
-stands_fewer l (on_road v c s) = on_road v c (standing_fewer l s)
-
 -- what a word means, by its size
-means_none : {day : List ℕ} {w : ℕ} {tasks : Round} → Means day w tasks → w ≡ 0 → tasks ≡ []
-means_none nothing z = refl
-means_none (a_stop k n) z = absurd (omega (arith, z))
-means_none (a_tip x n) z = absurd (omega (arith, z))
-
-pub record StopWord (day : List ℕ) (w : ℕ) (tasks : Round) : Type 0 where
+pub record StopWord (day : List ℕ) (w : ℕ) (task : Task) : Type 0 where
   pub least : (stop_word 0) ≤ w
-  pub is : tasks ≡ serve (w - stop_word 0) ∷ []
+  pub is : task ≡ serve (w - stop_word 0)
   pub first : 0 < w - stop_word 0
   pub within : w - stop_word 0 ≤ stops day
 
-pub means_stop : {day : List ℕ} {w : ℕ} {tasks : Round} → Means day w tasks → (w ≡ 0 → ⊥) → w < tip_word 0 → StopWord day w tasks
+pub means_stop : {day : List ℕ} {w : ℕ} {task : Task} → Means day w task → w < tip_word 0 → StopWord day w task
 unfolding Known
-means_stop nothing z l = absurd (z refl)
-means_stop (a_stop k n) z l =
+means_stop (a_stop k n) l =
     let e : stop_word k - stop_word 0 ≡ k = omega arith in
     record { least = omega arith; is = rw e refl; first = rw e (omega (arith, n.0)); within = rw e n.1 }
-means_stop (a_tip x n) z l = absurd (omega (arith, l))
+means_stop (a_tip x n) l = absurd (omega (arith, l))
 
-pub record TipWord (day : List ℕ) (w : ℕ) (tasks : Round) : Type 0 where
-  pub is : tasks ≡ empty (w - tip_word 0) ∷ []
+pub record TipWord (day : List ℕ) (w : ℕ) (task : Task) : Type 0 where
+  pub is : task ≡ empty (w - tip_word 0)
   pub first : 0 < w - tip_word 0
   pub within : w - tip_word 0 ≤ tips day
 
-pub means_tip : {day : List ℕ} {w : ℕ} {tasks : Round} → Means day w tasks → (w ≡ 0 → ⊥) → (tip_word 0) ≤ w → TipWord day w tasks
+pub means_tip : {day : List ℕ} {w : ℕ} {task : Task} → Means day w task → (tip_word 0) ≤ w → TipWord day w task
 unfolding Known
-means_tip nothing z l = absurd (z refl)
-means_tip (a_stop k n) z l = absurd (omega (arith, l, n.1))
-means_tip (a_tip x n) z l =
+means_tip (a_stop k n) l = absurd (omega (arith, l, n.1))
+means_tip (a_tip x n) l =
     let e : tip_word x - tip_word 0 ≡ x = omega arith in
     record { is = rw e refl; first = rw e (omega (arith, n.0)); within = rw e n.1 }
 
--- no word, and a trial that has failed before
-pub word_none : {day part : List ℕ} {c : Cab} {w : ℕ} → w ≡ 0 → WalksWord day part c w part c
-unfolding walk_on
-word_none z start most more p o tasks m s = rw (means_none m z) (stands_fewer (omega arith) s)
-
-pub word_failed : {day part : List ℕ} {c : Cab} {w : ℕ} → c.stuck ≡ true → WalksWord day part c w part c
-word_failed {day} {c = c} g start most more p o tasks m s =
-    let f = stands_failed o s g in rw (f.0, failed_on day tasks) (failed c g f.1)
-
--- the vehicle before a word
-pub word_standing : {day part : List ℕ} {c : Cab} {w : ℕ} (s : SomeWord day part c w) → c.stuck ≡ false → SomeStanding day (length (stops_on s.tasks)) part c
-word_standing s g = some_standing (omega arith) (stands_goes s.o s.stands g).standing
-
-one_stop : {tasks : Round} {k : ℕ} → tasks ≡ serve k ∷ [] → length (stops_on tasks) ≡ 1
+one_stop : {task : Task} {k : ℕ} → task ≡ serve k → length (stops_on (task ∷ [])) ≡ 1
 unfolding stops_on
 one_stop e = rw e refl
 
-pub stop_standing : {day part : List ℕ} {c : Cab} {w : ℕ} {tasks : Round} → StopWord day w tasks → SomeStanding day (length (stops_on tasks)) part c → SomeStanding day 1 part c
+pub stop_standing : {day part : List ℕ} {c : Cab} {w : ℕ} {task : Task} → StopWord day w task → SomeStanding day (length (stops_on (task ∷ []))) part c → SomeStanding day 1 part c
 stop_standing t s = some_standing (omega (arith, one_stop t.is, s.enough)) s.standing
 
 -- a stop and a tip, behind a rest where one is due
-pub word_stop : {day part mid now : List ℕ} {c e r : Cab} {w : ℕ} → (w ≡ 0 → ⊥) → c.stuck ≡ false → Drives day 0 part c (λ v. some (resting day v)) mid e → w < tip_word 0
+pub word_stop : {day part mid now : List ℕ} {c e : Cab} {w : ℕ} {r : Option Cab} → Drives day 0 part c (λ v. some (resting day v)) mid (Some e) → w < tip_word 0
     → Drives day 1 mid e (λ v. walk_task day v (serve (w - stop_word 0))) now r → WalksWord day part c w now r
 unfolding walk_on walk_next
-word_stop z g f l h start most more p o tasks m s =
-    let t = means_stop m z l in
-    let v = stands_goes o s g in
-    let u = on_road_lem (f start most (1 + more) p v.v (standing_fewer (omega (arith, one_stop t.is)) v.standing)) in
-    rw (t.is, v.is) (h start most more p (resting _ v.v) u)
+word_stop f l h task m start most more p v s =
+    let t = means_stop m l in
+    let u = on_road_lem (f start most (1 + more) p v (standing_fewer (omega (arith, one_stop t.is)) s)) in
+    rw t.is (h start most more p (resting _ v) u)
 
-pub word_tip : {day part mid now : List ℕ} {c e r : Cab} {w : ℕ} → (w ≡ 0 → ⊥) → c.stuck ≡ false → Drives day 0 part c (λ v. some (resting day v)) mid e → (tip_word 0) ≤ w
+pub word_tip : {day part mid now : List ℕ} {c e : Cab} {w : ℕ} {r : Option Cab} → Drives day 0 part c (λ v. some (resting day v)) mid (Some e) → (tip_word 0) ≤ w
     → Drives day 0 mid e (λ v. walk_task day v (empty (w - tip_word 0))) now r → WalksWord day part c w now r
 unfolding walk_on walk_next
-word_tip z g f l h start most more p o tasks m s =
-    let t = means_tip m z l in
-    let v = stands_goes o s g in
-    let u = on_road_lem (f start most more p v.v (standing_fewer (omega arith) v.standing)) in
-    rw (t.is, v.is) (h start most more p (resting _ v.v) (standing_fewer (omega arith) u))
+word_tip f l h task m start most more p v s =
+    let t = means_tip m l in
+    let u = on_road_lem (f start most more p v (standing_fewer (omega arith) s)) in
+    rw t.is (h start most more p (resting _ v) (standing_fewer (omega arith) u))
 
 -- two parts of what is walked
-pub walk_append : (day : List ℕ) (xs ys : Round) (o : Option Truck) → walk_on day (xs ++ ys) o ≡ walk_on day ys (walk_on day xs o)
+pub walk_append : (day : List ℕ) (xs ys : Round) (o : maybe.Option Truck) → walk_on day (xs ++ ys) o ≡ walk_on day ys (walk_on day xs o)
 unfolding walk_on
 walk_append day [] ys o = refl
 walk_append day (task ∷ xs) ys o = walk_append day xs ys (walk_next day task o)
 
--- all from a task on
-pub left_all : {day : List ℕ} {e : Edit} {tasks : Round} {i waiting : ℕ} {rest : Round} → Left day e tasks i waiting rest → waiting ≡ 0 → rest ≡ changed e i (drop i tasks)
-left_all (from_task i) z = refl
-left_all (from_waiting i waiting two y l b) z = absurd (y z)
+pub stops_both : (xs ys : Round) → length (stops_on (xs ++ ys)) ≡ length (stops_on xs) + length (stops_on ys)
+stops_both xs ys = ap length (stops_append xs ys) ∙ length-append (stops_on xs) (stops_on ys)
 
--- a word that waits, and what a task becomes, one word or two
-module _ (day : List ℕ) (e : Edit) (tasks : Round) (t : ℕ) (l : t < length tasks) where
-  abbrev task : Task
-  task = get_or tasks t lunch
+module _ {day part : List ℕ} {c : Cab} (xs ys : Round) where
+  -- the trial fails on the first part, or both are walked
+  pub walks_failed : {now : List ℕ} → Walks day part c xs now None → Walks day part c (xs ++ ys) now None
+  walks_failed f start most more p v s =
+      let d = stands_failed (walk_on day xs (some v)) (f start most (length (stops_on ys) + more) p v (standing_fewer (omega (arith, stops_both xs ys)) s)) in
+      rw (walk_append day xs ys (some v), d.0, failed_on day ys) (failed d.1)
 
-  next_tasks : changed e t (drop t tasks) ≡ change e t task ++ changed e (t + 1) (drop (t + 1) tasks)
-  unfolding changed
-  next_tasks = rw (add-one, drop-cons tasks t lunch l) refl
+  pub walks_both : {mid now : List ℕ} {e : Cab} {r : Option Cab} → Walks day part c xs mid (Some e) → Walks day mid e ys now r → Walks day part c (xs ++ ys) now r
+  walks_both f g start most more p v s =
+      let d = stands_goes (walk_on day xs (some v)) (f start most (length (stops_on ys) + more) p v (standing_fewer (omega (arith, stops_both xs ys)) s)) in
+      rw (walk_append day xs ys (some v), d.is) (g start most more p d.v d.standing)
 
-  pub turn_single : {rest : Round} {first second : ℕ} (r : Turn) → Left day e tasks t 0 rest → Becomes day e t task first second → second ≡ 0
-      → r.word ≡ first → r.waiting ≡ 0 → r.next ≡ t + 1 → Turned day e tasks rest r
-  turn_single {rest} r h b z w n m =
-      let none = means_none b.two_is z in
-      record {
-        here = b.one;
-        others = changed e (t + 1) (drop (t + 1) tasks);
-        means = rw w b.one_is;
-        left = rw (n, m) (from_task (t + 1));
-        whole =
-            left_all h refl ∙ next_tasks
-            ∙ ap (λ (ts : Round). ts ++ changed e (t + 1) (drop (t + 1) tasks)) (sym b.same ∙ ap (λ (ts : Round). b.one ++ ts) none ∙ append-nil b.one);
-      }
+  -- there is still a vehicle between them
+  pub some_between : {mid : List ℕ} {e : Cab} → Walks day part c xs mid (Some e) → SomeStanding day (length (stops_on (xs ++ ys))) part c
+      → SomeStanding day (length (stops_on ys)) mid e
+  some_between f s =
+      let d = stands_goes (walk_on day xs (some s.v)) (f s.start s.most (length (stops_on ys)) s.p s.v (standing_fewer (omega (arith, stops_both xs ys, s.enough)) s.standing)) in
+      some_standing (omega arith) d.standing
 
-  pub turn_double : {rest : Round} {first second : ℕ} (r : Turn) → Left day e tasks t 0 rest → Becomes day e t task first second → (second ≡ 0 → ⊥)
-      → r.word ≡ first → r.waiting ≡ second → r.next ≡ t → Turned day e tasks rest r
-  turn_double {rest} {first} {second} r h b z w n m =
-      record {
-        here = b.one;
-        others = b.two ++ changed e (t + 1) (drop (t + 1) tasks);
-        means = rw w b.one_is;
-        left = rw (n, m) (from_waiting t second b.two z l b.two_is);
-        whole =
-            left_all h refl ∙ next_tasks ∙ ap (λ (ts : Round). ts ++ changed e (t + 1) (drop (t + 1) tasks)) (sym b.same)
-            ∙ append_assoc b.one b.two (changed e (t + 1) (drop (t + 1) tasks));
-      }
+-- what a word has become: none, one and two words
+module _ {day part : List ℕ} {c : Cab} where
+  pub change_none : WalksChange day part c Gone part (Some c)
+  unfolding walk_on
+  change_none tasks makes_none start most more p v s = on_road v c (standing_fewer (omega arith) s)
 
-pub turn_waiting : {day : List ℕ} {e : Edit} {tasks : Round} {t waiting : ℕ} {rest : Round} (r : Turn) → Left day e tasks t waiting rest → (waiting ≡ 0 → ⊥)
-    → r.word ≡ waiting → r.waiting ≡ 0 → r.next ≡ t + 1 → Turned day e tasks rest r
-turn_waiting r (from_task i) z w n m = absurd (z refl)
-turn_waiting {e = e} {tasks = tasks} r (from_waiting i waiting two y l b) z w n m =
-    record { here = two; others = changed e (i + 1) (drop (i + 1) tasks); means = rw w b; left = rw (n, m) (from_task (i + 1)); whole = refl }
+  pub change_one : {w : ℕ} {now : List ℕ} {r : Option Cab} → WalksWord day part c w now r → WalksChange day part c (One w) now r
+  change_one h tasks (makes_one w task m) = h task m
 
--- each turn brings the walk on
-pub step_waiting : (t : ℕ) {waiting : ℕ} → (waiting ≡ 0 → ⊥) → (steps t waiting < steps (t + 1) 0) × (t + 1 ≤ t + 1)
-step_waiting t {waiting} z = (rw (ne_eqb waiting 0 z) (omega arith), omega arith)
+  pub change_failed : {v w : ℕ} {now : List ℕ} → WalksWord day part c v now None → WalksChange day part c (Two v w) now None
+  change_failed h tasks (makes_two v w first second a b) = walks_failed (first ∷ []) (second ∷ []) (h first a)
 
-pub step_single : (t : ℕ) {waiting : ℕ} → waiting ≡ 0 → (steps t waiting < steps (t + 1) 0) × (t + 1 ≤ t + 1)
-step_single t {waiting} z = (rw (eq-eqb waiting 0 z) (omega arith), omega arith)
+  pub change_two : {v w : ℕ} {mid now : List ℕ} {e : Cab} {r : Option Cab} → WalksWord day part c v mid (Some e) → WalksWord day mid e w now r
+      → WalksChange day part c (Two v w) now r
+  change_two h g tasks (makes_two v w first second a b) = walks_both (first ∷ []) (second ∷ []) (h first a) (g second b)
 
-pub step_double : (t : ℕ) {waiting second : ℕ} → waiting ≡ 0 → (second ≡ 0 → ⊥) → (steps t waiting < steps t second) × (t ≤ t + 1)
-step_double t {waiting} {second} z y = (rw (eq-eqb waiting 0 z, ne_eqb second 0 y) (omega arith), omega arith)
+-- before each of them there is a vehicle
+module _ {day part : List ℕ} {c : Cab} where
+  made_one : {w : ℕ} (tasks : Round) → Makes day (One w) tasks → SomeStanding day (length (stops_on tasks)) part c → SomeWord day part c w
+  made_one tasks (makes_one w task m) s = record { task = task; means = m; stands = s }
+
+  made_first : {v w : ℕ} (tasks : Round) → Makes day (Two v w) tasks → SomeStanding day (length (stops_on tasks)) part c → SomeWord day part c v
+  made_first tasks (makes_two v w first second a b) s =
+      record { task = first; means = a; stands = some_standing (omega (arith, stops_both (first ∷ []) (second ∷ []), s.enough)) s.standing }
+
+  made_second : {v w : ℕ} {mid : List ℕ} {e : Cab} (tasks : Round) → Makes day (Two v w) tasks → SomeStanding day (length (stops_on tasks)) part c
+      → WalksWord day part c v mid (Some e) → SomeWord day mid e w
+  made_second tasks (makes_two v w first second a b) s h =
+      record { task = second; means = b; stands = some_between (first ∷ []) (second ∷ []) (h first a) s }
+
+  pub some_one : {w : ℕ} → SomeChange day part c (One w) → SomeWord day part c w
+  some_one s = made_one s.tasks s.makes s.stands
+
+  pub some_first : {v w : ℕ} → SomeChange day part c (Two v w) → SomeWord day part c v
+  some_first s = made_first s.tasks s.makes s.stands
+
+  pub some_second : {v w : ℕ} {mid : List ℕ} {e : Cab} → SomeChange day part c (Two v w) → WalksWord day part c v mid (Some e) → SomeWord day mid e w
+  some_second s h = made_second s.tasks s.makes s.stands h

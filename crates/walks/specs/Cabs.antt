@@ -1,7 +1,8 @@
 -- A vehicle while it is walked again and its words are written, as the code has it. It serves the contracts of this crate's own functions.
 -- Assumes nothing.
-use Rattle.std.specs.Prelude.{ℕ, ◌+◌, ◌*◌, ◌≤◌, ◌<◌, ◌≡◌, true, false, List, [], ◌∷◌, ◌++◌, map, length}
-use Rattle.std.proofs.Math.Option.{Option, none, some}
+use Rattle.std.specs.Prelude.{ℕ, ◌+◌, ◌*◌, ◌≤◌, ◌<◌, ◌≡◌, List, [], ◌∷◌, ◌++◌, map, length, Option, Some, None}
+use Rattle.std.proofs.Math.Option as maybe
+use Rattle.std.proofs.Math.Option.{none, some}
 use Rattle.rules.specs.Fields.{places}
 use Rattle.rules.specs.PlanWords.{vehicle_word}
 use Rattle.rules.specs.Plan.{Round, task_word, stops_on}
@@ -22,7 +23,6 @@ pub record Able (day : List ℕ) (v : Truck) : Type 0 where
 
 -- the vehicle v is on its way, as the code carries it; of most stops it may still serve more
 pub record Riding (day : List ℕ) (most more : ℕ) (v : Truck) (c : Cab) : Type 0 where
-  pub going : c.stuck ≡ false
   pub trip_is : c.trip ≡ v.trip
   pub load_is : c.load ≡ v.cargo.load
   pub able : Able day v
@@ -47,9 +47,9 @@ pub record Standing (day : List ℕ) (start : Start) (most more : ℕ) (p part :
   pub room : 3 + 2 * most ≤ length p
 
 -- so it is, or the trial has failed
-pub data Stands (day : List ℕ) (start : Start) (most more : ℕ) (p part : List ℕ) : Option Truck → Cab → Type 0 where
-  failed : (c : Cab) → c.stuck ≡ true → length part ≡ length p → Stands day start most more p part none c
-  on_road : (v : Truck) (c : Cab) → Standing day start most more p part v c → Stands day start most more p part (some v) c
+pub data Stands (day : List ℕ) (start : Start) (most more : ℕ) (p part : List ℕ) : maybe.Option Truck → Option Cab → Type 0 where
+  failed : length part ≡ length p → Stands day start most more p part none None
+  on_road : (v : Truck) (c : Cab) → Standing day start most more p part v c → Stands day start most more p part (some v) (Some c)
 
 -- how many words there are, and that there is room for one more
 pub record Space (part : List ℕ) (at : ℕ) : Type 0 where
@@ -70,6 +70,6 @@ pub record SomeStanding (day : List ℕ) (least : ℕ) (part : List ℕ) (c : Ca
   pub load : c.load < 134217728
 
 -- each vehicle that stood so now stands as f says, having served so many stops
-abbrev pub Drives : List ℕ → ℕ → List ℕ → Cab → (Truck → Option Truck) → List ℕ → Cab → Type 0
+abbrev pub Drives : List ℕ → ℕ → List ℕ → Cab → (Truck → maybe.Option Truck) → List ℕ → Option Cab → Type 0
 Drives day serves part c f now r =
     (start : Start) (most more : ℕ) (p : List ℕ) (v : Truck) → Standing day start most (serves + more) p part v c → Stands day start most more p now (f v) r

@@ -1,175 +1,118 @@
 // A vehicle whose words are changed and walked again.
-ghost use Rattle.std.specs.Prelude.{◌≡◌, true, false, ◌+◌, ◌<◌, ◌≤◌};
+ghost use Rattle.std.specs.Prelude.{◌≡◌, ◌<◌};
 ghost use Rattle.rules.specs.Fields.{IsAccepted};
 ghost use Rattle.rules.specs.Plan.{Round};
 ghost use Rattle.rules.specs.Trip.{leaving};
 ghost use Rattle.rules.specs.Edits.{changed};
-ghost use Rattle.day.specs.Layout.{LayoutOf};
 ghost use Rattle.edits.specs.EditWords.{edit_of, EditKnown, EditSmall};
-ghost use Rattle.walks.specs.Rewalks.{SomeWord, WalksWord, TakesTurn, steps, Walkable, SomeWalkable, WalksAll, SomeDone, ComesBack, WalkedAs};
+ghost use Rattle.walks.specs.Cabs.{SomeStanding};
+ghost use Rattle.walks.specs.Rewalks.{SomeWord, WalksWord, SomeChange, WalksChange, SomeTask, WalksTask, Walkable, SomeWalkable, WalksAll, ComesBack, WalkedAs};
 
 use crate::cabs::{Cab, rest_cab, walk_home, walk_stop, walk_tip};
-use day::fields::Layout;
-use edits::{Edit, change_word};
+use day::days::Day;
+use edits::{Change, Edit, change_word};
 use plan_words::{BACK, STOP, TIP, VEHICLE};
-use rules::walk::Trip;
+use trips::drives::leave;
 
-// One word is walked: a stop or a tip, or none.
-pub fn walk_word(day: &[u32], layout: Layout, c: Cab, w: u32, part: &mut [u32]) -> Cab
-    requires { LayoutOf day.now layout × IsAccepted day.now × SomeWord day.now part.old c w }
-    ensures { WalksWord day.now part.old c w part.new result }
+// One word is walked, a stop or a tip; none where the trial has failed.
+pub fn walk_word(day: &Day, cab: Cab, word: u32, part: &mut [u32]) -> Option<Cab>
+    requires { IsAccepted day.now × SomeWord day.now part.old cab word }
+    ensures { WalksWord day.now part.old cab word part.new result }
 {
-    if w == 0 {
-        return c;
+    let rested = rest_cab(day, cab, part);
+    if word < TIP {
+        return walk_stop(day, rested, (word - STOP) as usize, part);
     }
-    if c.stuck {
-        return c;
-    }
-    let rested = rest_cab(day, layout, c, part);
-    if w < TIP {
-        return walk_stop(day, layout, rested, (w - STOP) as usize, part);
-    }
-    walk_tip(day, layout, rested, (w - TIP) as usize, part)
+    Some(walk_tip(day, rested, (word - TIP) as usize, part))
 }
 
-// The word that is walked next, the one that waits behind it, 0 for none, and the task that is looked at then.
-#[derive(Clone, Copy)]
-pub struct Turn {
-    pub word: u32,
-    pub waiting: u32,
-    pub next: usize,
+// What a word has become is walked.
+fn walk_change(day: &Day, cab: Cab, change: Change, part: &mut [u32]) -> Option<Cab>
+    requires { IsAccepted day.now × SomeChange day.now part.old cab change }
+    ensures { WalksChange day.now part.old cab change part.new result }
+{
+    match change {
+        Change::Gone => Some(cab),
+        Change::One(word) => walk_word(day, cab, word, part),
+        Change::Two(first, second) => {
+            let next = walk_word(day, cab, first, part)?;
+            walk_word(day, next, second, part)
+        }
+    }
 }
 
-// What is walked next: the word that waits, or else what task number t becomes. So one place in the loop walks a word.
-pub fn next_turn(e: Edit, t: usize, w: u32, waiting: u32) -> Turn
-    requires { EditSmall e × (t < 4611686018427387904) }
-    ensures turn { TakesTurn e t w waiting result }
-    ensures comes { (steps t waiting < steps result.next result.waiting) × (result.next ≤ t + 1) }
+// The word of a task is changed and walked, by the task's number.
+pub fn walk_task(
+    day: &Day,
+    edit: Edit,
+    task: usize,
+    cab: Cab,
+    word: u32,
+    part: &mut [u32],
+) -> Option<Cab>
+    requires { IsAccepted day.now × EditSmall edit × EditKnown day.now edit × SomeTask day.now (edit_of edit) task part.old cab word }
+    ensures { WalksTask day.now (edit_of edit) task part.old cab word part.new result }
 {
-    if waiting != 0 {
-        return Turn {
-            word: waiting,
-            waiting: 0,
-            next: t + 1,
-        };
-    }
-    let change = change_word(e, t, w);
-    if change.second == 0 {
-        return Turn {
-            word: change.first,
-            waiting: 0,
-            next: t + 1,
-        };
-    }
-    Turn {
-        word: change.first,
-        waiting: change.second,
-        next: t,
-    }
+    walk_change(day, cab, change_word(edit, task, word), part)
 }
 
 // An empty vehicle at the depot; its A word is written.
-pub fn fresh_cab(day: &[u32], layout: Layout) -> Cab
-    requires { LayoutOf day.now layout }
-    ensures { (result.stuck ≡ false) × (result.trip ≡ leaving day.now) × (result.load ≡ 0) × (result.at ≡ 1) }
+pub fn fresh_cab(day: &Day) -> Cab
+    ensures { (result.trip ≡ leaving day.now) × (result.load ≡ 0) × (result.at ≡ 1) }
 {
-    let hours = day::fields::depot_window(day, layout);
     Cab {
-        trip: Trip {
-            minute: hours.opening,
-            place: 0,
-            rested: false,
-            distance: 0,
-        },
+        trip: leave(day),
         load: 0,
         at: 1,
-        stuck: false,
     }
 }
 
 // The tasks of a vehicle, changed and walked again behind its A word.
-fn walk_tasks(
-    day: &[u32],
-    layout: Layout,
-    e: Edit,
-    number: u32,
-    tasks: &[u32],
-    part: &mut [u32],
-) -> Cab
-    requires { LayoutOf day.now layout × IsAccepted day.now × EditSmall e × EditKnown day.now e × (number < 256) × SomeWalkable day.now (edit_of e) tasks.now part.old }
-    ensures { WalksAll day.now (edit_of e) number tasks.now part.old part.new result }
+fn walk_tasks(day: &Day, edit: Edit, number: u32, tasks: &[u32], part: &mut [u32]) -> Option<Cab>
+    requires { IsAccepted day.now × EditSmall edit × EditKnown day.now edit × (number < 256) × SomeWalkable day.now (edit_of edit) tasks.now part.old }
+    ensures { WalksAll day.now (edit_of edit) number tasks.now part.old part.new result }
 {
     part[0] = VEHICLE + number;
-    let mut c = fresh_cab(day, layout);
-    let mut waiting: u32 = 0;
-    let mut i: usize = 0;
-    while i < tasks.len() {
-        let turn = next_turn(e, i, tasks[i], waiting);
-        c = walk_word(day, layout, c, turn.word, part);
-        waiting = turn.waiting;
-        i = turn.next;
+    let mut cab = fresh_cab(day);
+    for (task, word) in tasks.iter().enumerate() {
+        cab = walk_task(day, edit, task, cab, *word, part)?;
     }
-    c
+    Some(cab)
 }
 
-// How many words the vehicle has, how far it drives, and whether the trial has failed.
+// How many words the vehicle has, and how far it drives.
 #[derive(Clone, Copy)]
 pub struct Walked {
     pub words: usize,
     pub distance: u32,
-    pub stuck: bool,
-}
-
-// A trial has failed on a vehicle.
-pub fn failed() -> Walked
-    ensures { result.stuck ≡ true }
-{
-    Walked {
-        words: 0,
-        distance: 0,
-        stuck: true,
-    }
 }
 
 // The way back, once the tasks are done. The words are counted with the E word, which is not written.
-pub fn come_back(day: &[u32], layout: Layout, c: Cab, part: &mut [u32]) -> Walked
-    requires { LayoutOf day.now layout × IsAccepted day.now × SomeDone day.now part.old c }
-    ensures { ComesBack day.now part.old c part.new result }
+pub fn come_back(day: &Day, cab: Cab, part: &mut [u32]) -> Option<Walked>
+    requires { IsAccepted day.now × SomeStanding day.now 0 part.old cab }
+    ensures { ComesBack day.now part.old cab part.new result }
 {
-    if c.stuck {
-        return failed();
-    }
-    let back = walk_home(day, layout, c, part);
-    if back.stuck {
-        return failed();
-    }
-    let t = back.trip;
-    let leg = day::fields::leg_between(day, layout, t.place, 0);
-    Walked {
+    let back = walk_home(day, cab, part)?;
+    let leg = day.leg(back.trip.place, 0);
+    Some(Walked {
         words: back.at + 1,
-        distance: t.distance + leg.distance,
-        stuck: false,
-    }
+        distance: back.trip.distance + leg.distance,
+    })
 }
 
-// The vehicle walked again: its words at the front of the part.
+// The vehicle walked again, its words at the front of the part; none where the trial fails.
 pub fn walk_vehicle(
-    day: &[u32],
-    layout: Layout,
-    e: Edit,
+    day: &Day,
+    edit: Edit,
     number: u32,
     tasks: &[u32],
     part: &mut [u32],
-) -> Walked
-    requires { LayoutOf day.now layout × IsAccepted day.now × EditSmall e × EditKnown day.now e × (number < 256) × SomeWalkable day.now (edit_of e) tasks.now part.old }
-    ensures { (ts : Round) → Walkable day.now (edit_of e) tasks.now part.old ts → WalkedAs day.now number (changed (edit_of e) 0 ts) part.old part.new result }
+) -> Option<Walked>
+    requires { IsAccepted day.now × EditSmall edit × EditKnown day.now edit × (number < 256) × SomeWalkable day.now (edit_of edit) tasks.now part.old }
+    ensures { (ts : Round) → Walkable day.now (edit_of edit) tasks.now part.old ts → WalkedAs day.now number (changed (edit_of edit) 0 ts) part.old part.new result }
 {
-    let c = walk_tasks(day, layout, e, number, tasks, part);
-    let w = come_back(day, layout, c, part);
-    if w.stuck {
-        return w;
-    }
-    let end = w.words - 1;
-    part[end] = BACK;
-    w
+    let cab = walk_tasks(day, edit, number, tasks, part)?;
+    let walked = come_back(day, cab, part)?;
+    part[walked.words - 1] = BACK;
+    Some(walked)
 }

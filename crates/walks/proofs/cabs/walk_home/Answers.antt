@@ -1,14 +1,11 @@
 -- `walks::cabs::walk_home` meets its contract.
+use borrow.Author.Tests.{ltb-true}
 use Rattle.walks.proofs.CabLaws.{some_rested}
-use Rattle.walks.proofs.WalkLaws.{home_empty, home_loaded_lem}
-use borrow.Author.Rules.{rules}
+use Rattle.walks.proofs.WalkLaws.{home_drives}
 use Rattle.walks.proofs.cabs.walk_home.Goals as goal
 
-pub returns-then-rested-eq0 : goal.returns-then-rested-eq0
-returns-then-rested-eq0 c = search home_empty
-
-pub insert_tip-requires : goal.insert_tip-requires
-insert_tip-requires c = search (rules, some_rested)
+pub empty_first-requires : goal.empty_first-requires
+empty_first-requires c = (c.requires.0, some_rested c.requires.1 c.rest_cab-rested.ensures, ltb-true _ _)
 
 pub returns : goal.returns
-returns c = search home_loaded_lem
+returns c = search home_drives

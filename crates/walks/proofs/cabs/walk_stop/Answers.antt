@@ -1,16 +1,15 @@
 -- `walks::cabs::walk_stop` meets its contract.
-use Rattle.walks.proofs.WalkLaws.{full_fails, full_serves, light_serves, some_served}
-use borrow.Author.Rules.{rules}
+use Rattle.walks.proofs.WalkLaws.{stop_fails, stop_serves, full_load, some_fewer, some_served}
 use Rattle.walks.proofs.cabs.walk_stop.Goals as goal
 
-pub returns-then-e : goal.returns-then-e
-returns-then-e c = search full_fails
+pub empty_first-requires : goal.empty_first-requires
+empty_first-requires c = (c.requires.0, some_fewer c.requires.1, full_load c.args.day.now c.args.cab.load _ c.is_full-full.ensures)
+
+pub returns-in_err-ahead : goal.returns-in_err-ahead
+returns-in_err-ahead c = rw c.from_residual.ensures (stop_fails _ c.stop_quantity.ensures c.is_full-full.ensures c.in_err-ahead.ensures)
 
 pub serve_cab-requires : goal.serve_cab-requires
-serve_cab-requires c = search (rules, some_served)
-
-pub returns-then-is_full : goal.returns-then-is_full
-returns-then-is_full c = search full_serves
+serve_cab-requires c = (c.requires.0, some_served _ c.requires.1 c.in_ok-ahead.ensures, c.requires.2, c.requires.3)
 
 pub returns : goal.returns
-returns c = search light_serves
+returns c = stop_serves _ c.stop_quantity.ensures c.is_full-full.ensures _ _ c.in_ok-ahead.ensures c.serve_cab.ensures

@@ -1,28 +1,27 @@
 -- `walks::vehicle::walk_tasks` meets its contract.
 use native.Mathlib.Omega.{arith}
 use Rattle.laws.proofs.Buffer.{wrote_none, wrote_put}
-use Rattle.walks.proofs.MidwayLaws.{midway_start, midway_word, midway_step, midway_done}
+use Rattle.walks.proofs.MidwayLaws.{midway_start, midway_task, midway_step}
+use Rattle.walks.proofs.HomeLaws.{through_failed, through_done}
 use Rattle.walks.proofs.vehicle.walk_tasks.Goals as goal
 
-pub loop-i-init : goal.loop-i-init
-loop-i-init c = (
-  omega arith,
-  λ p ts w h. midway_start w h c.fresh_cab-c.ensures.0 c.fresh_cab-c.ensures.1 c.fresh_cab-c.ensures.2 c.fresh_cab-c.ensures.3,
-)
+pub loop-task-init : goal.loop-task-init
+loop-task-init c = λ p ts w h. midway_start w h c.fresh_cab-cab.ensures.0 c.fresh_cab-cab.ensures.1 c.fresh_cab-cab.ensures.2
 
-pub walk_word-c-requires : goal.walk_word-c-requires
-walk_word-c-requires c =
-    let s = c.requires.5 in (
+pub walk_task-requires : goal.walk_task-requires
+walk_task-requires c =
+    let s = c.requires.4 in (
       c.requires.0,
       c.requires.1,
-      midway_word c.args.e s.walkable c.requires.3 c.loop-i-test.true 0 (c.loop-i.invariant.1 _ s.tasks (wrote_put (wrote_none _) _ (omega (arith, s.walkable.room))) s.walkable) c.next_turn-turn.ensures.turn,
+      c.requires.2,
+      midway_task s.walkable c.loop-task-test.true 0 (c.loop-task.invariant _ s.tasks (wrote_put (wrote_none _) _ (omega (arith, s.walkable.room))) s.walkable),
     )
 
-pub loop-i-preserved : goal.loop-i-preserved
-loop-i-preserved c = (
-  omega (arith, c.loop-i-test.true, c.next_turn-turn.ensures.comes.1),
-  λ p ts w h. midway_step c.args.e h c.requires.3 c.loop-i-test.true 0 (c.loop-i.invariant.1 p ts w h) c.next_turn-turn.ensures.turn c.walk_word-c.ensures,
-)
+pub returns-in_err-cab : goal.returns-in_err-cab
+returns-in_err-cab c = λ ts h. rw c.from_residual.ensures (through_failed h c.loop-task-test.true 0 (c.loop-task.invariant _ ts (wrote_put (wrote_none _) _ (omega (arith, h.room))) h) c.in_err-cab.ensures)
+
+pub loop-task-preserved : goal.loop-task-preserved
+loop-task-preserved c = λ p ts w h. midway_step h c.loop-task-test.true 0 (c.loop-task.invariant p ts w h) c.in_ok-cab.ensures
 
 pub returns : goal.returns
-returns c = λ ts h. record { stands = midway_done h c.loop-i-test.false (c.loop-i.invariant.1 _ ts (wrote_put (wrote_none _) _ (omega (arith, h.room))) h) }
+returns c = λ ts h. through_done h c.loop-task-test.false (c.loop-task.invariant _ ts (wrote_put (wrote_none _) _ (omega (arith, h.room))) h)
