@@ -13,8 +13,8 @@ use Rattle.rules.specs.Plan.{Task, serve, empty, Round, stops_on, Known}
 use Rattle.rules.specs.Build.{Truck, resting}
 use Rattle.rules.specs.Attempts.{walk_task, walk_next, walk_on}
 use Rattle.laws.proofs.Plan.{stops_append}
-use Rattle.edits.specs.EditWords.{Means, a_stop, a_tip, Makes, makes_none, makes_one, makes_two}
-use Rattle.edits.specs.declared.Change.TheVariants.{Gone, One, Two}
+use Rattle.edits.specs.EditWords.{Means, a_stop, a_tip, Makes, makes_none, makes_two}
+use Rattle.edits.specs.declared.Change.TheVariants.{Gone, Two}
 use Rattle.walks.specs.Cabs.{failed, on_road, SomeStanding, Drives}
 use Rattle.walks.specs.Rewalks.{Walks, SomeWord, WalksWord, WalksChange, SomeChange}
 use Rattle.walks.specs.declared.cabs.Cab.{Cab}
@@ -100,14 +100,11 @@ module _ {day part : List ℕ} {c : Cab} (xs ys : Round) where
       let d = stands_goes (walk_on day xs (some s.v)) (f s.start s.most (length (stops_on ys)) s.p s.v (standing_fewer (omega (arith, stops_both xs ys, s.enough)) s.standing)) in
       some_standing (omega arith) d.standing
 
--- what a word has become: none, one and two words
+-- what a word has become, where it is not one word
 module _ {day part : List ℕ} {c : Cab} where
   pub change_none : WalksChange day part c Gone part (Some c)
   unfolding walk_on
   change_none tasks makes_none start most more p v s = on_road v c (standing_fewer (omega arith) s)
-
-  pub change_one : {w : ℕ} {now : List ℕ} {r : Option Cab} → WalksWord day part c w now r → WalksChange day part c (One w) now r
-  change_one h tasks (makes_one w task m) = h task m
 
   pub change_failed : {v w : ℕ} {now : List ℕ} → WalksWord day part c v now None → WalksChange day part c (Two v w) now None
   change_failed h tasks (makes_two v w first second a b) = walks_failed (first ∷ []) (second ∷ []) (h first a)
@@ -116,11 +113,8 @@ module _ {day part : List ℕ} {c : Cab} where
       → WalksChange day part c (Two v w) now r
   change_two h g tasks (makes_two v w first second a b) = walks_both (first ∷ []) (second ∷ []) (h first a) (g second b)
 
--- before each of them there is a vehicle
+-- before each of two words there is a vehicle
 module _ {day part : List ℕ} {c : Cab} where
-  made_one : {w : ℕ} (tasks : Round) → Makes day (One w) tasks → SomeStanding day (length (stops_on tasks)) part c → SomeWord day part c w
-  made_one tasks (makes_one w task m) s = record { task = task; means = m; stands = s }
-
   made_first : {v w : ℕ} (tasks : Round) → Makes day (Two v w) tasks → SomeStanding day (length (stops_on tasks)) part c → SomeWord day part c v
   made_first tasks (makes_two v w first second a b) s =
       record { task = first; means = a; stands = some_standing (omega (arith, stops_both (first ∷ []) (second ∷ []), s.enough)) s.standing }
@@ -129,9 +123,6 @@ module _ {day part : List ℕ} {c : Cab} where
       → WalksWord day part c v mid (Some e) → SomeWord day mid e w
   made_second tasks (makes_two v w first second a b) s h =
       record { task = second; means = b; stands = some_between (first ∷ []) (second ∷ []) (h first a) s }
-
-  pub some_one : {w : ℕ} → SomeChange day part c (One w) → SomeWord day part c w
-  some_one s = made_one s.tasks s.makes s.stands
 
   pub some_first : {v w : ℕ} → SomeChange day part c (Two v w) → SomeWord day part c v
   some_first s = made_first s.tasks s.makes s.stands

@@ -1,9 +1,6 @@
 -- `walks::cabs::walk_stop` meets its contract.
-use Rattle.walks.proofs.WalkLaws.{stop_fails, stop_serves, full_load, some_fewer, some_served}
+use Rattle.walks.proofs.WalkLaws.{stop_fails, stop_serves, some_served}
 use Rattle.walks.proofs.cabs.walk_stop.Goals as goal
-
-pub empty_first-requires : goal.empty_first-requires
-empty_first-requires c = (c.requires.0, some_fewer c.requires.1, full_load c.args.day.now c.args.cab.load _ c.is_full-full.ensures)
 
 pub returns-in_err-ahead : goal.returns-in_err-ahead
 returns-in_err-ahead c = rw c.from_residual.ensures (stop_fails _ c.stop_quantity.ensures c.is_full-full.ensures c.in_err-ahead.ensures)

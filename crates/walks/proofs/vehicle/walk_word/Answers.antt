@@ -4,12 +4,6 @@ use Rattle.walks.proofs.WalkLaws.{some_fewer}
 use Rattle.walks.proofs.RewalkLaws.{means_stop, means_tip, stop_standing, word_stop, word_tip}
 use Rattle.walks.proofs.vehicle.walk_word.Goals as goal
 
-pub rest_cab-rested-requires : goal.rest_cab-rested-requires
-rest_cab-rested-requires c = (c.requires.0, some_fewer c.requires.1.stands)
-
-pub overflow_sub-word : goal.overflow_sub-word
-overflow_sub-word c = (means_stop c.requires.1.means c.if-word-lt-TIP.true).least
-
 pub walk_stop-requires : goal.walk_stop-requires
 walk_stop-requires c =
     let t = means_stop c.requires.1.means c.if-word-lt-TIP.true in
