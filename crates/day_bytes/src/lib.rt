@@ -16,25 +16,14 @@ pub fn read_words(bytes: &[u8], words: &mut [u32]) -> WordsAnswer
     ensures numbered { WordsNumbered result }
     ensures buffer { words.new ≡ read_buffer bytes.now words.old }
 {
-    let n = bytes.len() / 4;
-    if bytes.len() % 4 != 0 {
-        return WordsAnswer::Refused {
-            number: 1,
-            place: n,
-        };
+    let (chunks, rest) = bytes.as_chunks::<4>();
+    let place = chunks.len();
+    if !rest.is_empty() || place < 7 {
+        return WordsAnswer::Refused { number: 1, place };
     }
-    if n < 7 {
-        return WordsAnswer::Refused {
-            number: 1,
-            place: n,
-        };
+    if words.len() < place {
+        return WordsAnswer::Refused { number: 14, place };
     }
-    if words.len() < n {
-        return WordsAnswer::Refused {
-            number: 14,
-            place: n,
-        };
-    }
-    write_words(bytes, words, n);
-    WordsAnswer::Read { words: n }
+    write_words(chunks, words);
+    WordsAnswer::Read { words: place }
 }
