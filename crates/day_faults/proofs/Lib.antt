@@ -1,2 +1,2 @@
-pub mod Parts
-pub mod Rows
+pub mod Glance
+pub mod Judged

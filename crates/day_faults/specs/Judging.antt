@@ -1,40 +1,25 @@
 -- How the judge goes over a day in parts. It serves contracts; no definition of the day rests on it.
 -- Assumes nothing.
-use Rattle.std.specs.Prelude.{ℕ, ◌+◌, ◌*◌, ◌<◌, ◌≤◌, ◌≡◌, List, length, get_or, drop, eqb, if◌then◌else◌}
+use Rattle.std.specs.Prelude.{ℕ, ◌+◌, ◌*◌, List, drop, Result, Ok, Err}
 use Rattle.rules.specs.Answers.{refused}
-use Rattle.rules.specs.DayFile.{places_of, legs_at, words_of, judge_from}
-use Rattle.day_faults.specs.declared.faults.Fault.{Fault}
+use Rattle.rules.specs.DayFile.{Form, places_of, legs_at, form_at, judge_from}
+use Rattle.rules.specs.Faults.{day_fault_number}
+use Rattle.day_faults.specs.declared.sized.Fault.{Fault}
+use Rattle.day_faults.specs.declared.sized.SizedDay.{SizedDay}
 
 -- the answer on the words from an index on
-unfoldable pub judged_from : (d n : ℕ) (day : List ℕ) (from : ℕ) → List ℕ
-judged_from d n day from = judge_from d n (drop from day) from
+unfoldable pub judged_from : (day : SizedDay) (from : ℕ) → List ℕ
+judged_from day from = judge_from day.tips day.stops (drop from day.words.now) from
 
 -- the answer where the words up to an end were looked at: the fault found, or that on the words from the end on
-unfoldable pub judged_after : (d n : ℕ) (day : List ℕ) (end : ℕ) (found : Fault) → List ℕ
-judged_after d n day end found =
-    if eqb found.number 0 then judged_from d n day end else refused found.number found.place
+abbrev pub judged_after : (day : SizedDay) (end : ℕ) (found : Result (Unit {0}) Fault) → List ℕ
+judged_after day end (Ok _) = judged_from day end
+judged_after day end (Err found) = refused (day_fault_number found.fault) found.place
 
--- a day of d tips and n stops has its length
-pub record Whole (day : List ℕ) (d n : ℕ) : Type 0 where
-  pub tips_few : d < 16
-  pub stops_few : n < 256
-  pub long : length day ≡ words_of d n
-  pub short : length day < 1000000
+-- what the word at an index holds
+abbrev pub form_of : (day : SizedDay) (i : ℕ) → Form
+form_of day i = form_at day.tips day.stops i
 
--- each word from one index up to another is a leg of at most 1,440 minutes: kind and minutes are one range of words
-pub record InRange (day : List ℕ) (from end : ℕ) : Type 0 where
-  pub least : (k : ℕ) → from ≤ k → k < end → 0x90000000 ≤ get_or day k 0
-  pub most : (k : ℕ) → from ≤ k → k < end → get_or day k 0 ≤ 0x95A0FFFF
-
--- besides, the leg from the row's own place to itself is 0
-pub record RowRight (day : List ℕ) (from end own : ℕ) : Type 0 where
-  pub legs : InRange day from end
-  pub still : get_or day own 0 ≡ 0x90000000
-
--- the legs from place p stand from one index up to another
-pub record Row (day : List ℕ) (d n p from end : ℕ) : Type 0 where
-  pub whole : Whole day d n
-  pub place : p < places_of d n
-  pub starts : from ≡ legs_at d n + p * places_of d n
-  pub ends : end ≡ from + places_of d n
-  pub inside : end ≤ length day
+-- where the legs from a place begin
+abbrev pub row_at : (day : SizedDay) (from : ℕ) → ℕ
+row_at day from = legs_at day.tips day.stops + from * places_of day.tips day.stops

@@ -1,93 +1,78 @@
 // The first leg at fault. A row is looked at as a whole, and word by word only where that finds something.
-ghost use Rattle.std.specs.Prelude.{◌≡◌, true, ◌+◌, ◌*◌, ◌<◌, ◌≤◌, length};
-ghost use Rattle.rules.specs.DayFile.{legs_at};
-ghost use Rattle.day_faults.specs.Judging.{judged_from, judged_after, Whole, InRange, RowRight, Row};
+ghost use Rattle.std.specs.Prelude.{◌≡◌, ◌+◌, ◌<◌, true, length};
+ghost use Rattle.rules.specs.DayFile.{places_of, legs_at};
+ghost use Rattle.day_faults.specs.Judging.{judged_from, judged_after, row_at};
+ghost use Rattle.day_faults.specs.Rows.{InRange, RowRight};
 
-use crate::faults::{Fault, none_until};
-use crate::words::leg_word_fault;
+use crate::sized::{Fault, SizedDay, placed};
+use crate::words::test_leg;
 
-// 0 where a word is a leg of at most 1,440 minutes, else 1. Such legs are one range of words: kind 9 in bits 31-28, minutes 0 to
-// 0x5A0 in bits 27-16, any distance in bits 15-0.
-fn out_of_range(w: u32) -> u32
-    ensures { (result ≤ 1) × (result ≡ 0 → (0x90000000 ≤ w) × (w ≤ 0x95A0FFFF)) }
+// Whether each word is a leg of at most 1,440 minutes. Such legs are one range of words: kind 9 in bits 31-28, minutes 0 to 0x5A0 in
+// bits 27-16, any distance in bits 15-0. The fold has no way out but its end, so that several words are compared at once.
+fn all_legs(row: &[u32]) -> bool
+    ensures { result ≡ true → InRange row.now }
 {
-    if w < 0x90000000 {
-        return 1;
-    }
-    if 0x95A0FFFF < w {
-        return 1;
-    }
-    0
-}
-
-// How many words of a part of the legs are out of range. The loop has no way out but its end, so that several words are compared at once.
-fn legs_off(day: &[u32], from: usize, end: usize) -> u32
-    requires { (from ≤ end) × (end ≤ length day.now) × (length day.now < 0x100000000) }
-    ensures { result ≡ 0 → InRange day.now from end }
-{
-    let mut off: u32 = 0;
-    let mut i = from;
-    while i < end {
-        off = off + out_of_range(day[i]);
-        i += 1;
-    }
-    off
-}
-
-// The first fault among the legs from place p, word by word.
-fn row_words_fault(day: &[u32], d: u32, n: u32, p: usize, from: usize, end: usize) -> Fault
-    requires { Row day.now d n p from end }
-    ensures { judged_from d n day.now from ≡ judged_after d n day.now end result }
-{
-    let own = from + p;
-    let mut i = from;
-    while i < end {
-        let number = leg_word_fault(i == own, day[i]);
-        if number != 0 {
-            return Fault { number, place: i };
-        }
-        i += 1;
-    }
-    none_until(end)
+    row.iter().fold(true, |right, word| {
+        right & (0x9000_0000..=0x95A0_FFFF).contains(word)
+    })
 }
 
 // Whether a row is right at a glance: every word in range, and nothing to drive from the place to itself.
-fn row_right(day: &[u32], from: usize, end: usize, own: usize) -> bool
-    requires { (from ≤ own) × (own < end) × (end ≤ length day.now) × (length day.now < 0x100000000) }
-    ensures { result ≡ true → RowRight day.now from end own }
+fn row_right(row: &[u32], own: usize) -> bool
+    requires { own < length row.now }
+    ensures { result ≡ true → RowRight row.now own }
 {
-    if legs_off(day, from, end) != 0 {
-        return false;
-    }
-    day[own] == 0x90000000
+    all_legs(row) && row[own] == 0x9000_0000
 }
 
-// The first fault among the legs from place p.
-fn row_fault(day: &[u32], d: u32, n: u32, p: usize, from: usize, end: usize) -> Fault
-    requires { Row day.now d n p from end }
-    ensures { judged_from d n day.now from ≡ judged_after d n day.now end result }
-{
-    if row_right(day, from, end, from + p) {
-        return none_until(end);
+impl SizedDay<'_> {
+    // P, the number of places: the depot, the tips, the stops.
+    fn places(&self) -> usize
+        ensures { result ≡ places_of self.now.tips self.now.stops }
+    {
+        1 + self.tips + self.stops
     }
-    row_words_fault(day, d, n, p, from, end)
-}
 
-// The first fault among the legs.
-pub fn legs_fault(day: &[u32], d: u32, n: u32) -> Fault
-    requires { Whole day.now d n }
-    ensures { judged_from d n day.now (legs_at d n) ≡ judged_after d n day.now (length day.now) result }
-{
-    let places = 1 + d as usize + n as usize;
-    let mut p: usize = 0;
-    let mut i = 7 + 2 * (d as usize) + 3 * (n as usize);
-    while p < places {
-        let found = row_fault(day, d, n, p, i, i + places);
-        if found.number != 0 {
-            return found;
+    // Where the legs from a place begin.
+    fn row_at(&self, from: usize) -> usize
+        requires { from < places_of self.now.tips self.now.stops }
+        ensures { result ≡ row_at self.now from }
+    {
+        7 + 2 * self.tips + 3 * self.stops + from * self.places()
+    }
+
+    // The leg from one place to another, or to itself.
+    fn leg(&self, from: usize, to: usize) -> Result<(), Fault>
+        requires { (from < places_of self.now.tips self.now.stops) × (to < places_of self.now.tips self.now.stops) }
+        ensures { judged_from self.now (row_at self.now from + to) ≡ judged_after self.now (row_at self.now from + to + 1) result }
+    {
+        let at = self.row_at(from) + to;
+        placed(test_leg(self.words[at], from == to), at)
+    }
+
+    // The legs from a place.
+    fn check_row(&self, from: usize) -> Result<(), Fault>
+        requires { from < places_of self.now.tips self.now.stops }
+        ensures { judged_from self.now (row_at self.now from) ≡ judged_after self.now (row_at self.now (from + 1)) result }
+    {
+        let start = self.row_at(from);
+        let end = start + self.places();
+        if row_right(&self.words[start..end], from) {
+            return Ok(());
         }
-        i += places;
-        p += 1;
+        for to in 0..self.places() {
+            self.leg(from, to)?;
+        }
+        Ok(())
     }
-    none_until(i)
+
+    // The legs from every place.
+    pub fn check_legs(&self) -> Result<(), Fault>
+        ensures { judged_from self.now (legs_at self.now.tips self.now.stops) ≡ judged_after self.now (length self.now.words.now) result }
+    {
+        for from in 0..self.places() {
+            self.check_row(from)?;
+        }
+        Ok(())
+    }
 }

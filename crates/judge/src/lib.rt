@@ -1,110 +1,101 @@
 // A day judged: accepted, or refused at its first word at fault.
 #![tactic(auto)]
 
-ghost use Rattle.std.specs.Prelude.{◌≡◌, ◌<◌, length};
-ghost use Rattle.rules.specs.DayFile.{tips_end, judge_sized, judge_day};
+ghost use Rattle.std.specs.Prelude.{◌≡◌};
+ghost use Rattle.rules.specs.DayFile.{judge_day};
 ghost use Rattle.rules.specs.AnswerValues.{day_values};
-ghost use Rattle.day_faults.specs.Judging.{judged_from, judged_after, Whole};
+ghost use Rattle.judge.specs.Refusals.{sized_values, judged_values};
+ghost use Rattle.judge.specs.declared.Refusal.TheVariants.{Word};
 
-use day_faults::faults::{Fault, head_fault, stops_fault, tips_fault};
-use day_faults::legs::legs_fault;
+use day_faults::sized::{Fault, SizedDay};
 use rules::answers::DayAnswer;
+use rules::faults::DayFault;
 
-// The first fault from the stops on.
-fn fault_from_stops(day: &[u32], d: u32, n: u32) -> Fault
-    requires { Whole day.now d n }
-    ensures { judged_from d n day.now (tips_end d) ≡ judged_after d n day.now (length day.now) result }
-{
-    let found = stops_fault(day, d, n);
-    if found.number != 0 {
-        return found;
-    }
-    legs_fault(day, d, n)
+// Why a day is refused: it has no whole head, too many stops or no tip, another length than they ask for, or a word at fault.
+#[derive(Clone, Copy, PartialEq, Eq, Debug)]
+enum Refusal {
+    Short,
+    Sizes,
+    Length,
+    Word(Fault),
 }
 
-// The first fault from the tips on.
-fn fault_from_tips(day: &[u32], d: u32, n: u32) -> Fault
-    requires { Whole day.now d n }
-    ensures { judged_from d n day.now 7 ≡ judged_after d n day.now (length day.now) result }
-{
-    let found = tips_fault(day, d, n);
-    if found.number != 0 {
-        return found;
+impl From<Fault> for Refusal {
+    ghost from_gives = { λ found refusal. refusal ≡ Word found };
+
+    fn from(found: Fault) -> Refusal {
+        Refusal::Word(found)
     }
-    fault_from_stops(day, d, n)
 }
 
-// The first fault behind word 0.
-fn first_fault(day: &[u32], d: u32, n: u32) -> Fault
-    requires { Whole day.now d n }
-    ensures { judged_from d n day.now 1 ≡ judged_after d n day.now (length day.now) result }
+// The day, where its length is right for what word 0 says: kind 1 in bits 31-28, zeros in bits 27-12, d in bits 11-8, n in bits 7-0.
+#[tactic(auto, unfolding(rules::specs::DayFile::judge_day, rules::specs::DayFile::judge_sized, day_faults::specs::Judging::judged_from))]
+fn sized(day: &[u32]) -> Result<SizedDay<'_>, Refusal>
+    ensures { sized_values day.now result ≡ judge_day day.now }
 {
-    let found = head_fault(day, d, n);
-    if found.number != 0 {
-        return found;
+    if day.len() < 7 {
+        return Err(Refusal::Short);
     }
-    fault_from_tips(day, d, n)
-}
-
-// The answer on a day of the right length.
-fn judge_words(day: &[u32], d: u32, n: u32) -> DayAnswer
-    requires { Whole day.now d n }
-    ensures { day_values result ≡ judged_from d n day.now 1 }
-{
-    let found = first_fault(day, d, n);
-    if found.number != 0 {
-        return DayAnswer::Refused {
-            number: found.number,
-            place: found.place,
-        };
-    }
-    DayAnswer::Accepted { stops: n, tips: d }
-}
-
-// The answer on a day whose word 0 says d tips and n stops.
-fn judge_sized(day: &[u32], d: u32, n: u32) -> DayAnswer
-    requires { (d < 16) × (n < 256) }
-    ensures { day_values result ≡ judge_sized d n day.now }
-{
-    if 240 < n {
-        return DayAnswer::Refused {
-            number: 3,
+    let word = day[0];
+    if word / 0x1000 != 0x10000 {
+        return Err(Refusal::Word(Fault {
+            fault: DayFault::Form,
             place: 0,
-        };
+        }));
     }
-    if d == 0 {
-        return DayAnswer::Refused {
-            number: 3,
-            place: 0,
-        };
+    let tips = (word / 0x100 % 0x10) as usize;
+    let stops = (word % 0x100) as usize;
+    if stops > 240 || tips == 0 {
+        return Err(Refusal::Sizes);
     }
-    let places = 1 + d as usize + n as usize;
-    if day.len() != 7 + 2 * (d as usize) + 3 * (n as usize) + places * places {
-        return DayAnswer::Refused {
-            number: 4,
-            place: day.len(),
-        };
+    let places = 1 + tips + stops;
+    if day.len() != 7 + 2 * tips + 3 * stops + places * places {
+        return Err(Refusal::Length);
     }
-    judge_words(day, d, n)
+    Ok(SizedDay {
+        words: day,
+        tips,
+        stops,
+    })
 }
 
-// A day of any words and any length is accepted, or refused by 1 to 5. Word 0 has kind 1 in bits 31-28, zeros in bits 27-12, d in
-// bits 11-8, n in bits 7-0.
+// The day, where no word is at fault.
+#[tactic(auto, using(day_faults::proofs::Judged::end_judged))]
+fn judged(day: &[u32]) -> Result<SizedDay<'_>, Refusal>
+    ensures { judged_values day.now result ≡ judge_day day.now }
+{
+    let day = sized(day)?;
+    day.check_head()?;
+    day.check_tips()?;
+    day.check_stops()?;
+    day.check_legs()?;
+    Ok(day)
+}
+
+// A day of any words and any length is accepted, or refused by 1 to 5.
 pub fn judge(day: &[u32]) -> DayAnswer
     ensures { day_values result ≡ judge_day day.now }
 {
-    if day.len() < 7 {
-        return DayAnswer::Refused {
+    match judged(day) {
+        Ok(SizedDay { tips, stops, .. }) => DayAnswer::Accepted {
+            stops: stops as u32,
+            tips: tips as u32,
+        },
+        Err(Refusal::Short) => DayAnswer::Refused {
             number: 1,
             place: day.len(),
-        };
-    }
-    let w = day[0];
-    if w / 0x1000 != 0x10000 {
-        return DayAnswer::Refused {
-            number: 2,
+        },
+        Err(Refusal::Sizes) => DayAnswer::Refused {
+            number: 3,
             place: 0,
-        };
+        },
+        Err(Refusal::Length) => DayAnswer::Refused {
+            number: 4,
+            place: day.len(),
+        },
+        Err(Refusal::Word(Fault { fault, place })) => DayAnswer::Refused {
+            number: fault as u32,
+            place,
+        },
     }
-    judge_sized(day, w / 0x100 % 0x10, w % 0x100)
 }
