@@ -80,36 +80,12 @@ pub above_square : (s guess : ℕ) → 1 ≤ guess → s < ((guess + s / guess) 
 above_square s guess h =
     omega (arith, lt-mul-div-succ s h, product_mean guess (s / guess + 1) ((guess + s / guess) / 2 + 1) (omega arith))
 
-pub sum_fits : (s guess : ℕ) → s ≤ 1000000000 → guess ≤ 1000000001 → guess + s / guess < 4294967296
-sum_fits s guess h g = omega (arith, div-le_self s guess)
-
-pub mean_fits : (s guess : ℕ) → s ≤ 1000000000 → guess ≤ 1000000001 → (guess + s / guess) / 2 + 1 < 4294967296
-mean_fits s guess h g = omega (arith, div-le_self s guess)
-
 pub mean_above : (s guess : ℕ) → s ≤ 1000000000 → 1 ≤ guess → guess ≤ 1000000001
     → (s < ((guess + s / guess) / 2 + 1) * ((guess + s / guess) / 2 + 1)) × (1 ≤ (guess + s / guess) / 2 + 1) × ((guess + s / guess) / 2 + 1 ≤ 1000000001)
 mean_above s guess h g l = (above_square s guess g, omega arith, omega (arith, div-le_self s guess))
 
-pub square_fits : (r : ℕ) → r < 4294967296 → r * r < 18446744073709551616
-square_fits r h = omega (arith, square_le r 4294967295 (omega arith))
-
--- a number whose square is above s is not 0, and one less comes at most to the root
-pub square_some : (s r : ℕ) {square : ℕ} → square ≡ r * r → s < square → 1 ≤ r
-square_some s zero e h = absurd (omega arith)
-square_some s (suc r) e h = omega arith
-
-pub one_less : (s a : ℕ) → s < a * a → s < (a - 1 + 1) * (a - 1 + 1)
-one_less s zero h = absurd (omega arith)
-one_less s (suc a) h = let e : suc a - 1 + 1 ≡ suc a = omega arith in rw e h
-
-pub next_less : (s r : ℕ) {square : ℕ} → square ≡ r * r → s < square → r - 1 < r
-next_less s r e h = omega (arith, square_some s r e h)
-
-pub squared_less : (s a : ℕ) {square : ℕ} → square ≡ a * a → s < square → s < (a - 1 + 1) * (a - 1 + 1)
-squared_less s a e h = one_less s a (rw e at h)
-
-pub root_reached : (s r : ℕ) {square : ℕ} → square ≡ r * r → square ≤ s → s < (r + 1) * (r + 1) → r ≡ root s
-root_reached s r e h g = root_found s r (rw e at h) g
+pub root_reached : (s r : ℕ) {wide square : ℕ} → wide ≡ s → square ≡ r * r → square ≤ wide → s < (r + 1) * (r + 1) → r ≡ root s
+root_reached s r w e h g = root_found s r (rw (w, e) at h) g
 
 -- the root of a hundred times a number, divided by ten, is its root
 hundred : (a : ℕ) → 10 * a * (10 * a) ≡ 100 * (a * a)

@@ -15,7 +15,7 @@ fn above(s: u32, guess: u32) -> u32
 fn square(r: u32) -> u64
     ensures { result ≡ r * r }
 {
-    (r as u64) * (r as u64)
+    u64::from(r) * u64::from(r)
 }
 
 // The greatest whole number whose square is at most s. Two steps come to it, or next to it, from a guess that is off by a tenth.
@@ -25,7 +25,7 @@ pub fn root_of(s: u32, guess: u32) -> u32
 {
     let first = above(s, guess);
     let mut r = above(s, first) - 1;
-    while (s as u64) < square(r) {
+    while u64::from(s) < square(r) {
         r -= 1;
     }
     r
