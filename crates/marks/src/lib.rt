@@ -2,68 +2,103 @@
 // What a function does to the set is said through `marked`, the set that the words hold.
 #![tactic(auto)]
 
-ghost use Rattle.std.specs.Prelude.{◌-◌, ◌^◌, ◌<◌, ◌≡◌, true, false, replicate};
+ghost use Rattle.std.specs.Prelude.{ℕ, ◌-◌, ◌^◌, ◌<◌, ◌≡◌, true, false, replicate, MatchOption};
 ghost use Rattle.laws.specs.Bits.{bit, LowestBit};
 ghost use Rattle.laws.specs.Marks.{marked, ones_of, up_to, Unmarked, Marked, Lowest};
 
-#[derive(Clone, Copy)]
+#[derive(Clone, Copy, PartialEq, Eq)]
 pub struct Marks {
     pub words: [u64; 4],
 }
 
-// No number is marked.
-fn none() -> Marks
-    ensures { result.words ≡ replicate 4 0 }
-{
-    Marks { words: [0u64; 4] }
+impl Marks {
+    // No number is marked.
+    fn none() -> Marks
+        ensures { result.words ≡ replicate 4 0 }
+    {
+        Marks { words: [0; 4] }
+    }
+
+    // The numbers 1 to n.
+    pub fn all_to(n: usize) -> Marks
+        requires { n < 256 }
+        ensures marks { marked result.words ≡ up_to n }
+        ensures count { ones_of result.words ≡ n }
+    {
+        let mut marks = Marks::none();
+        for k in 0..n {
+            marks = marks.mark(k + 1);
+        }
+        marks
+    }
+
+    // The set with k, which was not in it.
+    fn mark(mut self, k: usize) -> Marks
+        requires within { k < 256 }
+        requires unmarked { marked self.words k ≡ false }
+        ensures { Marked self.words k result.words }
+    {
+        self.words[k / 64] += 1 << (k % 64);
+        self
+    }
+
+    // The set without k, which was in it.
+    pub fn unmark(mut self, k: usize) -> Marks
+        requires { marked self.words k ≡ true }
+        ensures { Unmarked self.words k result.words }
+    {
+        self.words[k / 64] -= 1 << (k % 64);
+        self
+    }
+
+    // How many numbers are marked.
+    pub fn remaining(self) -> u32
+        ensures { result ≡ ones_of self.words }
+    {
+        self.words.iter().map(|word| word.count_ones()).sum()
+    }
+
+    // The lowest marked number, where one is marked.
+    pub fn lowest(self) -> Option<usize>
+        ensures { MatchOption result ((j : ℕ) → marked self.words j ≡ false) (λ k. (k < 256) × Lowest (marked self.words) 256 k) }
+    {
+        for (i, word) in self.words.iter().enumerate() {
+            if *word != 0 {
+                return Some(i * 64 + lowest_bit(*word));
+            }
+        }
+        None
+    }
 }
 
-// The set with k, which was not in it.
-fn mark(m: Marks, k: usize) -> Marks
-    requires { (k < 256) × (marked m.words k ≡ false) }
-    ensures { Marked m.words k result.words }
-{
-    let i = k / 64;
-    let b = k % 64;
-    let mut next = m;
-    next.words[i] = next.words[i] + (1u64 << b);
-    next
-}
-
-// The set without k, which was in it.
+// The set without k, which was in it. It stands until its callers use the method.
 pub fn unmark(m: Marks, k: usize) -> Marks
     requires { marked m.words k ≡ true }
     ensures { Unmarked m.words k result.words }
 {
-    let i = k / 64;
-    let b = k % 64;
-    let mut next = m;
-    next.words[i] = next.words[i] - (1u64 << b);
-    next
+    m.unmark(k)
 }
 
-// The numbers 1 to n.
+// The numbers 1 to n. It stands until its callers use the method.
 pub fn all_to(n: usize) -> Marks
     requires { n < 256 }
     ensures { (marked result.words ≡ up_to n) × (ones_of result.words ≡ n) }
 {
-    let mut m = none();
-    let mut i = 0;
-    while i < n {
-        m = mark(m, i + 1);
-        i += 1;
-    }
-    m
+    Marks::all_to(n)
 }
 
-// How many numbers are marked.
+// How many numbers are marked. It stands until its callers use the method.
 pub fn remaining(m: Marks) -> u32
     ensures { result ≡ ones_of m.words }
 {
-    u64::count_ones(m.words[0])
-        + u64::count_ones(m.words[1])
-        + u64::count_ones(m.words[2])
-        + u64::count_ones(m.words[3])
+    m.remaining()
+}
+
+// The lowest marked number, and 256 where none is marked. It stands until its callers use the method.
+pub fn lowest(m: Marks) -> usize
+    ensures { Lowest (marked m.words) 256 result }
+{
+    m.lowest().unwrap_or(256)
 }
 
 // The lowest set bit of a word that has one.
@@ -71,7 +106,7 @@ pub fn lowest_bit(w: u64) -> usize
     requires { 0 < w }
     ensures { LowestBit 64 w result }
 {
-    u64::trailing_zeros(w) as usize
+    w.trailing_zeros() as usize
 }
 
 // The word without bit b, which was set.
@@ -79,20 +114,5 @@ pub fn clear_bit(w: u64, b: usize) -> u64
     requires { (b < 64) × (bit w b ≡ 1) }
     ensures { (result ≡ w - 2 ^ b) × (result < w) }
 {
-    w - (1u64 << b)
-}
-
-// The lowest marked number, and 256 where none is marked.
-pub fn lowest(m: Marks) -> usize
-    ensures { Lowest (marked m.words) 256 result }
-{
-    let mut i = 0;
-    while i < 4 {
-        let w = m.words[i];
-        if w != 0 {
-            return i * 64 + lowest_bit(w);
-        }
-        i += 1;
-    }
-    256
+    w - (1 << b)
 }
