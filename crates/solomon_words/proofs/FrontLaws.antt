@@ -1,26 +1,14 @@
 -- Laws of the words in front of the legs: one for each way through their tests. Assumes nothing.
-use Prim.Native.Nat.{ℕ, ◌+◌, ◌-◌, ◌*◌, ◌/◌, ◌%◌, ◌≤◌, ◌<◌}
-use mathlib.Core.Path.{◌≡◌, refl, sym, ap, ◌∙◌}
-use mathlib.Core.List.{List}
-use native.Mathlib.Omega.{arith}
-use lib.ListN.{length, set}
+use Rattle.std.proofs.Common.{◌≡◌, ℕ, ◌+◌, ◌-◌, ◌/◌, ◌%◌, ◌≤◌, ◌<◌, List, ◌++◌, length, take, drop, refl, sym, ap, ◌∙◌, arith, append-nil}
+use Rattle.std.proofs.lemmas.List.{length-take-le}
+use Rattle.std.proofs.Math.ListN.{drop_of_length-le}
 use borrow.Author.Tests.{eq-eqb, ne_eqb, lt-ltb, le-ltb}
-use Rattle.rules.specs.DayFile.{legs_at, words_of}
-use Rattle.rules.specs.Lists.{listed}
-use Rattle.rules.specs.SolomonDay.{hours_word, head_word, tip_word, stop_word, day_word}
+use Rattle.rules.specs.DayFile.{legs_at}
+use Rattle.rules.specs.Lists.{listed, over}
 use Rattle.laws.specs.Buffer.{Wrote}
-use Rattle.laws.proofs.Listed.{wrote_next}
-use Rattle.solomon_words.specs.Table.{CustomerFit, StopFit, Fit}
-
--- the last two words of the head
-module _ (number : ℕ → ℕ → ℕ) (load n i : ℕ) (n0 : i ≡ 0 → ⊥) (n1 : i ≡ 1 → ⊥) (n2 : i ≡ 2 → ⊥) (n3 : i ≡ 3 → ⊥) (n4 : i ≡ 4 → ⊥) where
-  pub head_rest : i ≡ 5 → 1616512416 ≡ head_word number load n i
-  unfolding head_word
-  head_rest h = rw (ne_eqb i 0 n0, ne_eqb i 1 n1, ne_eqb i 2 n2, ne_eqb i 3 n3, ne_eqb i 4 n4, eq-eqb i 5 h) refl
-
-  pub head_minutes : (i ≡ 5 → ⊥) → 1879048192 ≡ head_word number load n i
-  unfolding head_word
-  head_minutes h = rw (ne_eqb i 0 n0, ne_eqb i 1 n1, ne_eqb i 2 n2, ne_eqb i 3 n3, ne_eqb i 4 n4, ne_eqb i 5 h) refl
+use Rattle.laws.proofs.Buffer.{over_drop}
+use Rattle.laws.proofs.Listed.{length_listed}
+use Rattle.rules.specs.SolomonDay.{hours_word, stop_word, day_word}
 
 -- the three words of a stop
 module _ (number : ℕ → ℕ → ℕ) (j : ℕ) {k r : ℕ} where
@@ -38,33 +26,15 @@ module _ (number : ℕ → ℕ → ℕ) (j : ℕ) {k r : ℕ} where
 
 -- the word at an index
 module _ (number : ℕ → ℕ → ℕ) (load n i : ℕ) {r : ℕ} where
-  pub front_head : i < 7 → r ≡ head_word number load n i → r ≡ day_word number load n i
-  unfolding day_word
-  front_head h e = rw (lt-ltb i 7 h) e
-
-  pub front_tip : 7 ≤ i → i < 9 → r ≡ tip_word number (i - 7) → r ≡ day_word number load n i
-  unfolding day_word
-  front_tip g h e = rw (le-ltb i 7 g, lt-ltb i 9 h) e
-
   pub front_stop : 7 ≤ i → 9 ≤ i → i < legs_at 1 n → r ≡ stop_word number (i - 9) → r ≡ day_word number load n i
   unfolding day_word
   front_stop f g h e = rw (le-ltb i 7 f, le-ltb i 9 g, lt-ltb i (legs_at 1 n) h) e
 
--- the depot, and the customer of a stop's word
-pub depot_fits : {number : ℕ → ℕ → ℕ} {load n : ℕ} → Fit number load n → CustomerFit number 0
-depot_fits f = f.customers 0 (omega arith)
-
-module _ {number : ℕ → ℕ → ℕ} {load n : ℕ} (f : Fit number load n) (i : ℕ) (low : 9 ≤ i) (high : i < legs_at 1 n) where
-  pub stop_index : i - 9 < 720
-  stop_index = omega (arith, f.stops_most)
-
-  pub stop_customer : CustomerFit number (1 + (i - 9) / 3)
-  stop_customer = f.customers (1 + (i - 9) / 3) (omega arith)
-
-  pub stop_fits : StopFit number (1 + (i - 9) / 3)
-  stop_fits = f.stops (1 + (i - 9) / 3) (omega arith) (omega arith)
-
--- one word more is written
-pub front_written : (f : ℕ → ℕ) (before words : List ℕ) (n i : ℕ) {word : ℕ} → Wrote (listed f i) before words i → word ≡ f i → i < legs_at 1 n
-    → words_of 1 n ≤ length before → Wrote (listed f (i + 1)) before (set words i word) (i + 1)
-front_written f before words n i w e h room = wrote_next f before words i w e (omega arith)
+-- the front of a buffer, lent and written whole
+pub front_whole : (f : ℕ → ℕ) (p front : List ℕ) (m i n : ℕ) → Wrote (listed f i) (take m p) front i → i ≡ m → m ≤ length p → m ≡ n
+    → front ++ drop m p ≡ over (listed f n) p
+front_whole f p front m i n w e l en =
+    let rest : length (take m p) ≤ i = omega (arith, length-take-le m p l) in
+    let all = w.text ∙ over_drop (listed f i) (take m p) i (length_listed f i)
+    ∙ ap (λ (xs : List ℕ). listed f i ++ xs) (drop_of_length-le (take m p) rest) ∙ append-nil (listed f i) ∙ ap (listed f) e in
+    ap (λ (xs : List ℕ). xs ++ drop m p) all ∙ sym (over_drop (listed f m) p m (length_listed f m)) ∙ ap (λ (k : ℕ). over (listed f k) p) en

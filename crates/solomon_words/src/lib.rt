@@ -1,31 +1,40 @@
-// The words of the day that a text gives, written from a table of its numbers.
+// The words of the day that a text gives, written from the numbers of its customers.
 #![tactic(auto)]
 
 mod legs;
 pub mod numbers;
 mod words;
 
-ghost use Rattle.std.specs.Prelude.{◌≡◌, length};
-ghost use Rattle.rules.specs.DayFile.{words_of};
-ghost use Rattle.rules.specs.Lists.{listed, over};
-ghost use Rattle.rules.specs.SolomonDay.{day_word};
-ghost use Rattle.solomon_words.specs.Table.{cell, Writable};
+ghost use Rattle.std.specs.Prelude.{◌≡◌, ◌-◌, ◌≤◌, length};
+ghost use Rattle.solomon_words.specs.Table.{cell, Fit};
 
-use crate::legs::write_legs;
-use crate::words::write_front;
-
-// What a text says beside its customers: the capacity, and how many stops there are.
+// What a text says: the capacity, and the numbers of its customers, of which the depot is the first. They are within a day file's limits.
 #[derive(Clone, Copy)]
-pub struct Instance {
+pub struct Instance<'a> {
     pub load: u32,
-    pub stops: usize,
+    pub customers: &'a [[u32; 7]],
+    pub ghost depot: { 1 ≤ length customers.now },
+    pub ghost fits: { Fit (cell customers.now) load (length customers.now - 1) },
 }
 
-// The day of the customers in a table, written at the front of the buffer.
-pub fn write_day(cells: &[u32], given: Instance, words: &mut [u32])
-    requires { Writable cells.now given (length words.old) }
-    ensures { words.new ≡ over (listed (day_word (cell cells.now) given.load given.stops) (words_of 1 given.stops)) words.old }
-{
-    write_front(cells, given, words);
-    write_legs(cells, given, words)
+impl<'a> Instance<'a> {
+    ghost use Rattle.rules.specs.DayFile.{words_of};
+    ghost use Rattle.rules.specs.Lists.{listed, over};
+    ghost use Rattle.solomon_words.specs.Instances.{stops_in, word_at};
+
+    // How many stops there are.
+    pub(crate) fn stops(&self) -> usize
+        ensures { result ≡ stops_in self.now }
+    {
+        self.customers.len() - 1
+    }
+
+    // The day, written at the front of the buffer.
+    pub fn write_day(&self, words: &mut [u32])
+        requires { words_of 1 (stops_in self.now) ≤ length words.old }
+        ensures { words.new ≡ over (listed (word_at self.now) (words_of 1 (stops_in self.now))) words.old }
+    {
+        self.write_front(words);
+        self.write_legs(words)
+    }
 }

@@ -1,100 +1,102 @@
 // The words of the day in front of its legs.
 ghost use Rattle.std.specs.Prelude.{◌≡◌, ◌+◌, ◌*◌, ◌≤◌, ◌<◌, ◌/◌, length};
-ghost use Rattle.rules.specs.DayFile.{legs_at};
+ghost use Rattle.rules.specs.DayFile.{legs_at, words_of};
 ghost use Rattle.rules.specs.Lists.{listed, over};
-ghost use Rattle.rules.specs.SolomonDay.{hours_word, head_word, tip_word, stop_word, day_word};
-ghost use Rattle.solomon_words.specs.Table.{cell, CustomerFit, StopFit, Fit, Writable};
+ghost use Rattle.rules.specs.SolomonDay.{hours_word, head_word, tip_word, stop_word};
+ghost use Rattle.solomon_words.specs.Instances.{number_in, stops_in, word_at};
 
 use crate::Instance;
 
-// Field i of customer k.
-pub fn cell_at(cells: &[u32], k: usize, i: usize) -> u32
-    requires { (1687 ≤ length cells.now) × (k ≤ 240) × (i < 7) }
-    ensures { result ≡ cell cells.now k i }
-{
-    cells[7 * k + i]
-}
+// The fields of a customer that the day asks for.
+pub const ACROSS: usize = 1;
 
-fn hours(cells: &[u32], k: usize) -> u32
-    requires { (1687 ≤ length cells.now) × (k ≤ 240) × CustomerFit (cell cells.now) k }
-    ensures { result ≡ hours_word (cell cells.now) k }
-{
-    let opens = cell_at(cells, k, 4);
-    let closes = cell_at(cells, k, 5);
-    0x50000000 + (0x1000 * opens + closes)
-}
+pub const UPWARD: usize = 2;
 
-fn head_word(cells: &[u32], given: Instance, i: usize) -> u32
-    requires { (1687 ≤ length cells.now) × Fit (cell cells.now) given.load given.stops }
-    ensures { result ≡ head_word (cell cells.now) given.load given.stops i }
-{
-    if i == 0 {
-        return 0x10000000 + (0x100 + given.stops as u32);
-    }
-    if i == 1 {
-        return 0x20000000 + given.load;
-    }
-    if i == 2 {
-        return 0x30000000 + 1000000;
-    }
-    if i == 3 {
-        return 0x40000000 + 240;
-    }
-    if i == 4 {
-        return hours(cells, 0);
-    }
-    if i == 5 {
-        return 0x60000000 + (0x1000 * 1440 + 1440);
-    }
-    0x70000000
-}
+const DEMAND: usize = 3;
 
-fn tip_word(cells: &[u32], j: usize) -> u32
-    requires { (1687 ≤ length cells.now) × CustomerFit (cell cells.now) 0 }
-    ensures { result ≡ tip_word (cell cells.now) j }
-{
-    if j % 2 == 0 {
-        return hours(cells, 0);
-    }
-    0x70000000
-}
+const OPENS: usize = 4;
 
-fn stop_word(cells: &[u32], j: usize) -> u32
-    requires { (1687 ≤ length cells.now) × (j < 720) × CustomerFit (cell cells.now) (1 + j / 3) × StopFit (cell cells.now) (1 + j / 3) }
-    ensures { result ≡ stop_word (cell cells.now) j }
-{
-    let k = 1 + j / 3;
-    if j % 3 == 0 {
-        return hours(cells, k);
-    }
-    if j % 3 == 1 {
-        return 0x70000000 + cell_at(cells, k, 6);
-    }
-    0x80000000 + cell_at(cells, k, 3)
-}
+const CLOSES: usize = 5;
 
-fn front_word(cells: &[u32], given: Instance, i: usize) -> u32
-    requires { (1687 ≤ length cells.now) × Fit (cell cells.now) given.load given.stops × (i < legs_at 1 given.stops) }
-    ensures { result ≡ day_word (cell cells.now) given.load given.stops i }
-{
-    if i < 7 {
-        return head_word(cells, given, i);
-    }
-    if i < 9 {
-        return tip_word(cells, i - 7);
-    }
-    stop_word(cells, i - 9)
-}
+const SERVICE: usize = 6;
 
-// All of them, written at the front of the buffer.
-pub fn write_front(cells: &[u32], given: Instance, words: &mut [u32])
-    requires { Writable cells.now given (length words.old) }
-    ensures { words.new ≡ over (listed (day_word (cell cells.now) given.load given.stops) (legs_at 1 given.stops)) words.old }
-{
-    let legs = 9 + 3 * given.stops;
-    let mut i: usize = 0;
-    while i < legs {
-        words[i] = front_word(cells, given, i);
-        i += 1;
+impl<'a> Instance<'a> {
+    // Field i of customer k.
+    pub(crate) fn number(&self, k: usize, i: usize) -> u32
+        requires { (k ≤ stops_in self.now) × (i < 7) }
+        ensures { result ≡ number_in self.now k i }
+    {
+        self.customers[k][i]
+    }
+
+    fn hours(&self, k: usize) -> u32
+        requires { k ≤ stops_in self.now }
+        ensures { result ≡ hours_word (number_in self.now) k }
+    {
+        0x50000000 + (0x1000 * self.number(k, OPENS) + self.number(k, CLOSES))
+    }
+
+    #[tactic(auto, unfolding(rules::specs::SolomonDay::head_word))]
+    fn head_word(&self, i: usize) -> u32
+        ensures { result ≡ head_word (number_in self.now) self.now.load (stops_in self.now) i }
+    {
+        match i {
+            0 => 0x10000000 + (0x100 + self.stops() as u32),
+            1 => 0x20000000 + self.load,
+            2 => 0x30000000 + 1000000,
+            3 => 0x40000000 + 240,
+            4 => self.hours(0),
+            5 => 0x60000000 + (0x1000 * 1440 + 1440),
+            _ => 0x70000000,
+        }
+    }
+
+    #[tactic(auto, unfolding(rules::specs::SolomonDay::tip_word))]
+    fn tip_word(&self, j: usize) -> u32
+        ensures { result ≡ tip_word (number_in self.now) j }
+    {
+        if j % 2 == 0 {
+            self.hours(0)
+        } else {
+            0x70000000
+        }
+    }
+
+    #[tactic(auto, unfolding(rules::specs::SolomonDay::stop_word))]
+    fn stop_word(&self, j: usize) -> u32
+        requires { 1 + j / 3 ≤ stops_in self.now }
+        ensures { result ≡ stop_word (number_in self.now) j }
+    {
+        let k = 1 + j / 3;
+        match j % 3 {
+            0 => self.hours(k),
+            1 => 0x70000000 + self.number(k, SERVICE),
+            _ => 0x80000000 + self.number(k, DEMAND),
+        }
+    }
+
+    #[tactic(auto, unfolding(rules::specs::SolomonDay::day_word))]
+    fn front_word(&self, i: usize) -> u32
+        requires { i < legs_at 1 (stops_in self.now) }
+        ensures { result ≡ word_at self.now i }
+    {
+        if i < 7 {
+            self.head_word(i)
+        } else if i < 9 {
+            self.tip_word(i - 7)
+        } else {
+            self.stop_word(i - 9)
+        }
+    }
+
+    // All of them, written at the front of the buffer.
+    pub(crate) fn write_front(&self, words: &mut [u32])
+        requires { words_of 1 (stops_in self.now) ≤ length words.old }
+        ensures { words.new ≡ over (listed (word_at self.now) (legs_at 1 (stops_in self.now))) words.old }
+    {
+        let front = 9 + 3 * self.stops();
+        for (i, word) in words[..front].iter_mut().enumerate() {
+            *word = self.front_word(i);
+        }
     }
 }

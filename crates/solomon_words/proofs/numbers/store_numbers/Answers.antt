@@ -1,7 +1,10 @@
--- `solomon_words::numbers::store_numbers` meets its contract: the numbers of k customers are stored.
-use borrow.Author.Rules.{rules}
-use Rattle.solomon_words.proofs.TableLaws.{stored_next, customer_on, size_still}
+-- `solomon_words::numbers::store_numbers` meets its contract: the numbers of the customers so far are stored.
+use Rattle.std.proofs.Common.{arith}
+use Rattle.solomon_words.proofs.TableLaws.{customer_on, line_more}
 use Rattle.solomon_words.proofs.numbers.store_numbers.Goals as goal
 
-pub loop-k-preserved : goal.loop-k-preserved
-loop-k-preserved c = (search rules, search customer_on, search stored_next, search size_still)
+pub loop-customer-preserved : goal.loop-customer-preserved
+loop-customer-preserved c = let h = c.loop-customer.invariant in record {
+  line = search customer_on;
+  stored = line_more _ _ _ _ h.stored (omega arith) h.line c.numbers_at.ensures;
+}

@@ -1,13 +1,11 @@
--- `solomon_words::numbers::store_numbers` meets its contract: the numbers of k customers are stored.
-use Prim.Native.Nat.{◌-◌, ◌+◌, ◌*◌, ◌≤◌}
-use mathlib.Core.Path.{◌≡◌}
-use lib.ListN.{length}
+-- `solomon_words::numbers::store_numbers` meets its contract: the numbers of the customers so far are stored.
+use Rattle.std.proofs.Common.{◌≡◌, ◌+◌}
 use Rattle.rules.specs.TextFields.{line_at}
 use Rattle.solomon_words.specs.Table.{Stored}
 use Rattle.solomon_words.proofs.numbers.store_numbers.Given as goal
 
-abbrev pub invariant-loop-k : goal.invariant-loop-k
-invariant-loop-k l = (l.k ≤ l.customers) × (l.at ≡ line_at l.text (6 + l.k)) × Stored l.text l.cells (7 * l.k) × (length l.cells ≡ length l.initial.cells)
-
-abbrev pub decreases-loop-k : goal.decreases-loop-k
-decreases-loop-k l = l.customers - l.k
+abbrev pub invariant-loop-customer : goal.invariant-loop-customer
+invariant-loop-customer l = record {
+  line : l.at ≡ line_at l.text (6 + l.customer-index);
+  stored : Stored l.text l.customers l.customer-index;
+}
