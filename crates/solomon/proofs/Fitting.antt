@@ -1,6 +1,6 @@
 -- The numbers of a text without fault are within a day file's limits, and so is the table that they are read into. Assumes nothing.
 use Rattle.std.specs.Prelude.{if◌then◌else◌}
-use Prim.Native.Nat.{ℕ, ◌+◌, ◌-◌, ◌*◌, ◌≤◌, ◌<◌}
+use Prim.Native.Nat.{ℕ, ◌+◌, ◌-◌, ◌≤◌, ◌<◌}
 use mathlib.Core.Path.{◌≡◌, refl}
 use mathlib.Core.Bool.{Bool, true, false}
 use mathlib.Core.List.{List}
@@ -14,7 +14,6 @@ use Rattle.text_fields.specs.Runs.{held_at}
 use Rattle.text_fields.proofs.Numbers.{held_most}
 use Rattle.solomon_form.proofs.Judged.{TextRight}
 use Rattle.solomon_words.specs.Table.{cell, Stored, CustomerFit, StopFit, Fit, Same}
-use Rattle.solomon_words.proofs.TableLaws.{stored_cell}
 
 -- a number in its range
 range_holds : (text : List ℕ) (at least most : ℕ) → range_fault text at least most ≡ 0 → (least ≤ number_at text at) × (number_at text at ≤ most)
@@ -93,12 +92,12 @@ module _ (text : List ℕ) (n : ℕ) (t : TextRight text n) where
     stops = text_stop;
   }
 
-  module _ (cells : List ℕ) (s : Stored text cells (7 * (n + 1))) where
-    exact : (k i most : ℕ) → k ≤ n → i < 7 → most < 1000000 → customer_number text k i ≤ most → cell cells k i ≡ customer_number text k i
+  module _ (customers : List (List ℕ)) (s : Stored text customers (n + 1)) where
+    exact : (k i most : ℕ) → k ≤ n → i < 7 → most < 1000000 → customer_number text k i ≤ most → cell customers k i ≡ customer_number text k i
     unfolding customer_number
-    exact k i most h l few m = held_most text (place_of text (6 + k) i) (stored_cell text cells n k i s h l) most few m
+    exact k i most h l few m = held_most text (place_of text (6 + k) i) (s k (omega arith) i l) most few m
 
-    pub table_same : Same n (cell cells) (customer_number text)
+    pub table_same : Same n (cell customers) (customer_number text)
     table_same = record {
       across = λ k h. exact k 1 1000 h (omega arith) (omega arith) (text_customer k h).across;
       upward = λ k h. exact k 2 1000 h (omega arith) (omega arith) (text_customer k h).upward;
@@ -112,7 +111,7 @@ module _ (text : List ℕ) (n : ℕ) (t : TextRight text n) where
     unfolding capacity
     load_same e = held_most text (place_of text 3 1) e 100000 (omega arith) text_load.1
 
-    pub table_fits : {load : ℕ} → load ≡ capacity text → Fit (cell cells) load n
+    pub table_fits : {load : ℕ} → load ≡ capacity text → Fit (cell customers) load n
     table_fits {load} e = record {
       stops_most = t.stops_most;
       load_least = rw e text_load.0;

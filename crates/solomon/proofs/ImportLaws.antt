@@ -1,5 +1,5 @@
 -- Laws of the import: one for each way through it. Assumes nothing.
-use Prim.Native.Nat.{ℕ, ◌+◌, ◌*◌, ◌≤◌, ◌<◌}
+use Prim.Native.Nat.{ℕ, ◌+◌, ◌-◌, ◌≤◌, ◌<◌}
 use mathlib.Core.Path.{◌≡◌, refl, sym, ap, subst, ◌∙◌}
 use mathlib.Core.List.{List, [], ◌∷◌}
 use native.Mathlib.Omega.{arith}
@@ -13,22 +13,29 @@ use Rattle.rules.specs.SolomonDay.{day_word, stops_of, import_words, import_answ
 use Rattle.rules.specs.declared.texts.Verdict.{Verdict}
 use Rattle.text_fields.specs.Runs.{held_at}
 use Rattle.solomon_form.proofs.Judged.{TextRight, text_right}
-use Rattle.solomon_words.specs.Table.{cell, Stored, Writable}
+use Rattle.solomon_words.specs.Table.{cell, Stored, Fit}
 use Rattle.solomon.proofs.Fitting.{table_same, load_same, table_fits}
 use Rattle.solomon.proofs.DayWords.{words_same}
 
--- the table of a text, and the day written from it
-module _ (text cells : List ℕ) (n : ℕ) {held : ℕ} where
-  pub table_writable : TextRight text n → Stored text cells (7 * (n + 1)) → held ≡ held_at text (place_of text 3 1) → 1687 ≤ length cells
-      → {room : ℕ} → words_of 1 n ≤ room → Writable cells (record { load = held; stops = n }) room
-  table_writable t s e l h = record { fits = table_fits text n t cells s (load_same text n t cells s e); whole = l; spacious = h }
+-- the numbers of a text, and the day written from them
+module _ (text : List ℕ) (customers : List (List ℕ)) (n m : ℕ) {held : ℕ} (t : TextRight text n) (s : Stored text customers m) (em : m ≡ n + 1)
+    (size : length customers ≡ n + 1) (eh : held ≡ held_at text (place_of text 3 1)) where
+  all : Stored text customers (n + 1)
+  all k h = s k (omega arith)
 
-  pub table_imported : (words : List ℕ) {after : List ℕ} → TextRight text n → n ≡ stops_of text → Stored text cells (7 * (n + 1))
-      → held ≡ held_at text (place_of text 3 1) → after ≡ over (listed (day_word (cell cells) held n) (words_of 1 n)) words
+  stops : length customers - 1 ≡ n
+  stops = omega arith
+
+  pub table_fit : Fit (cell customers) held (length customers - 1)
+  table_fit = rw stops (table_fits text n t customers all (load_same text n t customers all eh))
+
+  pub table_imported : (words : List ℕ) {after : List ℕ} → n ≡ stops_of text
+      → after ≡ over (listed (day_word (cell customers) held (length customers - 1)) (words_of 1 (length customers - 1))) words
       → after ≡ over (import_words text) words
   unfolding import_words
-  table_imported words t en s eh e =
-      e ∙ ap (λ (ws : List ℕ). over ws words) (words_same (table_same text n t cells s) held ∙ rw (load_same text n t cells s eh, en) refl)
+  table_imported words en e =
+      rw stops at e
+      ∙ ap (λ (ws : List ℕ). over ws words) (words_same (table_same text n t customers all) held ∙ rw (load_same text n t customers all eh, en) refl)
 
 -- what is found of a text without fault
 module _ (text : List ℕ) {v : Verdict} where

@@ -9,18 +9,22 @@ ghost use Rattle.rules.specs.AnswerValues.{import_values, ImportNumbered};
 ghost use Rattle.solomon_form.proofs.Judged.{TextRight};
 
 use rules::answers::ImportAnswer;
+use solomon_words::Instance;
 use solomon_words::numbers::{capacity_of, store_numbers};
-use solomon_words::{Instance, write_day};
 
 // The day of a text without fault, of so many stops.
 fn write_import(text: &[u8], stops: usize, words: &mut [u32])
     requires { TextRight text.now stops × (stops ≡ stops_of text.now) × (words_of 1 stops ≤ length words.old) }
     ensures { words.new ≡ over (import_words text.now) words.old }
 {
-    let mut cells = [0u32; 1687];
-    store_numbers(text, stops + 1, &mut cells);
-    let load = capacity_of(text);
-    write_day(&cells, Instance { load, stops }, words)
+    let mut numbers = [[0; 7]; 241];
+    let customers = &mut numbers[..stops + 1];
+    store_numbers(text, customers);
+    let instance = Instance {
+        load: capacity_of(text),
+        customers,
+    };
+    instance.write_day(words)
 }
 
 // How many words the day of so many stops has.
