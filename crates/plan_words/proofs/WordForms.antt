@@ -1,5 +1,6 @@
 -- What a plan word says, by its kind and number. Whoever reads a word uses these laws, and never the text of `word_of`. Assumes nothing.
 use Rattle.std.proofs.Common.{◌≡◌, ℕ, ◌+◌, ◌<◌, Bool, true, false, eqb, sym, refl, ap, ◌∙◌, inl, inr, arith, eq-eqb, ne_eqb, eqb-true}
+use borrow.Author.Tests.{eqb-false}
 use Rattle.rules.specs.PlanWords.{Word, vehicle, stop, tip, rest, back, left, stray, kind_of, number_of, vehicle_kind, stop_kind, tip_kind, left_kind}
 use Rattle.rules.specs.PlanWords.{vehicle_word, stop_word, tip_word, rest_word, back_word, left_word, word_of, same_word}
 use Rattle.laws.proofs.Decided.{known}
@@ -162,12 +163,20 @@ module _ (w r : ℕ) (h : r < 255) where
   pub tip_indexed : IndexFrom (tip_word 1) w r → word_of w ≡ tip (r + 1)
   tip_indexed e = let whole : w ≡ tip_word (r + 1) = omega arith in ap word_of whole ∙ tip_form_lem (r + 1) (omega arith)
 
--- two words of which the code has asked whether they say the same
-module _ (v w : ℕ) where
-  pub kinds_differ : (kind_of v ≡ kind_of w → ⊥) → false ≡ same_word v w
-  unfolding same_word
-  kinds_differ n = rw (ne_eqb (kind_of v) (kind_of w) n)
-
-  pub kinds_agree : kind_of v ≡ kind_of w → eqb (number_of v) (number_of w) ≡ same_word v w
-  unfolding same_word
-  kinds_agree e = rw (eq-eqb (kind_of v) (kind_of w) e)
+-- two words of the same kind and number are the same word
+pub same_whole : (v w : ℕ) → eqb v w ≡ same_word v w
+unfolding same_word
+same_whole v w =
+    elim (known (eqb v w)) [
+      | inl e ↦ let q = eqb-true v w e in rw (q, eq-eqb (kind_of w) (kind_of w) refl, eq-eqb (number_of w) (number_of w) refl, eq-eqb w w refl) refl
+      | inr n ↦
+          elim (known (eqb (kind_of v) (kind_of w))) [
+            | inr k ↦ rw (n, k) refl
+            | inl k ↦
+                rw (
+                  n,
+                  k,
+                  ne_eqb (number_of v) (number_of w) (λ q. eqb-false v w n (omega (arith, eqb-true (kind_of v) (kind_of w) k))),
+                ) refl
+          ]
+    ]

@@ -3,6 +3,7 @@
 
 ghost use Rattle.std.specs.Prelude.{◌≡◌, ◌<◌, ◌==◌};
 ghost use Rattle.rules.specs.PlanWords.{kind_of, number_of, vehicle_kind, stop_kind, tip_kind, left_kind, vehicle_word, stop_word, tip_word, rest_word, back_word, left_word, same_word};
+ghost use Rattle.plan_words.specs.Decoded.{Reads};
 ghost use Rattle.plan_words.specs.Indexes.{IndexFrom};
 
 // The word of each kind with number 0.
@@ -19,13 +20,53 @@ pub const BACK: u32 = 0xE0000000;
 const LEFT: u32 = 0xF0000000;
 
 // The kinds that carry a number, with the zero bits behind them: bits 31-8 of a word.
-const VEHICLE_KIND: u32 = 0xA00000;
+const VEHICLE_KIND: u32 = VEHICLE / 0x100;
 
-const STOP_KIND: u32 = 0xB00000;
+const STOP_KIND: u32 = STOP / 0x100;
 
-const TIP_KIND: u32 = 0xC00000;
+const TIP_KIND: u32 = TIP / 0x100;
 
-const LEFT_KIND: u32 = 0xF00000;
+const LEFT_KIND: u32 = LEFT / 0x100;
+
+// A plan word taken apart.
+#[derive(Clone, Copy, PartialEq, Eq)]
+pub enum PlanWord {
+    Vehicle(u8),
+    Stop(u8),
+    Tip(u8),
+    Rest,
+    Back,
+    Left(u8),
+}
+
+// A word that is none of these.
+#[derive(Clone, Copy, PartialEq, Eq)]
+pub struct StrayWord;
+
+impl TryFrom<u32> for PlanWord {
+    type Error = StrayWord;
+
+    ghost try_from_gives = { Reads };
+
+    fn try_from(word: u32) -> Result<PlanWord, StrayWord> {
+        let number = number(word) as u8;
+        if is_stop(word) {
+            Ok(PlanWord::Stop(number))
+        } else if is_tip(word) {
+            Ok(PlanWord::Tip(number))
+        } else if is_rest(word) {
+            Ok(PlanWord::Rest)
+        } else if is_back(word) {
+            Ok(PlanWord::Back)
+        } else if is_vehicle(word) {
+            Ok(PlanWord::Vehicle(number))
+        } else if is_left(word) {
+            Ok(PlanWord::Left(number))
+        } else {
+            Err(StrayWord)
+        }
+    }
+}
 
 // The number of a word, in bits 7-0.
 pub fn number(word: u32) -> u32
@@ -70,14 +111,11 @@ pub fn is_left(word: u32) -> bool
     word / 0x100 == LEFT_KIND
 }
 
-// Whether two words have the same kind and the same number.
+// Whether two words have the same kind and the same number: between them these are the whole word.
 pub fn are_same(first: u32, second: u32) -> bool
     ensures { result ≡ same_word first second }
 {
-    if first / 0x100 != second / 0x100 {
-        return false;
-    }
-    first % 0x100 == second % 0x100
+    first == second
 }
 
 // The number of a stop's word less one; of any other word something that is no number of a stop less one. Kind and number are one range
@@ -85,14 +123,14 @@ pub fn are_same(first: u32, second: u32) -> bool
 pub fn stop_index(word: u32) -> u32
     ensures { IndexFrom (stop_word 1) word result }
 {
-    std::num::wrapping_sub_u32(word, STOP + 1)
+    word.wrapping_sub(STOP + 1)
 }
 
 // The same for a tip's word.
 pub fn tip_index(word: u32) -> u32
     ensures { IndexFrom (tip_word 1) word result }
 {
-    std::num::wrapping_sub_u32(word, TIP + 1)
+    word.wrapping_sub(TIP + 1)
 }
 
 pub fn vehicle_word(number: u32) -> u32
