@@ -1,5 +1,5 @@
 // The numbers of a text without fault.
-ghost use Rattle.std.specs.Prelude.{◌≡◌, ◌+◌, ◌≤◌, ◌<◌, ℕ, length, slice_index};
+ghost use Rattle.std.specs.Prelude.{◌≡◌, ◌≤◌, ◌<◌, ℕ, length, slice_index};
 ghost use Rattle.rules.specs.TextFields.{line_at, field_at};
 ghost use Rattle.rules.specs.SolomonForm.{place_of};
 ghost use Rattle.text_fields.specs.Runs.{held_at};

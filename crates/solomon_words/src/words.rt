@@ -1,5 +1,5 @@
 // The words of the day in front of its legs.
-ghost use Rattle.std.specs.Prelude.{◌≡◌, ◌+◌, ◌*◌, ◌≤◌, ◌<◌, ◌/◌, length};
+ghost use Rattle.std.specs.Prelude.{◌≡◌, ◌+◌, ◌≤◌, ◌<◌, ◌/◌, length};
 ghost use Rattle.rules.specs.DayFile.{legs_at, words_of};
 ghost use Rattle.rules.specs.Lists.{listed, over};
 ghost use Rattle.rules.specs.SolomonDay.{hours_word, head_word, tip_word, stop_word};
