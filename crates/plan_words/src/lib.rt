@@ -75,6 +75,7 @@ pub fn number(word: u32) -> u32
     word % 0x100
 }
 
+// A word of each kind. One function over the kinds would be no plainer: each is one comparison with a constant.
 pub fn is_vehicle(word: u32) -> bool
     ensures { result ≡ (kind_of word == vehicle_kind) }
 {
@@ -126,13 +127,14 @@ pub fn stop_index(word: u32) -> u32
     word.wrapping_sub(STOP + 1)
 }
 
-// The same for a tip's word.
+// The same for a tip's word. One function for both would be no plainer: each is one difference from a constant.
 pub fn tip_index(word: u32) -> u32
     ensures { IndexFrom (tip_word 1) word result }
 {
     word.wrapping_sub(TIP + 1)
 }
 
+// The word of each kind with a number. One function over the kinds would be no plainer: each is one sum with a constant.
 pub fn vehicle_word(number: u32) -> u32
     requires { number < 256 }
     ensures { result ≡ vehicle_word number }

@@ -25,6 +25,7 @@ pub fn root_of(s: u32, guess: u32) -> u32
 {
     let first = above(s, guess);
     let mut r = above(s, first) - 1;
+    // No count of steps: it goes down until the square fits.
     while u64::from(s) < square(r) {
         r -= 1;
     }
