@@ -1,3 +1,2 @@
 pub mod DigitLaws
 pub mod LineLaws
-pub mod PutLaws

@@ -1,6 +1,8 @@
-// Bytes, numbers and lines of text, put behind each other.
+// Lines of text, each put behind those that stand.
 #![tactic(auto)]
 
-pub mod lines;
+mod lines;
 mod numbers;
-pub mod put;
+mod put;
+
+pub use put::{ROOM, Text};

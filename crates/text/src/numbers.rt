@@ -1,72 +1,69 @@
-// Numbers put into a text: decimal, and words of eight hexadecimal digits.
-ghost use Rattle.std.specs.Prelude.{◌≡◌, ◌+◌, ◌*◌, ◌<◌, ◌≤◌, length};
+// Numbers put at the end of a text: decimal, and words of eight hexadecimal digits.
+ghost use Rattle.std.specs.Prelude.{◌≡◌, ◌+◌, ◌*◌, ◌<◌, ◌≤◌, ◌++◌, length};
 ghost use Rattle.text.specs.Lines.{number, word_line, word_lines};
 ghost use Rattle.text.specs.Numbers.{decimal, hexadecimal, digit as Numbers·digit};
-ghost use Rattle.text.specs.Put.{Put};
 
-use crate::put::{put_byte, put_bytes};
+use crate::put::{ROOM, Text};
 
+#[tactic(auto, unfolding(crate::specs::Numbers::digit))]
 fn digit(d: u8) -> u8
     requires { d < 16 }
     ensures { result ≡ Numbers·digit d }
 {
-    if d < 10 {
-        return 48 + d;
+    match d {
+        0..=9 => b'0' + d,
+        _ => b'A' + (d - 10),
     }
-    55 + d
 }
 
-fn put_decimal(text: &mut [u8], at: usize, n: u64) -> usize
-    requires { at + 20 ≤ length text.old }
-    ensures text { Put (decimal n) text.old at text.new result }
-    ensures room { result ≤ at + 20 }
-{
-    let mut digits = [0u8; 20];
-    let count = io::decimal(n, &mut digits);
-    put_bytes(text, at, &digits[..count])
-}
-
-// A number, and the mark behind it.
-pub(crate) fn put_number(text: &mut [u8], at: usize, n: u64, mark: u8) -> usize
-    requires { at + 21 ≤ length text.old }
-    ensures text { Put (number n mark) text.old at text.new result }
-    ensures room { result ≤ at + 21 }
-{
-    let next = put_decimal(text, at, n);
-    put_byte(text, next, mark)
-}
-
-fn put_hexadecimal(text: &mut [u8], at: usize, w: u32) -> usize
-    requires { at + 8 ≤ length text.old }
-    ensures { Put (hexadecimal w) text.old at text.new result }
-{
-    let mut i: usize = 0;
-    while i < 8 {
-        text[at + i] = digit(((w >> (28 - 4 * i)) % 16) as u8);
-        i += 1;
+impl Text {
+    fn put_decimal(&mut self, n: u64)
+        requires { length self.old + 20 ≤ ROOM }
+        ensures text { self.new ≡ self.old ++ decimal n }
+        ensures room { length self.new ≤ length self.old + 20 }
+    {
+        let mut digits = [0; 20];
+        let count = io::decimal(n, &mut digits);
+        self.put_all(&digits[..count]);
     }
-    at + i
-}
 
-// A word in a line.
-fn put_word(text: &mut [u8], at: usize, w: u32) -> usize
-    requires { at + 9 ≤ length text.old }
-    ensures { Put (word_line w) text.old at text.new result }
-{
-    let next = put_hexadecimal(text, at, w);
-    put_byte(text, next, b'\n')
-}
-
-// Words, one a line.
-pub(crate) fn put_words(text: &mut [u8], at: usize, words: &[u32]) -> usize
-    requires { at + 9 * length words.now ≤ length text.old }
-    ensures { Put (word_lines words.now) text.old at text.new result }
-{
-    let mut next = at;
-    let mut i: usize = 0;
-    while i < words.len() {
-        next = put_word(text, next, words[i]);
-        i += 1;
+    // A number, and the mark behind it.
+    #[tactic(auto, unfolding(crate::specs::Lines::number))]
+    pub(crate) fn put_number(&mut self, n: u64, mark: u8)
+        requires { length self.old + 21 ≤ ROOM }
+        ensures text { self.new ≡ self.old ++ number n mark }
+        ensures room { length self.new ≤ length self.old + 21 }
+    {
+        self.put_decimal(n);
+        self.put(mark);
     }
-    next
+
+    fn put_hexadecimal(&mut self, w: u32)
+        requires { length self.old + 8 ≤ ROOM }
+        ensures { self.new ≡ self.old ++ hexadecimal w }
+    {
+        for i in 0..8u32 {
+            self.put(digit(((w >> (28 - 4 * i)) % 16) as u8));
+        }
+    }
+
+    // A word in a line.
+    #[tactic(auto, unfolding(crate::specs::Lines::word_line))]
+    fn put_word(&mut self, w: u32)
+        requires { length self.old + 9 ≤ ROOM }
+        ensures { self.new ≡ self.old ++ word_line w }
+    {
+        self.put_hexadecimal(w);
+        self.put(b'\n');
+    }
+
+    // Words, one a line.
+    pub(crate) fn put_words(&mut self, words: &[u32])
+        requires { length self.old + 9 * length words.now ≤ ROOM }
+        ensures { self.new ≡ self.old ++ word_lines words.now }
+    {
+        for word in words {
+            self.put_word(*word);
+        }
+    }
 }

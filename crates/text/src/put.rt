@@ -1,25 +1,61 @@
-// Bytes put into a text from a place on; each function answers the next place.
-ghost use Rattle.std.specs.Prelude.{[], ◌∷◌, ◌+◌, ◌<◌, ◌≤◌, length};
-ghost use Rattle.text.specs.Put.{Put};
+// A text, and bytes put at its end. A clause sees the bytes written so far.
+ghost use Rattle.std.specs.Prelude.{◌≡◌, ◌+◌, ◌<◌, ◌≤◌, [], ◌∷◌, ◌++◌, length};
 
-// One byte.
-pub(crate) fn put_byte(text: &mut [u8], at: usize, byte: u8) -> usize
-    requires { at < length text.old }
-    ensures { Put (byte ∷ []) text.old at text.new result }
-{
-    text[at] = byte;
-    at + 1
+use std::marker::Model;
+
+// The most bytes that a text may have.
+pub const ROOM: usize = 16384;
+
+#[derive(Drop)]
+pub struct Text {
+    bytes: [u8; ROOM],
+    len: usize,
 }
 
-// All bytes of a part.
-pub fn put_bytes(text: &mut [u8], at: usize, bytes: &[u8]) -> usize
-    requires { at + length bytes.now ≤ length text.old }
-    ensures { Put bytes.now text.old at text.new result }
-{
-    let mut i: usize = 0;
-    while i < bytes.len() {
-        text[at + i] = bytes[i];
-        i += 1;
+impl Model for Text {
+    ghost use Rattle.std.specs.Prelude.{ℕ, ◌≤◌, List, take};
+    ghost use Rattle.text.specs.declared.put.TheConstants.{ROOM};
+
+    ghost Value = { List ℕ };
+
+    ghost view = { λ t. take t.len t.bytes };
+
+    ghost invariant = { λ t. t.len ≤ ROOM };
+}
+
+impl Text {
+    // Nothing is written yet.
+    pub fn new() -> Text
+        ensures { result ≡ [] }
+    {
+        Text {
+            bytes: [0; ROOM],
+            len: 0,
+        }
     }
-    at + i
+
+    pub fn as_bytes(&self) -> &[u8]
+        ensures { result.now ≡ self.now }
+    {
+        &self.bytes[..self.len]
+    }
+
+    // One byte.
+    pub(crate) fn put(&mut self, byte: u8)
+        requires { length self.old < ROOM }
+        ensures { self.new ≡ self.old ++ byte ∷ [] }
+    {
+        self.bytes[self.len] = byte;
+        self.len += 1;
+    }
+
+    // All bytes of a part.
+    pub fn put_all(&mut self, bytes: &[u8])
+        requires { length self.old + length bytes.now ≤ ROOM }
+        ensures { self.new ≡ self.old ++ bytes.now }
+    {
+        let end = self.len + bytes.len();
+        self.bytes[self.len..end].copy_from_slice(bytes);
+        self.len = end;
+    }
 }
