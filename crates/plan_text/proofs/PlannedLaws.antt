@@ -1,8 +1,8 @@
 -- Laws of the day's plan that is to be printed: it is what planning with trials answers, and has no more words than its buffer.
 -- Assumes nothing.
 use Rattle.std.specs.Prelude.{if◌then◌else◌}
-use Prim.Native.Nat.{ℕ, ◌+◌, ◌*◌, ◌≤◌}
-use mathlib.Core.Path.{◌≡◌, refl, sym, ap, ap₂, ◌∙◌}
+use Prim.Native.Nat.{ℕ, ◌*◌, ◌≤◌}
+use mathlib.Core.Path.{◌≡◌, refl, sym, ap₂, ◌∙◌}
 use mathlib.Core.Bool.{Bool, true, false, false≢true}
 use mathlib.Core.List.{List, [], ◌∷◌}
 use native.Mathlib.Omega.{arith}
@@ -16,24 +16,12 @@ use Rattle.day.proofs.Answered.{judged_accepted}
 use Rattle.day.proofs.Ranges.{accepted_ranges}
 use Rattle.search_steps.proofs.Promises.{promised}
 use Rattle.text.specs.Lines.{answer_text, Within}
-use Rattle.text.specs.Put.{Put}
-use Rattle.text.proofs.PutLaws.{put_same}
 use Rattle.plan_text.specs.Planned.{empty_plan, printed_answer, printed_buffer}
 use Rattle.plan_text.specs.Printed.{day_text}
 
-pub empty_length : length empty_plan ≡ 1200
+empty_length : length empty_plan ≡ 1200
 unfolding empty_plan
 empty_length = length-replicate {A = ℕ} 1200 0
-
-pub planned_answer : (day plan work : List ℕ) {answer : List ℕ} → plan ≡ empty_plan → work ≡ empty_plan → answer ≡ plan_answer day 5 6 (length plan) (length work)
-    → answer ≡ printed_answer day
-unfolding printed_answer
-planned_answer day plan work p w e = e ∙ rw (p, w, empty_length) refl
-
-pub planned_buffer : (day plan work : List ℕ) {now : List ℕ} → plan ≡ empty_plan → work ≡ empty_plan → now ≡ plan_buffer day 5 6 (length work) plan
-    → now ≡ printed_buffer day
-unfolding printed_buffer
-planned_buffer day plan work p w e = e ∙ rw (p, w, empty_length) refl
 
 -- a plan that is told has no more words than its buffer
 long_within : (t : Bool) (values : List ℕ) (need : ℕ) → get_or values 4 0 ≤ 1200 → Within (if t then given values else refused 14 need) 1200
@@ -54,19 +42,15 @@ planned_within day = go (is_given (judge_day day)) refl
     go true e = accepted_within day (judged_accepted day e)
     go false e = λ h. absurd (false≢true (sym e ∙ h))
 
--- a text of 16,384 bytes has room for the answer's line and for nine bytes for each word
-module _ (plan first : List ℕ) (kept : length plan ≡ length first) (q : first ≡ empty_plan) where
-  size : length plan ≡ 1200
-  size = kept ∙ ap length q ∙ empty_length
+-- the call's answer and buffer are those that are printed, and the text of a day is theirs
+module _ (day : List ℕ) {answer : List ℕ} (e : answer ≡ plan_answer day 5 6 (length empty_plan) (length empty_plan)) where
+  answer_is : answer ≡ printed_answer day
+  unfolding printed_answer
+  answer_is = e ∙ rw empty_length refl
 
-  pub day_room : (text : List ℕ) → 16384 ≤ length text → 88 + 9 * length plan ≤ length text
-  day_room text room = omega (arith, room, size)
+  pub day_within : (plan : List ℕ) → length plan ≡ length empty_plan → Within answer (length plan)
+  day_within plan l = rw (answer_is, l, empty_length) (planned_within day)
 
-  pub day_within : (day : List ℕ) {answer : List ℕ} → answer ≡ printed_answer day → Within answer (length plan)
-  day_within day e = rw (e, size) (planned_within day)
-
--- the text of a day
-pub day_put : (day : List ℕ) {answer plan p s : List ℕ} {n : ℕ} → answer ≡ printed_answer day → plan ≡ printed_buffer day → Put (answer_text answer plan) p 0 s n
-    → Put (day_text day) p 0 s n
-unfolding day_text
-day_put day e b put = put_same put (ap₂ answer_text e b)
+  pub day_told : {plan : List ℕ} → plan ≡ plan_buffer day 5 6 (length empty_plan) empty_plan → answer_text answer plan ≡ day_text day
+  unfolding day_text printed_buffer
+  day_told b = ap₂ answer_text answer_is (b ∙ rw empty_length refl)

@@ -11,15 +11,12 @@ use lib.Seq.{length-take-le}
 use borrow.Author.Tests.{ne_eqb, lt-ltb, le-ltb, ltb-false}
 use Rattle.rules.specs.Tests.{neb}
 use Rattle.rules.specs.Answers.{given, refused, is_given}
-use Rattle.rules.specs.Lists.{over}
 use Rattle.rules.specs.Bytes.{byte_word, byte_words, read_answer, read_buffer}
 use Rattle.rules.specs.AnswerValues.{words_values, WordsNumbered}
 use Rattle.rules.specs.declared.answers.WordsAnswer.{WordsAnswer}
 use Rattle.rules.specs.declared.answers.WordsAnswer.TheVariants as Reads
 use Rattle.laws.proofs.Buffer.{over_front}
 use Rattle.text.specs.Lines.{too_long, refused_line}
-use Rattle.text.specs.Put.{Put}
-use Rattle.text.proofs.PutLaws.{put_over, put_same}
 use Rattle.plan_text.specs.Printed.{day_text, bytes_text, printed}
 
 -- the words of the bytes
@@ -71,19 +68,19 @@ module _ (bytes words : List ℕ) {answer : WordsAnswer} (e : words_values answe
         ap (take count) (b ∙ rw told_given refl)
         ∙ over_front (byte_words bytes (length bytes / 4)) words count (words_length bytes (length bytes / 4) ∙ sym count_is)
 
-    pub file_put : {now p s : List ℕ} {n : ℕ} → 16384 ≡ length words → now ≡ read_buffer bytes words → Put (day_text (take count now)) p 0 s n → Put (bytes_text bytes) p 0 s n
+    pub file_text : {now : List ℕ} → now ≡ read_buffer bytes words → 16384 ≡ length words → day_text (take count now) ≡ bytes_text bytes
     unfolding bytes_text
-    file_put r b put =
+    file_text b r =
         let yes : is_given (read_answer bytes 16384) ≡ true = rw r told_given in
-        rw yes (put_same put (ap day_text (front_words b)))
+        rw yes (ap day_text (front_words b))
 
-  pub refusal_put : {number place : ℕ} {p s : List ℕ} {n : ℕ} → 16384 ≡ length words → answer ≡ Reads.Refused number place → WordsNumbered answer
-      → Put (refused_line number place) p 0 s n → Put (bytes_text bytes) p 0 s n
+  pub refusal_text : {number place : ℕ} → answer ≡ Reads.Refused number place → WordsNumbered answer → 16384 ≡ length words
+      → refused_line number place ≡ bytes_text bytes
   unfolding bytes_text
-  refusal_put {number} {place} r q h put =
+  refusal_text {number} {place} q h r =
       let same : refused number place ≡ read_answer bytes 16384 = rw r (sym (ap words_values q) ∙ e) in
       let some : 1 ≤ number = rw q at h in
-      rw (← same, ne_eqb number 0 (λ z. omega arith)) put
+      rw (← same, ne_eqb number 0 (λ z. omega arith)) refl
 
 -- any bytes
 pub printed_long : (bytes : List ℕ) → 65536 < length bytes → too_long ≡ printed bytes
@@ -93,10 +90,3 @@ printed_long bytes l = rw (lt-ltb 65536 (length bytes) l) refl
 pub printed_short : (bytes : List ℕ) → length bytes ≤ 65536 → bytes_text bytes ≡ printed bytes
 unfolding printed
 printed_short bytes l = rw (le-ltb 65536 (length bytes) l) refl
-
--- a text put from the start on
-pub put_printed : {bs vs p q : List ℕ} {n : ℕ} → Put bs p 0 q n → bs ≡ vs
-    → (n ≡ length vs) × ((q ≡ over vs p) × ((n ≤ length q) × (n ≡ length (take n q))))
-put_printed {bs} {vs} {p} {q} {n} put e =
-    let few : n ≤ length q = omega (arith, put.room, put.size) in
-    (omega (arith, put.next, ap length e), (put_over (put_same put e), (few, sym (length-take-le n q few))))

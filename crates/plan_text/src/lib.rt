@@ -1,59 +1,47 @@
 // What the program on a day file prints: a plan as lines of text, or why there is none.
 #![tactic(auto)]
 
-mod planned;
-
-ghost use Rattle.std.specs.Prelude.{◌≡◌, ◌≤◌, length, take};
-ghost use Rattle.rules.specs.Lists.{over};
+ghost use Rattle.std.specs.Prelude.{◌≡◌, []};
 ghost use Rattle.plan_text.specs.Printed.{day_text, bytes_text, printed};
-ghost use Rattle.text.specs.Put.{Put};
 
-use crate::planned::{empty_plan, plan_of};
 use rules::answers::WordsAnswer;
-use text::lines::{put_answer, put_refused};
-use text::put::put_bytes;
+use text::Text;
 
 // The most bytes that a day file may have.
 const MOST_BYTES: usize = 65536;
 
-// Words enough for as many bytes.
-fn day_words() -> [u32; 16384]
-    ensures { 16384 ≡ length result }
+// The text of a day's words, planned with neighbourhoods of five stops and six trials, five words for each of 240 stops.
+fn put_day(text: &mut Text, day: &[u32])
+    requires { text.old ≡ [] }
+    ensures { text.new ≡ day_text day.now }
 {
-    [0; 16384]
+    let mut plan = [0; 1200];
+    let mut work = [0; 1200];
+    let answer = planner::plan(day, 5, 6, &mut plan, &mut work);
+    text.put_answer(answer, &plan);
 }
 
-// The text of a day's words.
-fn put_day(text: &mut [u8], day: &[u32]) -> usize
-    requires { 16384 ≤ length text.old }
-    ensures { Put (day_text day.now) text.old 0 text.new result }
+// The text of a day file's bytes, of as many words as four bytes each.
+fn put_file(text: &mut Text, bytes: &[u8])
+    requires { text.old ≡ [] }
+    ensures { text.new ≡ bytes_text bytes.now }
 {
-    let mut plan = empty_plan();
-    let answer = plan_of(day, &mut plan);
-    put_answer(text, answer, &plan)
-}
-
-// The text of a day file's bytes.
-fn put_file(text: &mut [u8], bytes: &[u8]) -> usize
-    requires { 16384 ≤ length text.old }
-    ensures { Put (bytes_text bytes.now) text.old 0 text.new result }
-{
-    let mut words = day_words();
-    let answer = day_bytes::read_words(bytes, &mut words);
-    match answer {
+    let mut words = [0; MOST_BYTES / 4];
+    match day_bytes::read_words(bytes, &mut words) {
         WordsAnswer::Read { words: count } => put_day(text, &words[..count]),
-        WordsAnswer::Refused { number, place } => put_refused(text, number, place),
+        WordsAnswer::Refused { number, place } => text.put_refused(number, place),
     }
 }
 
-// What the program prints of a day file with these bytes, at the start of the text; how many bytes that is.
-pub fn plan_text(bytes: &[u8], text: &mut [u8; 16384]) -> usize
-    ensures count { result ≡ length (printed bytes.now) }
-    ensures text { text.new ≡ over (printed bytes.now) text.old }
-    ensures within { (result ≤ length text.new) × (result ≡ length (take result text.new)) }
+// What the program prints of a day file with these bytes.
+pub fn plan_text(bytes: &[u8]) -> Text
+    ensures { result ≡ printed bytes.now }
 {
+    let mut text = Text::new();
     if MOST_BYTES < bytes.len() {
-        return put_bytes(text, 0, b"too long\n");
+        text.put_all(b"too long\n");
+    } else {
+        put_file(&mut text, bytes);
     }
-    put_file(text, bytes)
+    text
 }

@@ -1,9 +1,13 @@
 -- `plan_text::put_day` meets its contract.
-use Rattle.plan_text.proofs.PlannedLaws.{day_room, day_within, day_put}
+use Rattle.std.proofs.Common.{◌∙◌}
+use Rattle.plan_text.specs.Planned.{empty_plan}
+use Rattle.plan_text.proofs.PlannedLaws.{day_within, day_told}
 use Rattle.plan_text.proofs.put_day.Goals as goal
 
-pub put_answer-requires : goal.put_answer-requires
-put_answer-requires c = (search day_room, search day_within)
+pub put_answer-requires-clause-within : goal.put_answer-requires-clause-within
+unfolding empty_plan
+put_answer-requires-clause-within c = day_within _ c.plan-answer.ensures.answer _ c.plan-answer.auto.plan
 
 pub returns : goal.returns
-returns c = search day_put
+unfolding empty_plan
+returns c = c.put_answer.ensures ∙ rw c.requires (day_told _ c.plan-answer.ensures.answer c.plan-answer.ensures.buffer)
