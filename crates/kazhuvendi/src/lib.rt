@@ -12,50 +12,42 @@ ghost use Rattle.rules.specs.SameRounds.{same_rounds};
 ghost use Rattle.rules.specs.SolomonDay.{import_answer, import_buffer};
 ghost use Rattle.rules.specs.Planned.{build_answer, build_buffer, plan_answer, plan_buffer, growing_answer, growing_buffer, SpareKept};
 
-use answer_numbers::{
-    write_answer, write_day_answer, write_import_answer, write_place_answer, write_plan_answer,
-    write_rounds_answer, write_words_answer,
-};
+use answer_numbers::SixNumbers;
 
 #[unsafe(no_mangle)]
 pub extern "C" fn kz_read_words(bytes: &[u8], words: &mut [u32], out: &mut [u64; 6])
     ensures answer { out.new ≡ in_six (read_answer bytes.now (length words.old)) }
     ensures buffer { words.new ≡ read_buffer bytes.now words.old }
 {
-    let answer = day_bytes::read_words(bytes, words);
-    write_words_answer(answer, out)
+    *out = day_bytes::read_words(bytes, words).six_numbers();
 }
 
 #[unsafe(no_mangle)]
 pub extern "C" fn kz_judge(day: &[u32], out: &mut [u64; 6])
     ensures { out.new ≡ in_six (judge_day day.now) }
 {
-    let answer = judge::judge(day);
-    write_day_answer(answer, out)
+    *out = judge::judge(day).six_numbers();
 }
 
 #[unsafe(no_mangle)]
 pub extern "C" fn kz_check(day: &[u32], plan: &[u32], out: &mut [u64; 6])
     ensures { out.new ≡ in_six (check_plan day.now plan.now) }
 {
-    let answer = checker::check(day, plan);
-    write_answer(answer, out)
+    *out = checker::check(day, plan).six_numbers();
 }
 
 #[unsafe(no_mangle)]
 pub extern "C" fn kz_vehicle(day: &[u32], plan: &[u32], number: u64, out: &mut [u64; 6])
     ensures { out.new ≡ in_six (vehicle_place day.now plan.now number) }
 {
-    let answer = plan_queries::vehicle_place(day, plan, number);
-    write_place_answer(answer, out)
+    *out = plan_queries::vehicle_place(day, plan, number).six_numbers();
 }
 
 #[unsafe(no_mangle)]
 pub extern "C" fn kz_same_rounds(day: &[u32], first: &[u32], second: &[u32], out: &mut [u64; 6])
     ensures { out.new ≡ in_six (same_rounds day.now first.now second.now) }
 {
-    let answer = plan_queries::same_rounds(day, first, second);
-    write_rounds_answer(answer, out)
+    *out = plan_queries::same_rounds(day, first, second).six_numbers();
 }
 
 #[unsafe(no_mangle)]
@@ -63,8 +55,7 @@ pub extern "C" fn kz_build(day: &[u32], plan: &mut [u32], out: &mut [u64; 6])
     ensures answer { out.new ≡ in_six (build_answer day.now (length plan.old)) }
     ensures buffer { plan.new ≡ build_buffer day.now plan.old }
 {
-    let answer = planner::build(day, plan);
-    write_plan_answer(answer, out)
+    *out = planner::build(day, plan).six_numbers();
 }
 
 #[unsafe(no_mangle)]
@@ -80,8 +71,7 @@ pub extern "C" fn kz_plan(
     ensures buffer { plan.new ≡ plan_buffer day.now k budget (length work.old) plan.old }
     ensures spare { SpareKept (plan_answer day.now k budget (length plan.old) (length work.old)) work.old work.new }
 {
-    let answer = planner::plan(day, k, budget, plan, work);
-    write_plan_answer(answer, out)
+    *out = planner::plan(day, k, budget, plan, work).six_numbers();
 }
 
 #[unsafe(no_mangle)]
@@ -96,8 +86,7 @@ pub extern "C" fn kz_plan_growing(
     ensures buffer { plan.new ≡ growing_buffer day.now budget (length work.old) plan.old }
     ensures spare { SpareKept (growing_answer day.now budget (length plan.old) (length work.old)) work.old work.new }
 {
-    let answer = planner::plan_growing(day, budget, plan, work);
-    write_plan_answer(answer, out)
+    *out = planner::plan_growing(day, budget, plan, work).six_numbers();
 }
 
 #[unsafe(no_mangle)]
@@ -105,6 +94,5 @@ pub extern "C" fn kz_import_solomon(text: &[u8], words: &mut [u32], out: &mut [u
     ensures answer { out.new ≡ in_six (import_answer text.now (length words.old)) }
     ensures buffer { words.new ≡ import_buffer text.now words.old }
 {
-    let answer = solomon::import_solomon(text, words);
-    write_import_answer(answer, out)
+    *out = solomon::import_solomon(text, words).six_numbers();
 }
