@@ -10,18 +10,21 @@ use text::Text;
 // The most bytes that a day file may have.
 const MOST_BYTES: usize = 65536;
 
-// The text of a day's words, planned with neighbourhoods of five stops and six trials, five words for each of 240 stops.
+// Five words for each of 240 stops.
+const PLAN_WORDS: usize = 1200;
+
+// The text of a day's words, planned with neighbourhoods of five stops and six trials.
 fn put_day(text: &mut Text, day: &[u32])
     requires { text.old ≡ [] }
     ensures { text.new ≡ day_text day.now }
 {
-    let mut plan = [0; 1200];
-    let mut work = [0; 1200];
+    let mut plan = [0; PLAN_WORDS];
+    let mut work = [0; PLAN_WORDS];
     let answer = planner::plan(day, 5, 6, &mut plan, &mut work);
     text.put_answer(answer, &plan);
 }
 
-// The text of a day file's bytes, of as many words as four bytes each.
+// The text of a day file's bytes, four to a word.
 fn put_file(text: &mut Text, bytes: &[u8])
     requires { text.old ≡ [] }
     ensures { text.new ≡ bytes_text bytes.now }

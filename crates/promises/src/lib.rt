@@ -20,7 +20,8 @@ pub struct Twice {
     pub second: PlanAnswer,
 }
 
-// A day planned with trials, K from 1 to 50, once for each of two budgets.
+// A day planned with trials, K from 1 to 50, once for each of two budgets. This and `grow_twice` stay two functions: each is two calls and a
+// promise of its own, and one function over a closure would be longer than both.
 pub fn plan_twice(
     day: &[u32],
     k: u64,
@@ -33,11 +34,9 @@ pub fn plan_twice(
     ensures { 1 ≤ k → k ≤ 50 → Supposed day.now budget larger (length first.old) (length second.old) (length work.old)
         → DemandThree day.now (k ∷ []) budget larger (plan_values result.first) first.new (plan_values result.second) second.new }
 {
-    let one = planner::plan(day, k, budget, first, work);
-    let two = planner::plan(day, k, larger, second, work);
     Twice {
-        first: one,
-        second: two,
+        first: planner::plan(day, k, budget, first, work),
+        second: planner::plan(day, k, larger, second, work),
     }
 }
 
@@ -53,10 +52,8 @@ pub fn grow_twice(
     ensures { Supposed day.now budget larger (length first.old) (length second.old) (length work.old)
         → DemandThree day.now growing_sets budget larger (plan_values result.first) first.new (plan_values result.second) second.new }
 {
-    let one = planner::plan_growing(day, budget, first, work);
-    let two = planner::plan_growing(day, larger, second, work);
     Twice {
-        first: one,
-        second: two,
+        first: planner::plan_growing(day, budget, first, work),
+        second: planner::plan_growing(day, larger, second, work),
     }
 }

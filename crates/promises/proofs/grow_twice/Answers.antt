@@ -4,6 +4,6 @@ use Rattle.promises.proofs.Growing.{growing_twice}
 use Rattle.promises.proofs.grow_twice.Goals as goal
 
 pub returns : goal.returns
-returns c = let first = c.plan_growing-one.ensures in
-    let second = c.plan_growing-two.ensures in
+returns c = let first = c.plan_growing.ensures in
+    let second = c.plan_growing-2.ensures in
     λ s. growing_twice _ _ s (search rules) first.answer first.buffer second.answer second.buffer

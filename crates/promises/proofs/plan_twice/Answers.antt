@@ -4,6 +4,6 @@ use Rattle.promises.proofs.DemandThree.{demand_three}
 use Rattle.promises.proofs.plan_twice.Goals as goal
 
 pub returns : goal.returns
-returns c = let first = c.plan-one.ensures in
-    let second = c.plan-two.ensures in
+returns c = let first = c.plan.ensures in
+    let second = c.plan-2.ensures in
     λ l m s. demand_three _ _ l m s (search rules) first.answer first.buffer second.answer second.buffer
