@@ -10,6 +10,9 @@ use text::Text;
 // The most bytes that a day file may have.
 const MOST_BYTES: usize = 65536;
 
+// Words enough for as many bytes.
+const DAY_WORDS: usize = 16384;
+
 // Five words for each of 240 stops.
 const PLAN_WORDS: usize = 1200;
 
@@ -29,7 +32,7 @@ fn put_file(text: &mut Text, bytes: &[u8])
     requires { text.old ≡ [] }
     ensures { text.new ≡ bytes_text bytes.now }
 {
-    let mut words = [0; MOST_BYTES / 4];
+    let mut words = [0; DAY_WORDS];
     match day_bytes::read_words(bytes, &mut words) {
         WordsAnswer::Read { words: count } => put_day(text, &words[..count]),
         WordsAnswer::Refused { number, place } => text.put_refused(number, place),
