@@ -1,5 +1,5 @@
 // The numbers of a text without fault.
-ghost use Rattle.std.specs.Prelude.{◌≡◌, ◌≤◌, ◌<◌, ℕ, length, slice_index};
+ghost use Rattle.std.specs.Prelude.{◌≡◌, ◌<◌, ℕ, length, slice_index};
 ghost use Rattle.rules.specs.TextFields.{line_at, field_at};
 ghost use Rattle.rules.specs.SolomonForm.{place_of};
 ghost use Rattle.text_fields.specs.Runs.{held_at};
@@ -39,9 +39,8 @@ fn numbers_at(text: &[u8], at: usize) -> [u32; 7]
     numbers
 }
 
-// The numbers of so many customers, line by line.
+// The numbers of the customers, line by line.
 pub fn store_numbers(text: &[u8], customers: &mut [[u32; 7]])
-    requires { length customers.old ≤ 241 }
     ensures { Stored text.now customers.new (length customers.old) }
 {
     let mut at = line_at(text, 6);
