@@ -64,7 +64,9 @@ fn serve_cab(day: &Day, cab: Cab, stop: usize, part: &mut [u32]) -> Cab
     }
 }
 
-// The nearest open tip is inserted, and a rest behind it where one is due; without an open tip the trial has failed.
+// The nearest open tip is inserted, and a rest behind it where one is due; without an open tip the trial has failed. It is seldom done, and
+// stands apart, so that the rest of a walk is one piece of code that keeps the vehicle in registers.
+#[inline(never)]
 fn insert_tip(day: &Day, cab: Cab, part: &mut [u32]) -> Option<Cab>
     requires { IsAccepted day.now × SomeStanding day.now 0 part.old cab × (0 < cab.load) }
     ensures { Drives day.now 0 part.old cab (λ v. inserting day.now v (nearest_tip day.now v.trip.place v.trip.minute)) part.new result }
@@ -93,7 +95,8 @@ fn is_full(day: &Day, load: u32, quantity: u32) -> bool
     (0 < load) & (day.load_limit() < load + quantity)
 }
 
-// A stop is served, behind a tip where it would exceed Q.
+// A stop is served, behind a tip where it would exceed Q. In line, since it is called at several places and the vehicle is copied by a call.
+#[inline(always)]
 pub(crate) fn walk_stop(day: &Day, cab: Cab, stop: usize, part: &mut [u32]) -> Option<Cab>
     requires { IsAccepted day.now × SomeStanding day.now 1 part.old cab × (0 < stop) × (stop ≤ stops day.now) }
     ensures { Drives day.now 1 part.old cab (λ v. walk_task day.now v (serve stop)) part.new result }

@@ -14,7 +14,8 @@ use edits::{Change, Edit, change_word};
 use plan_words::{BACK, STOP, TIP, VEHICLE};
 use trips::drives::leave;
 
-// One word is walked, a stop or a tip; none where the trial has failed.
+// One word is walked, a stop or a tip; none where the trial has failed. In line, as `walk_stop` is.
+#[inline(always)]
 pub fn walk_word(day: &Day, cab: Cab, word: u32, part: &mut [u32]) -> Option<Cab>
     requires { IsAccepted day.now × SomeWord day.now part.old cab word }
     ensures { WalksWord day.now part.old cab word part.new result }
