@@ -160,7 +160,8 @@ module _ {day part : List ℕ} (c : Cab) (ok : IsAccepted day) where
   serve_drives k h b t q start most more p v s =
       let r = s.riding in
       let ranges = accepted_ranges day ok in
-      let able = able_doing day v (serve k) r.able (omega arith) (omega (arith, ranges.service_most (stop_place day k) (omega arith) (omega arith))) (omega arith) (omega (arith, ranges.quantity_most k h b)) (paid_serve day v k r.able.paid) in
+      let service = ranges.service_most (stop_place day k) (omega arith) (omega arith) in
+      let able = able_doing day v (serve k) r.able (omega arith) (omega (arith, service)) (omega arith) (omega (arith, ranges.quantity_most k h b)) (paid_serve day v k r.able.paid) in
       stands_more s (serve k) (t ∙ ap (λ (u : Trip). visited day u (stop_place day k)) r.trip_is) (omega (arith, q, r.load_is)) able (omega (arith, r.few))
 
 -- the nearest tip is inserted: there is none, or it is driven to and a rest taken where one is due

@@ -80,13 +80,13 @@ whole day e tasks = walk_on day (changed e 0 tasks) (some (fresh day []))
 
 module _ {day : List ℕ} {e : Edit} {number : ℕ} {words p part : List ℕ} {tasks : Round} (h : Walkable day e words p tasks) {i : ℕ} {c : Cab} where
   -- a task on which the trial fails, and the end of the tasks
-  pub through_failed : i < length words → (d : ℕ) → Midway day e (at_depot number) p part tasks i c → {now : List ℕ}
+  pub task_fails : i < length words → (d : ℕ) → Midway day e (at_depot number) p part tasks i c → {now : List ℕ}
       → WalksTask day e i part c (get_or words i d) now None → Through day e number p now tasks None
-  through_failed l d m g =
+  task_fails l d m g =
       record { stands = rw (midway_fails h l d m g) (failed (midway_size h l d m g)) }
 
-  pub through_done : length words ≤ i → Midway day e (at_depot number) p part tasks i c → Through day e number p part tasks (Some c)
-  through_done l m = record { stands = rw (midway_whole h l m) (on_road m.v c (midway_done h l m)) }
+  pub tasks_done : length words ≤ i → Midway day e (at_depot number) p part tasks i c → Through day e number p part tasks (Some c)
+  tasks_done l m = record { stands = rw (midway_whole h l m) (on_road m.v c (midway_done h l m)) }
 
 module _ {day : List ℕ} {e : Edit} {number : ℕ} {words p part : List ℕ} {tasks : Round} (h : Walkable day e words p tasks) where
   -- the trial has failed among the tasks

@@ -43,7 +43,8 @@ pub need_not_empty : {day part : List ℕ} {c : Cab} {must : Bool} → must ≡ 
 unfolding emptied_first
 need_not_empty n start most more p v s = rw n (on_road v _ (standing_fewer (omega arith) s))
 
-module _ {day : List ℕ} {part : List ℕ} {c : Cab} {q : ℕ} (k : ℕ) {full : Bool} (qIs : q ≡ quantity day (stop_place day k)) (fullIs : full ≡ (ltb 0 c.load && ltb (load_limit day) (c.load + q))) where
+module _ {day : List ℕ} {part : List ℕ} {c : Cab} {q : ℕ} (k : ℕ) {full : Bool} (qIs : q ≡ quantity day (stop_place day k))
+    (fullIs : full ≡ (ltb 0 c.load && ltb (load_limit day) (c.load + q))) where
   exceeds_is : {start : Start} {most more : ℕ} {p : List ℕ} (v : Truck) → Standing day start most more p part v c → exceeds day v k ≡ full
   unfolding exceeds
   exceeds_is v s = sym (fullIs ∙ rw (qIs, s.riding.load_is) refl)

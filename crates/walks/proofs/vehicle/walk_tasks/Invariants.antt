@@ -10,4 +10,6 @@ use Rattle.walks.specs.Rewalks.{Walkable, Midway}
 use Rattle.walks.proofs.vehicle.walk_tasks.Given as goal
 
 abbrev pub invariant-loop-task : goal.invariant-loop-task
-invariant-loop-task l = (p : List ℕ) (ts : Round) → Wrote (vehicle_word l.number ∷ []) p l.initial.part 1 → Walkable l.day (edit_of l.edit) l.tasks p ts → Midway l.day (edit_of l.edit) (at_depot l.number) p l.part ts l.task l.cab
+invariant-loop-task l =
+    (p : List ℕ) (ts : Round) → Wrote (vehicle_word l.number ∷ []) p l.initial.part 1 → Walkable l.day (edit_of l.edit) l.tasks p ts
+    → Midway l.day (edit_of l.edit) (at_depot l.number) p l.part ts l.task l.cab
