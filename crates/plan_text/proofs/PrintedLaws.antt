@@ -1,4 +1,4 @@
--- Laws of what is printed of a day file: its bytes read or refused, and the text put from the start on. Assumes nothing.
+-- Laws of what is printed of a day file: its bytes read or refused. Assumes nothing.
 use Rattle.std.specs.Prelude.{if◌then◌else◌}
 use Prim.Native.Nat.{ℕ, zero, suc, ◌/◌, ◌%◌, ◌≤◌, ◌<◌}
 use mathlib.Core.Path.{◌≡◌, refl, sym, ap, ◌∙◌}

@@ -18,6 +18,7 @@ impl Text {
         self.put_number(place as u64, b'\n');
     }
 
+    // `yes` or `no`.
     fn put_settled(&mut self, settled: bool)
         requires { length self.old + 4 ≤ ROOM }
         ensures text { self.new ≡ self.old ++ (if settled then yes else no) }

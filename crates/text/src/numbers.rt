@@ -5,18 +5,20 @@ ghost use Rattle.text.specs.Numbers.{decimal, hexadecimal, digit as Numbers·dig
 
 use crate::put::{ROOM, Text};
 
+// A number below 16 as `0` to `9` or `A` to `F`.
 #[tactic(auto, unfolding(crate::specs::Numbers::digit))]
-fn digit(d: u8) -> u8
-    requires { d < 16 }
-    ensures { result ≡ Numbers·digit d }
+fn digit(value: u8) -> u8
+    requires { value < 16 }
+    ensures { result ≡ Numbers·digit value }
 {
-    match d {
-        0..=9 => b'0' + d,
-        _ => b'A' + (d - 10),
+    match value {
+        0..=9 => b'0' + value,
+        _ => b'A' + (value - 10),
     }
 }
 
 impl Text {
+    // A number's decimal digits.
     fn put_decimal(&mut self, n: u64)
         requires { length self.old + 20 ≤ ROOM }
         ensures text { self.new ≡ self.old ++ decimal n }
@@ -38,22 +40,23 @@ impl Text {
         self.put(mark);
     }
 
-    fn put_hexadecimal(&mut self, w: u32)
+    // A word's eight hexadecimal digits.
+    fn put_hexadecimal(&mut self, word: u32)
         requires { length self.old + 8 ≤ ROOM }
-        ensures { self.new ≡ self.old ++ hexadecimal w }
+        ensures { self.new ≡ self.old ++ hexadecimal word }
     {
         for i in 0..8u32 {
-            self.put(digit(((w >> (28 - 4 * i)) % 16) as u8));
+            self.put(digit(((word >> (28 - 4 * i)) % 16) as u8));
         }
     }
 
     // A word in a line.
     #[tactic(auto, unfolding(crate::specs::Lines::word_line))]
-    fn put_word(&mut self, w: u32)
+    fn put_word(&mut self, word: u32)
         requires { length self.old + 9 ≤ ROOM }
-        ensures { self.new ≡ self.old ++ word_line w }
+        ensures { self.new ≡ self.old ++ word_line word }
     {
-        self.put_hexadecimal(w);
+        self.put_hexadecimal(word);
         self.put(b'\n');
     }
 

@@ -34,6 +34,7 @@ impl Text {
         }
     }
 
+    // The bytes written so far.
     pub fn as_bytes(&self) -> &[u8]
         ensures { result.now ≡ self.now }
     {
