@@ -1,17 +1,17 @@
 -- Which stop is taken next: one law for each way through the functions that choose.
 -- Assumes nothing.
 use Rattle.std.specs.Prelude.{if◌then◌else◌}
-use Prim.Native.Nat.{ℕ, ◌+◌, ◌-◌, ◌*◌, ◌^◌, ◌≤◌, ◌<◌}
+use Prim.Native.Nat.{ℕ, ◌+◌, ◌-◌, ◌^◌, ◌≤◌, ◌<◌}
 use mathlib.Core.Path.{◌≡◌, refl, sym, ap, ◌∙◌}
 use mathlib.Core.Bool.{Bool, true, false, not, ◌&&◌, and-false, and-true, and_assoc}
 use mathlib.Core.List.{List}
 use native.Mathlib.Decide.{dec_lt}
 use native.Mathlib.Omega.{arith}
 use lib.Dec.{ltb, leb}
-use borrow.Author.Tests.{le-leb, lt-leb, le-ltb, lt-ltb, leb-true, ltb-true, not-true}
+use borrow.Author.Tests.{lt-ltb, leb-true, ltb-true, not-true}
 use Rattle.rules.specs.Tests.{better, wins}
 use Rattle.rules.specs.Fields.{stop_place, opening, closing, quantity, leg_minutes}
-use Rattle.rules.specs.Cargo.{loaded, over_limits}
+use Rattle.rules.specs.Cargo.{over_limits}
 use Rattle.rules.specs.Trip.{arrival, visited}
 use Rattle.rules.specs.Home.{way_home}
 use Rattle.rules.specs.Choice.{taking, suits, takeable, waitable}
@@ -21,22 +21,16 @@ use Rattle.laws.specs.Bits.{bit, LowestBit}
 use Rattle.laws.specs.Marks.{both, up_to}
 use Rattle.laws.specs.Walk.{WordWalk}
 use Rattle.laws.proofs.Bits.{bit_of_zero}
-use Rattle.laws.proofs.Marks.{up_to_low, up_to_out, up_to_in}
+use Rattle.laws.proofs.Marks.{up_to_in}
 use Rattle.laws.proofs.Tests.{both_true}
 use Rattle.laws.proofs.Walk.{walk_start, walk_next_lem, walk_end}
-use Rattle.day.specs.Layout.{LayoutOf, WindowOf, LegOf}
-use Rattle.day.specs.declared.fields.Layout.{Layout}
+use Rattle.day.specs.Layout.{WindowOf, LegOf}
 use Rattle.day.specs.declared.fields.Leg.{Leg}
 use Rattle.day.specs.declared.fields.Window.{Window}
-use Rattle.trips.specs.Trips.{SmallTrip}
 use Rattle.ways_home.specs.Bests.{keys_end, BestBy}
 use Rattle.ways_home.specs.declared.best.Best.{Best}
 use Rattle.ways_home.proofs.BestLaws.{less_key}
 use Rattle.next_task.specs.Wanted.{wanted, timely, key_of, candidate, Candidate, FromCandidate, better_stop, best_in_word}
-
--- one stop more fits, by what it comes to
-pub not_over : (day : List ℕ) (c more : Cargo) (kg : ℕ) {over : Bool} → more ≡ loaded c kg → over ≡ over_limits day more → not over ≡ not (over_limits day (loaded c kg))
-not_over day c more kg e h = rw (h, e)
 
 -- a stop that fits suits where there is a way home
 module _ (day : List ℕ) (t : Trip) (c : Cargo) (k : ℕ) where
@@ -45,34 +39,19 @@ module _ (day : List ℕ) (t : Trip) (c : Cargo) (k : ℕ) where
   unfolding suits
   fit_home u fit eq eu er = er ∙ rw (fit, eu, ← eq)
 
--- behind its service the trip is still small
-pub served_trip : (day : List ℕ) (layout : Layout) (t u : Trip) (k : ℕ) → LayoutOf day layout → SmallTrip day 2147483648 t → k ≤ layout.stops
-    → arrival day t (stop_place day k) < 4096 → u ≡ visited day t (stop_place day k) → SmallTrip day 4294901760 u
-served_trip day layout t u k l h b early e =
-    rw e
-    (record {
-      place = omega (arith, l.stops_are);
-      minute = omega arith;
-      distance = omega (arith, h.distance);
-    })
-
 -- reached within the window, or before it opens
-module _ (near : Bool) (day : List ℕ) (layout : Layout) (t : Trip) (k : ℕ) (leg : Leg) (hours : Window) (l : LayoutOf day layout)
-    (takes : LegOf day t.place (layout.tips + k) leg) (opens : WindowOf day (stop_place day k) hours) where
+module _ (day : List ℕ) (t : Trip) (k : ℕ) {place : ℕ} (leg : Leg) (hours : Window) (place_is : place ≡ stop_place day k)
+    (takes : LegOf day t.place place leg) (opens : WindowOf day (stop_place day k) hours) where
   leg_here : leg.minutes ≡ leg_minutes day t.place (stop_place day k)
-  leg_here = rw l.tips_are at takes.takes
+  leg_here = rw place_is at takes.takes
 
-  pub near_early : near ≡ true → t.minute + leg.minutes < hours.opening → false ≡ timely near day t k
+  pub near_timely : {b : Bool} → b ≡ (leb hours.opening (t.minute + leg.minutes) && leb (t.minute + leg.minutes) hours.closing) → b ≡ timely true day t k
   unfolding timely
-  near_early e h = rw (e, lt-leb _ _ (rw (leg_here, opens.opens) at h))
+  near_timely e = rw (e, leg_here, opens.opens, opens.closes)
 
-  pub near_opened : near ≡ true → hours.opening ≤ t.minute + leg.minutes → leb (t.minute + leg.minutes) hours.closing ≡ timely near day t k
+  pub wait_timely : ltb (t.minute + leg.minutes) hours.opening ≡ timely false day t k
   unfolding timely
-  near_opened e h = rw (e, le-leb _ _ (rw (leg_here, opens.opens) at h), leg_here, opens.closes)
-
-  pub before_opening : near ≡ false → ltb (t.minute + leg.minutes) hours.opening ≡ timely near day t k
-  unfolding timely
-  before_opening e = rw (e, leg_here, opens.opens)
+  wait_timely = rw (leg_here, opens.opens)
 
 -- a stop that is reached at the right time is reached early in the day
 pub timely_soon : (near : Bool) (day : List ℕ) (t : Trip) (k : ℕ) {b : Bool} → b ≡ timely near day t k → b ≡ true → arrival day t (stop_place day k) < 4096
@@ -110,39 +89,8 @@ key_small : (near : Bool) (day : List ℕ) (t : Trip) (k : ℕ) → key_of near 
 key_small true day t k = omega arith
 key_small false day t k = omega arith
 
--- the key as it is read
-pub near_key_lem : (near : Bool) (day : List ℕ) (layout : Layout) (t : Trip) (k : ℕ) (leg : Leg) (hours : Window) → LayoutOf day layout → near ≡ true
-    → LegOf day t.place (layout.tips + k) leg → WindowOf day (stop_place day k) hours → leg.minutes * 4096 + hours.closing ≡ key_of near day t k
-near_key_lem near day layout t k leg hours l e takes opens = rw (e, takes.takes, l.tips_are, opens.closes) refl
-
-pub open_key_lem : (near : Bool) (day : List ℕ) (t : Trip) (k : ℕ) (hours : Window) → near ≡ false → WindowOf day (stop_place day k) hours
-    → hours.opening * 4096 + hours.closing ≡ key_of near day t k
-open_key_lem near day t k hours e opens = rw (e, opens.opens, opens.closes) refl
-
--- a candidate: no stop, past the stops, not less, not fitting, and else by the minute
+-- what it is to be a candidate
 module _ (near : Bool) (day : List ℕ) (t : Trip) (c : Cargo) (n most k : ℕ) where
-  pub no_stop : k ≡ 0 → false ≡ candidate near day t c n most k
-  unfolding candidate
-  no_stop e = rw (e, up_to_low n)
-
-  pub past_stops : n < k → false ≡ candidate near day t c n most k
-  unfolding candidate
-  past_stops l = rw (up_to_out n k l)
-
-  pub not_less : {x : ℕ} → (x ≡ key_of near day t k) × (x < keys_end) → most ≤ x → false ≡ candidate near day t c n most k
-  unfolding candidate
-  not_less e h = rw (le-ltb _ _ (rw e.0 at h), and-false)
-
-  pub not_fitting : {q : ℕ} {b : Bool} → q ≡ quantity day (stop_place day k) → b ≡ not (over_limits day (loaded c q)) → b ≡ false → false ≡ candidate near day t c n most k
-  unfolding candidate
-  not_fitting eq eb z = rw (← eq, ← eb, z, and-false, and-false)
-
-  pub by_minute : {x q : ℕ} {b r : Bool} → (k ≡ 0 → ⊥) → k ≤ n → (x ≡ key_of near day t k) × (x < keys_end) → x < most
-      → q ≡ quantity day (stop_place day k) → b ≡ not (over_limits day (loaded c q)) → b ≡ true → r ≡ timely near day t k → r ≡ candidate near day t c n most k
-  unfolding candidate
-  by_minute p l ex h eq eb z er = er ∙ rw (up_to_in n k (omega arith) l, lt-ltb _ _ (rw ex.0 at h), ← eq, ← eb, z)
-
-  -- what it is to be one
   is_candidate : candidate near day t c n most k ≡ true → Candidate near day t c n most k
   unfolding candidate up_to
   is_candidate e =

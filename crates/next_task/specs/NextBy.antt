@@ -1,13 +1,13 @@
 -- The next task by a set of unrouted stops, as the code has it. It serves the contracts of this crate's own functions. Assumes nothing.
 use Rattle.std.specs.Prelude.{ℕ, ◌<◌, ◌≤◌, Bool, true, false, List, ltb, if◌then◌else◌}
 use Rattle.std.proofs.Math.Option.{Option, none, some}
+use Rattle.rules.specs.Fields.{tips, stops}
 use Rattle.rules.specs.Plan.{Task, serve, empty}
 use Rattle.rules.specs.Home.{nearest_tip}
 use Rattle.rules.specs.Choice.{chosen_stop}
 use Rattle.rules.specs.Build.{serving, emptying}
 use Rattle.rules.specs.declared.walk.Cargo.{Cargo}
 use Rattle.rules.specs.declared.walk.Trip.{Trip}
-use Rattle.day.specs.declared.fields.Layout.{Layout}
 use Rattle.next_task.specs.Wanted.{best_stop}
 use Rattle.next_task.specs.declared.tasks.Next.{Next}
 use Rattle.next_task.specs.declared.tasks.Next.TheVariants as Nexts
@@ -34,10 +34,10 @@ next_by day t c p =
     else wait_by day t c p
 
 -- the number of the task is a stop's or a tip's
-abbrev pub NextWithin : Layout → Next → Type 0
-NextWithin layout (Nexts.Stop k) = (0 < k) × (k ≤ layout.stops)
-NextWithin layout (Nexts.Tip x) = (0 < x) × (x ≤ layout.tips)
-NextWithin layout Nexts.Home = Unit {0}
+abbrev pub NextWithin : List ℕ → Next → Type 0
+NextWithin day (Nexts.Stop k) = (0 < k) × (k ≤ stops day)
+NextWithin day (Nexts.Tip x) = (0 < x) × (x ≤ tips day)
+NextWithin day Nexts.Home = Unit {0}
 
 -- there is a task
 abbrev pub is_task : Next → Bool

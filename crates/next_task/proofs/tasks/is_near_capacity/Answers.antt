@@ -1,15 +1,16 @@
 -- `next_task::tasks::is_near_capacity` meets its contract.
-use Rattle.next_task.proofs.TaskLaws.{no_load, near_load, near_kg, near_stops}
+use native.Mathlib.Omega.{arith}
+use Rattle.rules.specs.Choice.{near_capacity}
 use Rattle.next_task.proofs.tasks.is_near_capacity.Goals as goal
 
-pub returns-then-cargo-eq0 : goal.returns-then-cargo-eq0
-returns-then-cargo-eq0 c = search no_load
-
-pub returns-then-load_limit-cargo : goal.returns-then-load_limit-cargo
-returns-then-load_limit-cargo c = search near_load
-
 pub returns-then-day_limit-cargo : goal.returns-then-day_limit-cargo
-returns-then-day_limit-cargo c = search near_kg
+unfolding near_capacity
+returns-then-day_limit-cargo c = grind arith
 
-pub returns : goal.returns
-returns c = search near_stops
+pub returns-else-day_limit-cargo : goal.returns-else-day_limit-cargo
+unfolding near_capacity
+returns-else-day_limit-cargo c = grind arith
+
+pub returns-else-cargo-gt0 : goal.returns-else-cargo-gt0
+unfolding near_capacity
+returns-else-cargo-gt0 c = grind arith

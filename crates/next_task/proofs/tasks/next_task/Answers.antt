@@ -1,13 +1,13 @@
 -- `next_task::tasks::next_task` meets its contract.
-use borrow.Author.Rules.{rules}
+use native.Mathlib.Omega.{arith}
 use Rattle.next_task.proofs.TaskLaws.{next_stop_lem, next_tip, next_wait}
 use Rattle.next_task.proofs.tasks.next_task.Goals as goal
 
-pub returns-then-k-ne0 : goal.returns-then-k-ne0
-returns-then-k-ne0 c = (search next_stop_lem, search rules)
+pub returns-in-Some-clause-next_is : goal.returns-in-Some-clause-next_is
+returns-in-Some-clause-next_is c = next_stop_lem _ _ _ _ c.in-Some.ensures
 
-pub returns-then-cargo-gt0 : goal.returns-then-cargo-gt0
-returns-then-cargo-gt0 c = (search next_tip, search rules)
+pub returns-in-None-clause-next_is : goal.returns-in-None-clause-next_is
+returns-in-None-clause-next_is c = next_tip _ _ _ _ c.in-None.ensures (omega arith) c.tip_next.ensures.next_is
 
-pub returns : goal.returns
-returns c = (search next_wait, search rules)
+pub returns-in-None-2-clause-next_is : goal.returns-in-None-2-clause-next_is
+returns-in-None-2-clause-next_is c = next_wait _ _ _ _ c.in-None.ensures (omega arith) c.wait_next.ensures.next_is

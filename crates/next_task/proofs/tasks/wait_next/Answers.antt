@@ -1,10 +1,9 @@
 -- `next_task::tasks::wait_next` meets its contract.
-use borrow.Author.Rules.{rules}
 use Rattle.next_task.proofs.TaskLaws.{wait_home, wait_stop}
 use Rattle.next_task.proofs.tasks.wait_next.Goals as goal
 
-pub returns-then-k-eq0 : goal.returns-then-k-eq0
-returns-then-k-eq0 c = (search wait_home, search rules)
+pub returns-in-Some-clause-next_is : goal.returns-in-Some-clause-next_is
+returns-in-Some-clause-next_is c = wait_stop _ _ _ _ c.in-Some.ensures
 
-pub returns : goal.returns
-returns c = (search wait_stop, search rules)
+pub returns-in-None-clause-next_is : goal.returns-in-None-clause-next_is
+returns-in-None-clause-next_is c = wait_home _ _ _ _ c.in-None.ensures

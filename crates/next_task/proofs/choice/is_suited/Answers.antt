@@ -1,6 +1,0 @@
--- `next_task::choice::is_suited` meets its contract.
-use Rattle.next_task.proofs.ChoiceLaws.{fit_home}
-use Rattle.next_task.proofs.choice.is_suited.Goals as goal
-
-pub returns : goal.returns
-returns c = search fit_home
