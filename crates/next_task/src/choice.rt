@@ -67,7 +67,7 @@ impl Search for Waiting {
     }
 }
 
-// A vehicle before its choice of a stop, with small numbers.
+// A vehicle before its next task, with small numbers; what it does then is in `tasks`.
 #[derive(Clone, Copy)]
 pub(crate) struct Choice<'a> {
     pub day: &'a Day<'a>,

@@ -23,72 +23,73 @@ pub enum Next {
     Home,
 }
 
-// Near to capacity: more than four fifths of Q, Q* or S*, with a load.
-fn is_near_capacity(choice: &Choice) -> bool
-    ensures { result ≡ near_capacity choice.now.day.now choice.now.cargo }
-{
-    let cargo = choice.cargo;
-    0 < cargo.load
-        && (4 * choice.day.load_limit() < 5 * cargo.load
-            || 4 * choice.day.day_limit() < 5 * cargo.kg
-            || 4 * choice.day.stop_limit() < 5 * cargo.visits)
-}
-
-// Whether a stop is farther than a tip.
-fn is_farther(day: &Day, trip: Trip, stop: usize, tip: usize) -> bool
-    requires { SmallTrip day.now 2147483648 trip × (stop ≤ stops day.now) × (0 < tip) × (tip ≤ tips day.now) }
-    ensures { result ≡ farther day.now trip stop tip }
-{
-    let to_tip = day.leg(trip.place, tip);
-    let to_stop = day.leg(trip.place, day.stop_place(stop));
-    to_tip.minutes < to_stop.minutes
-}
-
-// Whether a stop is dropped: near to capacity, where a tip is nearer.
-fn is_dropped(choice: &Choice, stop: usize) -> bool
-    requires { stop ≤ stops choice.now.day.now }
-    ensures { result ≡ (near_capacity choice.now.day.now choice.now.cargo && farther choice.now.day.now choice.now.trip stop (nearest_tip choice.now.day.now choice.now.trip.place choice.now.trip.minute)) }
-{
-    if !is_near_capacity(choice) {
-        return false;
+impl<'a> Choice<'a> {
+    // Near to capacity: more than four fifths of Q, Q* or S*, with a load.
+    fn is_near_capacity(&self) -> bool
+        ensures { result ≡ near_capacity self.now.day.now self.now.cargo }
+    {
+        let cargo = self.cargo;
+        0 < cargo.load
+            && (4 * self.day.load_limit() < 5 * cargo.load
+                || 4 * self.day.day_limit() < 5 * cargo.kg
+                || 4 * self.day.stop_limit() < 5 * cargo.visits)
     }
-    match nearest_tip(choice.day, choice.trip.place, choice.trip.minute) {
-        Some(tip) => is_farther(choice.day, choice.trip, stop, tip),
-        None => false,
-    }
-}
 
-// Step 3: the nearest stop, where it is not dropped.
-fn near_stop(choice: &Choice, left: Marks) -> Option<usize>
-    ensures { ChosenOf (stops choice.now.day.now) (chosen_by choice.now.day.now choice.now.trip choice.now.cargo (marked left.words)) result }
-{
-    let stop = choice.best_stop::<Near>(left)?;
-    if is_dropped(choice, stop) {
-        return None;
+    // Whether a stop is farther than a tip.
+    fn is_farther(&self, stop: usize, tip: usize) -> bool
+        requires { (stop ≤ stops self.now.day.now) × (0 < tip) × (tip ≤ tips self.now.day.now) }
+        ensures { result ≡ farther self.now.day.now self.now.trip stop tip }
+    {
+        let to_tip = self.day.leg(self.trip.place, tip);
+        let to_stop = self.day.leg(self.trip.place, self.day.stop_place(stop));
+        to_tip.minutes < to_stop.minutes
     }
-    Some(stop)
-}
 
-// Step 5, without a load.
-fn wait_next(choice: &Choice, left: Marks) -> Next
-    ensures next_is { next_of result ≡ wait_by choice.now.day.now choice.now.trip choice.now.cargo (marked left.words) }
-    ensures within { NextWithin choice.now.day.now result }
-{
-    match choice.best_stop::<Waiting>(left) {
-        Some(stop) => Next::Stop(stop),
-        None => Next::Home,
+    // Whether a stop is dropped: near to capacity, where a tip is nearer.
+    fn is_dropped(&self, stop: usize) -> bool
+        requires { stop ≤ stops self.now.day.now }
+        ensures { result ≡ (near_capacity self.now.day.now self.now.cargo && farther self.now.day.now self.now.trip stop (nearest_tip self.now.day.now self.now.trip.place self.now.trip.minute)) }
+    {
+        if !self.is_near_capacity() {
+            return false;
+        }
+        match nearest_tip(self.day, self.trip.place, self.trip.minute) {
+            Some(tip) => self.is_farther(stop, tip),
+            None => false,
+        }
     }
-}
 
-// Step 4, with a load.
-fn tip_next(day: &Day, trip: Trip) -> Next
-    requires { SmallTrip day.now 2147483648 trip }
-    ensures next_is { next_of result ≡ emptying (nearest_tip day.now trip.place trip.minute) }
-    ensures within { NextWithin day.now result }
-{
-    match nearest_tip(day, trip.place, trip.minute) {
-        Some(tip) => Next::Tip(tip),
-        None => Next::Home,
+    // Step 3: the nearest stop, where it is not dropped.
+    fn near_stop(&self, left: Marks) -> Option<usize>
+        ensures { ChosenOf (stops self.now.day.now) (chosen_by self.now.day.now self.now.trip self.now.cargo (marked left.words)) result }
+    {
+        let stop = self.best_stop::<Near>(left)?;
+        if self.is_dropped(stop) {
+            return None;
+        }
+        Some(stop)
+    }
+
+    // Step 5, without a load.
+    fn wait_next(&self, left: Marks) -> Next
+        ensures next_is { next_of result ≡ wait_by self.now.day.now self.now.trip self.now.cargo (marked left.words) }
+        ensures within { NextWithin self.now.day.now result }
+    {
+        match self.best_stop::<Waiting>(left) {
+            Some(stop) => Next::Stop(stop),
+            None => Next::Home,
+        }
+    }
+
+    // Step 4, with a load.
+    fn tip_next(&self) -> Next
+        ensures next_is { next_of result ≡ emptying (nearest_tip self.now.day.now self.now.trip.place self.now.trip.minute) }
+        ensures within { NextWithin self.now.day.now result }
+    {
+        match nearest_tip(self.day, self.trip.place, self.trip.minute) {
+            Some(tip) => Next::Tip(tip),
+            None => Next::Home,
+        }
     }
 }
 
@@ -99,9 +100,9 @@ pub fn next_task(day: &Day, trip: Trip, cargo: Cargo, left: Marks) -> Next
     ensures within { NextWithin day.now result }
 {
     let choice = Choice { day, trip, cargo };
-    match near_stop(&choice, left) {
+    match choice.near_stop(left) {
         Some(stop) => Next::Stop(stop),
-        None if 0 < cargo.load => tip_next(day, trip),
-        None => wait_next(&choice, left),
+        None if 0 < cargo.load => choice.tip_next(),
+        None => choice.wait_next(left),
     }
 }

@@ -1,6 +1,6 @@
--- `next_task::tasks::near_stop` meets its contract.
+-- `next_task::choice::Choice::near_stop` meets its contract.
 use Rattle.next_task.proofs.TaskLaws.{near_none, near_dropped, near_kept}
-use Rattle.next_task.proofs.tasks.near_stop.Goals as goal
+use Rattle.next_task.proofs.choice.Choice.near_stop.Goals as goal
 
 pub returns-in_err-stop : goal.returns-in_err-stop
 returns-in_err-stop c = rw c.from_residual.ensures (near_none _ _ _ _ c.in_err-stop.ensures)

@@ -1,7 +1,7 @@
--- `next_task::tasks::is_near_capacity` meets its contract.
+-- `next_task::choice::Choice::is_near_capacity` meets its contract.
 use native.Mathlib.Omega.{arith}
 use Rattle.rules.specs.Choice.{near_capacity}
-use Rattle.next_task.proofs.tasks.is_near_capacity.Goals as goal
+use Rattle.next_task.proofs.choice.Choice.is_near_capacity.Goals as goal
 
 pub returns-then-day_limit-cargo : goal.returns-then-day_limit-cargo
 unfolding near_capacity
