@@ -8,11 +8,11 @@ use mathlib.Core.Logic.{inl, inr}
 use mathlib.Core.Option.{some}
 use native.Mathlib.Omega.{arith}
 use native.Mathlib.Decide.{ℕ_discrete}
-use lib.ListN.{length, length-map, set, length-set}
+use lib.ListN.{length, length-map, length-set}
 use borrow.Author.Tests.{lt-ltb}
 use Rattle.rules.specs.Lists.{mem, unmet}
 use Rattle.rules.specs.Fields.{stops, stop_place}
-use Rattle.rules.specs.PlanWords.{word_of, rest_word}
+use Rattle.rules.specs.PlanWords.{Word, word_of, rest_word}
 use Rattle.rules.specs.Plan.{Task, serve, empty, lunch, Round, stops_on, word_for}
 use Rattle.rules.specs.Cargo.{cargo_after, emptied}
 use Rattle.rules.specs.Trip.{visited}
@@ -32,8 +32,6 @@ use Rattle.marks.specs.declared.Marks.{Marks}
 use Rattle.plan_words.specs.Said.{tasks_said, Said}
 use Rattle.plan_words.proofs.SaidLaws.{said_count, said_put, said_same, tasks_more}
 use Rattle.plan_words.proofs.WordForms.{rest_form}
-use Rattle.day.specs.Layout.{LayoutOf}
-use Rattle.day.specs.declared.fields.Layout.{Layout}
 use Rattle.greedy_laws.specs.Reached.{goes_on}
 use Rattle.trips.specs.Trips.{CargoWithin, SmallTrip}
 use Rattle.greedy_laws.specs.States.{unrouted}
@@ -48,7 +46,7 @@ use Rattle.next_task.specs.declared.tasks.Next.{Next}
 use Rattle.next_task.specs.declared.tasks.Next.TheVariants as Nexts
 use Rattle.next_task.proofs.TaskLaws.{unrouted_in}
 use Rattle.vehicle_writer.specs.Done.{SmallState, Done, Doable, Fits, next_said, MadeReady}
-use Rattle.vehicle_writer.specs.Going.{LeftOf, RestSaid, Going, TaskAhead, GoesOn}
+use Rattle.vehicle_writer.specs.Going.{LeftOf, WordPut, RestSaid, Going, TaskAhead, GoesOn}
 use Rattle.vehicle_writer.specs.declared.state.State.{State}
 use Rattle.vehicle_writer.specs.declared.state.Ready.{Ready}
 use Rattle.vehicle_writer.proofs.ReadyLaws.{ready_is}
@@ -73,12 +71,11 @@ left_unmarked day taken k m r h l g e u =
     }
 
 -- the numbers of a vehicle's state are small: its distance by the number of its tasks
-truck_small : {day before : List ℕ} {layout : Layout} {s : State} (v : Truck) → LayoutOf day layout → s.trip ≡ v.trip → s.cargo ≡ v.cargo
-    → SmallTruck day v → Routes day before v → Room v.tasks → SmallState day layout s
-truck_small {day} {before} v l t c q r w =
+truck_small : {day before : List ℕ} {s : State} (v : Truck) → s.trip ≡ v.trip → s.cargo ≡ v.cargo
+    → SmallTruck day v → Routes day before v → Room v.tasks → SmallState day s
+truck_small {day} {before} v t c q r w =
     let far : v.trip.distance < 2147483648 = omega (arith, q.distance, w.size, r.visits, routes_unmet day before v r, unmet_most (stops day) before) in
     record {
-      layout_is = l;
       trip = subst (SmallTrip day 2147483648) (sym t) (record { place = q.place; minute = q.minute; distance = far });
       cargo = subst CargoWithin (sym c) q.cargo;
     }
@@ -102,16 +99,16 @@ named (Nexts.Tip x) e = (empty x, refl)
 named Nexts.Home e = absurd (true≢false (sym e))
 
 -- what a vehicle on its way has for its numbers, and its room
-module _ {day before : List ℕ} {layout : Layout} {number : ℕ} {p part : List ℕ} {at : ℕ} {r : Ready} (g : Going day layout before number p part at r) where
+module _ {day before : List ℕ} {number : ℕ} {p part : List ℕ} {at : ℕ} {r : Ready} (g : Going day before number p part at r) where
   abbrev here : Truck
   here = resting day g.truck
 
   going_routes : Routes day before here
   going_routes = rested_routes day before g.truck g.reached
 
-  going_small : LayoutOf day layout → SmallState day layout r.state
-  going_small l =
-      truck_small here l g.ready.trip_is g.ready.cargo_is (rested_small day before g.truck g.reached) going_routes
+  going_small : SmallState day r.state
+  going_small =
+      truck_small here g.ready.trip_is g.ready.cargo_is (rested_small day before g.truck g.reached) going_routes
       (rested_room day before g.truck g.reached)
 
   pub going_at : at ≡ length here.tasks + 1
@@ -128,18 +125,18 @@ serve_new : (day : List ℕ) (v : Truck) (k : ℕ) → next_task day v ≡ some 
 unfolding Fresh stops_on
 serve_new day v k e = (next_new day v (serve k) (next_some day v (serve k) e)).0
 
-next_doable : {day : List ℕ} {layout : Layout} (v : Truck) (left : Marks) (next : Next) → LayoutOf day layout → LeftOf day v.taken left
-    → next_of next ≡ next_task day v → NextWithin layout next → Doable left.words next
-next_doable {day} {layout} v left (Nexts.Stop k) l h e i =
+next_doable : {day : List ℕ} (v : Truck) (left : Marks) (next : Next) → LeftOf day v.taken left
+    → next_of next ≡ next_task day v → NextWithin day next → Doable left.words next
+next_doable {day} v left (Nexts.Stop k) h e i =
     ap (λ (f : ℕ → Bool). f k) h.are
-    ∙ unrouted_new (stops day) v.taken k i.0 (omega (arith, i.1, l.stops_are)) (serve_new day v k (sym e))
-next_doable v left (Nexts.Tip x) l h e i = tt
-next_doable v left Nexts.Home l h e i = tt
+    ∙ unrouted_new (stops day) v.taken k i.0 i.1 (serve_new day v k (sym e))
+next_doable v left (Nexts.Tip x) h e i = tt
+next_doable v left Nexts.Home h e i = tt
 
-next_fits : {day : List ℕ} {layout : Layout} (next : Next) → LayoutOf day layout → NextWithin layout next → Fits next
-next_fits (Nexts.Stop k) l i = omega (arith, i.1, l.stops_are)
-next_fits (Nexts.Tip x) l i = omega (arith, i.1, l.tips_are)
-next_fits Nexts.Home l i = tt
+next_fits : (day : List ℕ) (next : Next) → NextWithin day next → Fits next
+next_fits day (Nexts.Stop k) i = omega (arith, i.1)
+next_fits day (Nexts.Tip x) i = omega (arith, i.1)
+next_fits day Nexts.Home i = tt
 
 -- the task that was before the vehicle, and the state behind it
 record Behind (day : List ℕ) (v : Truck) (next : Next) (s : State) : Type 0 where
@@ -150,11 +147,11 @@ record Behind (day : List ℕ) (v : Truck) (next : Next) (s : State) : Type 0 wh
   cargo : s.cargo ≡ (doing day v task).cargo
   left_is : LeftOf day (doing day v task).taken s.left
 
-next_done : {day : List ℕ} {layout : Layout} (v : Truck) (old s : State) (next : Next) → LayoutOf day layout
-    → old.trip ≡ v.trip → old.cargo ≡ v.cargo → LeftOf day v.taken old.left → next_of next ≡ next_task day v → NextWithin layout next
+next_done : {day : List ℕ} (v : Truck) (old s : State) (next : Next)
+    → old.trip ≡ v.trip → old.cargo ≡ v.cargo → LeftOf day v.taken old.left → next_of next ≡ next_task day v → NextWithin day next
     → is_task next ≡ true → Done day old next s → Behind day v next s
 unfolding cargo_after met_after
-next_done {day} {layout} v old s (Nexts.Stop k) l t c h q i e d =
+next_done {day} v old s (Nexts.Stop k) t c h q i e d =
     record {
       task = serve k;
       is_next = sym q;
@@ -162,9 +159,9 @@ next_done {day} {layout} v old s (Nexts.Stop k) l t c h q i e d =
       trip = d.trip ∙ ap (λ (y : Trip). visited day y (stop_place day k)) t;
       cargo = d.cargo ∙ ap (λ (y : Cargo). taking day y k) c;
       left_is =
-          left_unmarked day v.taken k old.left s.left h i.0 (omega (arith, i.1, l.stops_are)) (serve_new day v k (sym q)) d.left;
+          left_unmarked day v.taken k old.left s.left h i.0 i.1 (serve_new day v k (sym q)) d.left;
     }
-next_done {day} {layout} v old s (Nexts.Tip x) l t c h q i e d =
+next_done {day} v old s (Nexts.Tip x) t c h q i e d =
     record {
       task = empty x;
       is_next = sym q;
@@ -173,44 +170,48 @@ next_done {day} {layout} v old s (Nexts.Tip x) l t c h q i e d =
       cargo = d.cargo ∙ ap emptied c;
       left_is = subst (LeftOf day v.taken) (sym d.left) h;
     }
-next_done v old s Nexts.Home l t c h q i e d = absurd (true≢false (sym e))
+next_done v old s Nexts.Home t c h q i e d = absurd (true≢false (sym e))
 
-module _ {day before : List ℕ} {layout : Layout} {number : ℕ} {p part : List ℕ} {at : ℕ} {r : Ready} (l : LayoutOf day layout)
-    (g : Going day layout before number p part at r) (e : is_task r.next ≡ true) {s : State} (d : Done day r.state r.next s) where
+module _ {day before : List ℕ} {number : ℕ} {p part : List ℕ} {at : ℕ} {r : Ready}
+    (g : Going day before number p part at r) (e : is_task r.next ≡ true) {s : State} (d : Done day r.state r.next s) where
   going_done : Behind day (resting day g.truck) r.next s
   going_done =
       let i = g.ready in
-      next_done (resting day g.truck) r.state s r.next l i.trip_is i.cargo_is i.left_is i.next_is i.next_in e d
+      next_done (resting day g.truck) r.state s r.next i.trip_is i.cargo_is i.left_is i.next_is i.next_in e d
 
   -- the numbers behind the task are small too
-  behind_small : SmallState day layout s
+  behind_small : SmallState day s
   behind_small =
       let b = going_done in
       let v = doing day (resting day g.truck) b.task in
       let reached = goes_on g.truck b.task g.reached b.is_next in
-      truck_small v l b.trip b.cargo (reached_small day before v reached) (reached_routes day before v reached) (reached_room day before v reached)
+      truck_small v b.trip b.cargo (reached_small day before v reached) (reached_routes day before v reached) (reached_room day before v reached)
+
+-- a word is put behind the others
+put_size : {part now : List ℕ} {at word end : ℕ} → WordPut part at word now end → length now ≡ length part
+put_size {part} {now} {at} {word} w = ap length w.text ∙ length-set part at word
+
+pub put_said : {part now p : List ℕ} {at word end : ℕ} {what : List Word} {says : Word} → WordPut part at word now end → Said what p part at
+    → word_of word ≡ says → at < length part → Said (what ++ (says ∷ [])) p now end
+put_said {part} {now} {p} {at} {word} {end} w s e l = rw (w.text, w.count) (said_put s word e l)
 
 -- a D word where a rest is due
-pub rest_put : {isDue asked : Bool} {part : List ℕ} {at : ℕ} → asked ≡ isDue → asked ≡ true → at < length part
-    → RestSaid isDue part at (set part at rest_word) (at + 1)
-rest_put {isDue} {asked} {part} {at} a t l =
+pub rest_put : {isDue asked : Bool} {part now : List ℕ} {at end : ℕ} → asked ≡ isDue → asked ≡ true → at < length part
+    → WordPut part at rest_word now end → RestSaid isDue part at now end
+rest_put {isDue} {asked} {part} {now} {at} {end} a t l w =
     let is : isDue ≡ true = sym a ∙ t in
     record {
-      count = rw is;
-      size = length-set part at rest_word;
-      says = λ what p s. rw is (said_put s rest_word rest_form l);
+      count = rw is w.count;
+      size = put_size w;
+      says = λ what p s. rw is (put_said w s rest_form l);
     }
 
 pub rest_none : {isDue asked : Bool} {part : List ℕ} {at : ℕ} → asked ≡ isDue → asked ≡ false → RestSaid isDue part at part at
 rest_none a t = let is = sym a ∙ t in record { count = rw is; size = refl; says = λ what p s. rw is s }
 
--- there is a word more, and the part is as long as it was
-module _ {isDue : Bool} (part : List ℕ) (at : ℕ) {now : List ℕ} {end : ℕ} where
-  pub rest_more : RestSaid isDue part (at + 1) now end → at < end
-  rest_more w = elim (known isDue) [ inl d ↦ omega (arith, rw d at w.count) | inr d ↦ omega (arith, rw d at w.count) ]
-
-  pub rest_size : (i word : ℕ) → RestSaid isDue (set part i word) at now end → length now ≡ length part
-  rest_size i word w = w.size ∙ length-set part i word
+-- no word is taken back
+pub rest_more : {isDue : Bool} {part now : List ℕ} {at end : ℕ} → RestSaid isDue part at now end → at ≤ end
+rest_more {isDue} w = elim (known isDue) [ inl d ↦ omega (arith, rw d at w.count) | inr d ↦ omega (arith, rw d at w.count) ]
 
 -- the words of a vehicle that has rested if due
 pub rest_words : (day : List ℕ) (number : ℕ) {p part now : List ℕ} {at end : ℕ} (v : Truck) (t : Trip) → Said (tasks_said number v.tasks) p part at
@@ -223,41 +224,38 @@ rest_words day number {p} {part} {now} {at} {end} v t s q w =
     ]
 
 -- and behind a task
-task_words : (number word : ℕ) {p part : List ℕ} {at : ℕ} (tasks : Round) (task : Task) → Said (tasks_said number tasks) p part at
-    → at < length part → word_of word ≡ word_for task → Said (tasks_said number (tasks ++ (task ∷ []))) p (set part at word) (at + 1)
-task_words number word tasks task s l e = said_same (said_put s word e l) (tasks_more number tasks task) refl
+task_words : (number : ℕ) {word : ℕ} {p part now : List ℕ} {at end : ℕ} (tasks : Round) (task : Task) → Said (tasks_said number tasks) p part at
+    → at < length part → word_of word ≡ word_for task → WordPut part at word now end → Said (tasks_said number (tasks ++ (task ∷ []))) p now end
+task_words number tasks task s l e w = said_same (put_said w s e l) (tasks_more number tasks task) refl
 
 -- a vehicle with a task before it: its room, and what its next task asks for
-module _ {day : List ℕ} {layout : Layout} {part : List ℕ} {at : ℕ} {r : Ready} (a : TaskAhead day layout part at r) where
+module _ {day : List ℕ} {part : List ℕ} {at : ℕ} {r : Ready} (a : TaskAhead day part at r) where
   pub ahead_space : at + 1 < length part
   ahead_space = let g = a.some in omega (arith, going_room g.going a.task, g.room, g.going.text.text.size)
 
-  pub ahead_few : at < 1280
-  ahead_few = let g = a.some in omega (arith, going_room g.going a.task, unmet_most (stops day) g.before)
-
   pub ahead_fits : Fits r.next
-  ahead_fits = next_fits r.next a.some.layout_is a.some.going.ready.next_in
+  ahead_fits = next_fits day r.next a.some.going.ready.next_in
 
-  pub ahead_able : SmallState day layout r.state × NextWithin layout r.next × Doable r.state.left.words r.next
+  pub ahead_able : SmallState day r.state × NextWithin day r.next × Doable r.state.left.words r.next
   ahead_able =
       let i = a.some.going.ready in
-      let l = a.some.layout_is in
-      (going_small a.some.going l, i.next_in, next_doable (resting day a.some.going.truck) r.state.left r.next l i.left_is i.next_is i.next_in)
+      (going_small a.some.going, i.next_in, next_doable (resting day a.some.going.truck) r.state.left r.next i.left_is i.next_is i.next_in)
 
-  pub ahead_room : (word : ℕ) → at + 1 < length (set part at word)
-  ahead_room word = omega (arith, ahead_space, length-set part at word)
+  pub ahead_room : {word : ℕ} {now : List ℕ} {end : ℕ} → WordPut part at word now end → end < length now
+  ahead_room w = omega (arith, ahead_space, w.count, put_size w)
 
-  pub ahead_small : {s : State} → Done day r.state r.next s → SmallState day layout s
-  ahead_small d = behind_small a.some.layout_is a.some.going a.task d
+  pub ahead_small : {s : State} → Done day r.state r.next s → SmallState day s
+  ahead_small d = behind_small a.some.going a.task d
 
   -- the words, the state and the next task behind the task and the rest
-  pub ahead_on : (word : ℕ) {s : State} {now : List ℕ} {end : ℕ} {after : Ready} → word_of word ≡ next_said r.next → Done day r.state r.next s
-      → RestSaid (due day s.trip) (set part at word) (at + 1) now end → MadeReady day layout s after → GoesOn day layout part at r now end after
-  ahead_on word w d rested m = λ before number p g.
-      let b = going_done a.some.layout_is g a.task d in
+  pub ahead_on : {word : ℕ} {mid : List ℕ} {behind : ℕ} {s : State} {now : List ℕ} {end : ℕ} {after : Ready} → word_of word ≡ next_said r.next
+      → WordPut part at word mid behind → Done day r.state r.next s → RestSaid (due day s.trip) mid behind now end → MadeReady day s after
+      → GoesOn day part at r now end after
+  ahead_on e w d rested m = λ before number p g.
+      let b = going_done g a.task d in
       let v = resting day g.truck in
       let u = doing day v b.task in
-      let said = task_words number word v.tasks b.task g.text (omega (arith, ahead_space)) (w ∙ b.said) in
+      let said = task_words number v.tasks b.task g.text (omega (arith, ahead_space)) (e ∙ b.said) w in
       record {
         truck = u;
         reached = goes_on g.truck b.task g.reached b.is_next;

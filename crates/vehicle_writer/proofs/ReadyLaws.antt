@@ -11,7 +11,6 @@ use Rattle.rules.specs.declared.walk.Cargo.{Cargo}
 use Rattle.rules.specs.declared.walk.Trip.{Trip}
 use Rattle.laws.specs.Marks.{marked}
 use Rattle.marks.specs.declared.Marks.{Marks}
-use Rattle.day.specs.declared.fields.Layout.{Layout}
 use Rattle.greedy_laws.proofs.Driving.{resting_trip, resting_cargo, resting_taken}
 use Rattle.next_task.specs.NextBy.{next_by}
 use Rattle.next_task.proofs.TaskLaws.{next_is_lem}
@@ -20,9 +19,9 @@ use Rattle.vehicle_writer.specs.Going.{LeftOf, IsReady, SetsOut}
 use Rattle.vehicle_writer.specs.declared.state.State.{State}
 use Rattle.vehicle_writer.specs.declared.state.Ready.{Ready}
 
-pub ready_is : {day : List ℕ} {layout : Layout} (v : Truck) {s : State} {r : Ready} → s.trip ≡ v.trip → s.cargo ≡ v.cargo
-    → LeftOf day v.taken s.left → MadeReady day layout s r → IsReady day layout (resting day v) r
-ready_is {day} {layout} v {s} {r} t c l m =
+pub ready_is : {day : List ℕ} (v : Truck) {s : State} {r : Ready} → s.trip ≡ v.trip → s.cargo ≡ v.cargo
+    → LeftOf day v.taken s.left → MadeReady day s r → IsReady day (resting day v) r
+ready_is {day} v {s} {r} t c l m =
     let trip_is : r.state.trip ≡ (resting day v).trip = m.rested.trip ∙ ap (rest_if_due day) t ∙ sym (resting_trip day v) in
     let cargo_is : r.state.cargo ≡ (resting day v).cargo = m.rested.cargo ∙ c ∙ sym (resting_cargo day v) in
     let left_is : LeftOf day (resting day v).taken r.state.left =
@@ -41,6 +40,6 @@ ready_is {day} {layout} v {s} {r} t c l m =
     }
 
 -- a fresh vehicle, whatever stops were routed that leave these marks
-pub fresh_ready : {day : List ℕ} {layout : Layout} {left : Marks} {s : State} {r : Ready} → s.trip ≡ leaving day → s.cargo ≡ Carried.empty
-    → s.left ≡ left → MadeReady day layout s r → SetsOut day layout left r
+pub fresh_ready : {day : List ℕ} {left : Marks} {s : State} {r : Ready} → s.trip ≡ leaving day → s.cargo ≡ Carried.empty
+    → s.left ≡ left → MadeReady day s r → SetsOut day left r
 fresh_ready {day} t c l m = λ before h. ready_is (fresh day before) t c (subst (LeftOf day before) (sym l) h) m

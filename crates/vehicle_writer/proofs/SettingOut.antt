@@ -8,7 +8,7 @@ use mathlib.Core.Logic.{inl, inr}
 use mathlib.Core.Option.{some-ne-none}
 use native.Mathlib.Nat.{eq-zero-or-pos}
 use native.Mathlib.Omega.{arith}
-use lib.ListN.{length, set}
+use lib.ListN.{length}
 use Rattle.rules.specs.Lists.{unmet}
 use Rattle.rules.specs.Fields.{stops}
 use Rattle.rules.specs.PlanWords.{vehicle_word}
@@ -18,10 +18,8 @@ use Rattle.rules.specs.Build.{Truck, fresh, resting, one_vehicle}
 use Rattle.rules.specs.declared.walk.Cargo.{Cargo}
 use Rattle.rules.specs.declared.walk.Trip.{Trip}
 use Rattle.marks.specs.declared.Marks.{Marks}
-use Rattle.plan_words.proofs.SaidLaws.{said_none, said_put, said_count}
+use Rattle.plan_words.proofs.SaidLaws.{said_none, said_count}
 use Rattle.plan_words.proofs.WordForms.{vehicle_made}
-use Rattle.day.specs.Layout.{LayoutOf}
-use Rattle.day.specs.declared.fields.Layout.{Layout}
 use Rattle.greedy_laws.specs.Reached.{set_out}
 use Rattle.greedy_laws.proofs.Driving.{resting_cargo, end_none, reached_end}
 use Rattle.greedy_laws.proofs.GreedyRoom.{rested_paid}
@@ -29,19 +27,19 @@ use Rattle.greedy_laws.proofs.LeftOut.{idle_none}
 use Rattle.greedy_laws.proofs.NextTasks.{next_some}
 use Rattle.greedy_laws.proofs.VehicleStops.{rested_routes}
 use Rattle.next_task.specs.NextBy.{is_task}
-use Rattle.vehicle_writer.specs.Going.{LeftOf, IsReady, SetsOut, RestSaid, StartSaid, Going, SomeGoing, SomeLeft, VehicleDone, EndsAll, VehicleWritten, WritesOne}
+use Rattle.vehicle_writer.specs.Going.{LeftOf, IsReady, SetsOut, WordPut, RestSaid, StartSaid, Going, SomeGoing, SomeLeft, VehicleDone, EndsAll, VehicleWritten, WritesOne}
 use Rattle.vehicle_writer.specs.declared.state.Ready.{Ready}
 use Rattle.vehicle_writer.proofs.EndLaws.{home_none}
-use Rattle.vehicle_writer.proofs.GoingLaws.{named, next_room, rest_words}
+use Rattle.vehicle_writer.proofs.GoingLaws.{named, next_room, put_said, rest_words}
 
 -- A, and D where a rest is due
-pub start_said : (day : List ℕ) {part now : List ℕ} {number at word : ℕ} {t : Trip} → number < 256 → word ≡ vehicle_word number → 1 < length part → t ≡ leaving day
-    → RestSaid (due day t) (set part 0 word) 1 now at → StartSaid day number part now at
-start_said day {part} {now} {number} {at} {word} {t} few e l q w = λ before.
-    let one = said_put (said_none part) word (vehicle_made number few e) (omega arith) in
-    rest_words day number (fresh day before) t one q w
+pub start_said : (day : List ℕ) {part mid now : List ℕ} {number from at end word : ℕ} {t : Trip} → number < 256 → word ≡ vehicle_word number → from ≡ 0
+    → 1 < length part → t ≡ leaving day → WordPut part from word mid at → RestSaid (due day t) mid at now end → StartSaid day number part now end
+start_said day {part} {mid} {now} {number} {from} {at} {end} {word} {t} few e none l q w rested = λ before.
+    let one = put_said (rw none at w) (said_none part) (vehicle_made number few e) (omega arith) in
+    rest_words day number (fresh day before) t one q rested
 
-module _ {day : List ℕ} {layout : Layout} (before : List ℕ) {r : Ready} (f : IsReady day layout (resting day (fresh day before)) r) where
+module _ {day : List ℕ} (before : List ℕ) {r : Ready} (f : IsReady day (resting day (fresh day before)) r) where
   -- a task: there is room for it, and the vehicle takes a stop
   first_room : is_task r.next ≡ true → 2 < 5 * unmet (stops day) before
   first_room e =
@@ -82,7 +80,7 @@ written_none : {day before : List ℕ} {number : ℕ} (p : List ℕ) {m : Marks}
 written_none p e h =
     record { none = λ z. e; kept = λ z. refl; left = λ z. h; some = λ l. absurd (omega arith); done = λ l. absurd (omega arith) }
 
-module _ {day : List ℕ} {layout : Layout} {left : Marks} {r : Ready} {asked : Bool} (out : SetsOut day layout left r) (a : asked ≡ is_task r.next) where
+module _ {day : List ℕ} {left : Marks} {r : Ready} {asked : Bool} (out : SetsOut day left r) (a : asked ≡ is_task r.next) where
   -- there is no task
   pub out_idle : {number : ℕ} (part : List ℕ) → asked ≡ false → WritesOne day left number part part left 0
   out_idle part t = λ before h. written_none part (first_none before (out before h) (sym a ∙ t)) h
@@ -94,13 +92,12 @@ module _ {day : List ℕ} {layout : Layout} {left : Marks} {r : Ready} {asked : 
 
     -- with them the vehicle is under way
     module _ {number : ℕ} {part now : List ℕ} {at : ℕ} (start : StartSaid day number part now at) where
-      out_going : (before : List ℕ) → LeftOf day before left → Going day layout before number part now at r
+      out_going : (before : List ℕ) → LeftOf day before left → Going day before number part now at r
       out_going before h = record { truck = fresh day before; reached = set_out; ready = out before h; text = start before }
 
-      pub out_under_way : LayoutOf day layout → SomeLeft day part left → SomeGoing day layout now at r
-      out_under_way l some =
+      pub out_under_way : SomeLeft day part left → SomeGoing day now at r
+      out_under_way some =
           record {
-            layout_is = l;
             before = some.before;
             number = number;
             p = part;
@@ -110,5 +107,10 @@ module _ {day : List ℕ} {layout : Layout} {left : Marks} {r : Ready} {asked : 
           }
 
       -- and then it is written
-      pub out_written : {end : List ℕ} {m : Marks} {words : ℕ} → EndsAll day layout now at r end m words → WritesOne day left number part end m words
+      pub out_written : {end : List ℕ} {m : Marks} {words : ℕ} → EndsAll day now at r end m words → WritesOne day left number part end m words
       out_written ends = λ before h. written_some (first_some before (out before h) (sym a ∙ t)) (ends before number part (out_going before h))
+
+-- it is written where the words were put
+pub written_there : {day : List ℕ} {left : Marks} {number : ℕ} {part end now : List ℕ} {m : Marks} {words : ℕ} → now ≡ end
+    → WritesOne day left number part end m words → WritesOne day left number part now m words
+written_there e w = rw e w

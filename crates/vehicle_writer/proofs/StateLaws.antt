@@ -8,25 +8,22 @@ use Rattle.rules.specs.Cargo.{loaded}
 use Rattle.rules.specs.Cargo as Carried
 use Rattle.rules.specs.Trip.{leaving, visited}
 use Rattle.laws.specs.Marks.{Unmarked}
-use Rattle.day.specs.Layout.{LayoutOf}
-use Rattle.day.specs.declared.fields.Layout.{Layout}
 use Rattle.trips.specs.Trips.{CargoWithin, SmallTrip}
 use Rattle.ways_home.proofs.HomeLaws.{rest_small}
 use Rattle.vehicle_writer.specs.Done.{SmallState, Served, Rested}
 use Rattle.vehicle_writer.specs.declared.state.State.{State}
 
 -- a fresh vehicle has small numbers
-pub fresh_small : {day : List ℕ} {layout : Layout} (s : State) → LayoutOf day layout → s.trip ≡ leaving day → s.cargo ≡ Carried.empty
-    → SmallState day layout s
-fresh_small {day} s l t c =
+pub fresh_small : {day : List ℕ} (s : State) → s.trip ≡ leaving day → s.cargo ≡ Carried.empty
+    → SmallState day s
+fresh_small {day} s t c =
     record {
-      layout_is = l;
       trip = subst (SmallTrip day 2147483648) (sym t) (record { place = omega arith; minute = omega arith; distance = omega arith });
       cargo = subst CargoWithin (sym c) (record { load = omega arith; kg = omega arith; visits = omega arith });
     }
 
 -- and a rest keeps them small
-module _ {day : List ℕ} {layout : Layout} {s : State} (small : SmallState day layout s) (r : State) (rested : Rested day s r) where
+module _ {day : List ℕ} {s : State} (small : SmallState day s) (r : State) (rested : Rested day s r) where
   pub rested_trip : SmallTrip day 2147483648 r.trip
   rested_trip = rest_small day 2147483648 s.trip r.trip small.trip rested.trip
 

@@ -8,8 +8,6 @@ use Rattle.rules.specs.Trip.{visited}
 use Rattle.rules.specs.Home.{rest_if_due}
 use Rattle.rules.specs.Choice.{taking}
 use Rattle.laws.specs.Marks.{marked, Unmarked}
-use Rattle.day.specs.Layout.{LayoutOf}
-use Rattle.day.specs.declared.fields.Layout.{Layout}
 use Rattle.trips.specs.Trips.{CargoWithin, SmallTrip}
 use Rattle.next_task.specs.NextBy.{next_of, next_by, NextWithin}
 use Rattle.next_task.specs.declared.tasks.Next.{Next}
@@ -17,9 +15,8 @@ use Rattle.next_task.specs.declared.tasks.Next.TheVariants as Nexts
 use Rattle.vehicle_writer.specs.declared.state.State.{State}
 use Rattle.vehicle_writer.specs.declared.state.Ready.{Ready}
 
--- the layout is the day's, and the numbers of the state are small
-pub record SmallState (day : List ℕ) (layout : Layout) (s : State) : Type 0 where
-  pub layout_is : LayoutOf day layout
+-- the numbers of the state are small
+pub record SmallState (day : List ℕ) (s : State) : Type 0 where
   pub trip : SmallTrip day 2147483648 s.trip
   pub cargo : CargoWithin s.cargo
 
@@ -66,7 +63,7 @@ pub record Rested (day : List ℕ) (s r : State) : Type 0 where
   pub left : r.left ≡ s.left
 
 -- and the next task is found
-pub record MadeReady (day : List ℕ) (layout : Layout) (s : State) (r : Ready) : Type 0 where
+pub record MadeReady (day : List ℕ) (s : State) (r : Ready) : Type 0 where
   pub rested : Rested day s r.state
   pub next_is : next_of r.next ≡ next_by day r.state.trip r.state.cargo (marked r.state.left.words)
-  pub next_in : NextWithin layout r.next
+  pub next_in : NextWithin day r.next

@@ -1,5 +1,5 @@
 -- One vehicle's words while they are written, by what they say. It serves the contracts of this crate's own functions. Assumes nothing.
-use Rattle.std.specs.Prelude.{ℕ, ◌+◌, ◌*◌, ◌≤◌, ◌<◌, ◌≡◌, Bool, true, List, [], ◌∷◌, ◌++◌, length, if◌then◌else◌}
+use Rattle.std.specs.Prelude.{ℕ, ◌+◌, ◌*◌, ◌≤◌, ◌<◌, ◌≡◌, Bool, true, List, [], ◌∷◌, ◌++◌, length, slice_set, if◌then◌else◌}
 use Rattle.rules.specs.Lists.{unmet}
 use Rattle.rules.specs.Fields.{stops}
 use Rattle.rules.specs.PlanWords.{Word, rest}
@@ -7,8 +7,6 @@ use Rattle.rules.specs.Build.{Truck, fresh, resting, next_task, one_vehicle}
 use Rattle.laws.specs.Marks.{marked, ones_of}
 use Rattle.marks.specs.declared.Marks.{Marks}
 use Rattle.plan_words.specs.Said.{tasks_said, round_said, Said}
-use Rattle.day.specs.Layout.{LayoutOf}
-use Rattle.day.specs.declared.fields.Layout.{Layout}
 use Rattle.greedy_laws.specs.Reached.{Reached}
 use Rattle.greedy_laws.specs.States.{unrouted}
 use Rattle.next_task.specs.NextBy.{next_of, NextWithin, is_task}
@@ -20,16 +18,21 @@ pub record LeftOf (day taken : List ℕ) (m : Marks) : Type 0 where
   pub count : ones_of m.words ≡ unmet (stops day) taken
 
 -- the code's state is that of a vehicle that has rested if due, and its next task is before it
-pub record IsReady (day : List ℕ) (layout : Layout) (v : Truck) (r : Ready) : Type 0 where
+pub record IsReady (day : List ℕ) (v : Truck) (r : Ready) : Type 0 where
   pub trip_is : r.state.trip ≡ v.trip
   pub cargo_is : r.state.cargo ≡ v.cargo
   pub left_is : LeftOf day v.taken r.state.left
   pub next_is : next_of r.next ≡ next_task day v
-  pub next_in : NextWithin layout r.next
+  pub next_in : NextWithin day r.next
 
 -- so it is with a fresh vehicle, for whatever stops were routed that leave these marks
-abbrev pub SetsOut : List ℕ → Layout → Marks → Ready → Type 0
-SetsOut day layout m r = (before : List ℕ) → LeftOf day before m → IsReady day layout (resting day (fresh day before)) r
+abbrev pub SetsOut : List ℕ → Marks → Ready → Type 0
+SetsOut day m r = (before : List ℕ) → LeftOf day before m → IsReady day (resting day (fresh day before)) r
+
+-- one word more stands in the part
+pub record WordPut (part : List ℕ) (at word : ℕ) (now : List ℕ) (end : ℕ) : Type 0 where
+  pub text : now ≡ slice_set part at word
+  pub count : end ≡ at + 1
 
 -- a rest is said behind the other words where one is due
 pub record RestSaid (isDue : Bool) (part : List ℕ) (at : ℕ) (now : List ℕ) (end : ℕ) : Type 0 where
@@ -42,31 +45,30 @@ abbrev pub StartSaid : List ℕ → ℕ → List ℕ → List ℕ → ℕ → Ty
 StartSaid day number part now at = (before : List ℕ) → Said (tasks_said number (resting day (fresh day before)).tasks) part now at
 
 -- a vehicle that set out when some stops were routed is ready for its next task, and its words so far are written; p is what the part was
-pub record Going (day : List ℕ) (layout : Layout) (before : List ℕ) (number : ℕ) (p part : List ℕ) (at : ℕ) (r : Ready) : Type 0 where
+pub record Going (day : List ℕ) (before : List ℕ) (number : ℕ) (p part : List ℕ) (at : ℕ) (r : Ready) : Type 0 where
   pub truck : Truck
   pub reached : Reached day before truck
-  pub ready : IsReady day layout (resting day truck) r
+  pub ready : IsReady day (resting day truck) r
   pub text : Said (tasks_said number (resting day truck).tasks) p part at
 
 -- there is such a vehicle, and room for it: five words for each stop still to be routed, of which there is one at least
-pub record SomeGoing (day : List ℕ) (layout : Layout) (part : List ℕ) (at : ℕ) (r : Ready) : Type 0 where
-  pub layout_is : LayoutOf day layout
+pub record SomeGoing (day : List ℕ) (part : List ℕ) (at : ℕ) (r : Ready) : Type 0 where
   pub before : List ℕ
   pub number : ℕ
   pub p : List ℕ
-  pub going : Going day layout before number p part at r
+  pub going : Going day before number p part at r
   pub some : 0 < unmet (stops day) before
   pub room : 5 * unmet (stops day) before ≤ length p
 
 -- and it has a task before it
-pub record TaskAhead (day : List ℕ) (layout : Layout) (part : List ℕ) (at : ℕ) (r : Ready) : Type 0 where
-  pub some : SomeGoing day layout part at r
+pub record TaskAhead (day : List ℕ) (part : List ℕ) (at : ℕ) (r : Ready) : Type 0 where
+  pub some : SomeGoing day part at r
   pub task : is_task r.next ≡ true
 
 -- each vehicle that stood so now stands so
-abbrev pub GoesOn : List ℕ → Layout → List ℕ → ℕ → Ready → List ℕ → ℕ → Ready → Type 0
-GoesOn day layout part at r now end after =
-    (before : List ℕ) (number : ℕ) (p : List ℕ) → Going day layout before number p part at r → Going day layout before number p now end after
+abbrev pub GoesOn : List ℕ → List ℕ → ℕ → Ready → List ℕ → ℕ → Ready → Type 0
+GoesOn day part at r now end after =
+    (before : List ℕ) (number : ℕ) (p : List ℕ) → Going day before number p part at r → Going day before number p now end after
 
 -- the marks are those of some stops still to be routed, with room for them
 pub record SomeLeft (day part : List ℕ) (m : Marks) : Type 0 where
@@ -80,9 +82,9 @@ pub record VehicleDone (day before : List ℕ) (number : ℕ) (p part : List ℕ
   pub left_is : LeftOf day (one_vehicle day before).taken m
 
 -- each vehicle that stood so is now written
-abbrev pub EndsAll : List ℕ → Layout → List ℕ → ℕ → Ready → List ℕ → Marks → ℕ → Type 0
-EndsAll day layout part at r now m words =
-    (before : List ℕ) (number : ℕ) (p : List ℕ) → Going day layout before number p part at r → VehicleDone day before number p now m words
+abbrev pub EndsAll : List ℕ → List ℕ → ℕ → Ready → List ℕ → Marks → ℕ → Type 0
+EndsAll day part at r now m words =
+    (before : List ℕ) (number : ℕ) (p : List ℕ) → Going day before number p part at r → VehicleDone day before number p now m words
 
 -- nothing is written where the vehicle takes no stop
 pub record VehicleWritten (day before : List ℕ) (number : ℕ) (p part : List ℕ) (m : Marks) (words : ℕ) : Type 0 where

@@ -2,5 +2,5 @@
 use Rattle.vehicle_writer.proofs.GoingLaws.{rest_put}
 use Rattle.vehicle_writer.proofs.writer.write_rest.Goals as goal
 
-pub returns-then-is_due : goal.returns-then-is_due
-returns-then-is_due c = search rest_put
+pub returns-then-is_due-clause-said : goal.returns-then-is_due-clause-said
+returns-then-is_due-clause-said c = search rest_put

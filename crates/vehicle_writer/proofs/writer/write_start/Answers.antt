@@ -2,5 +2,5 @@
 use Rattle.vehicle_writer.proofs.SettingOut.{start_said}
 use Rattle.vehicle_writer.proofs.writer.write_start.Goals as goal
 
-pub returns : goal.returns
-returns c = search start_said
+pub returns-clause-said : goal.returns-clause-said
+returns-clause-said c = search start_said

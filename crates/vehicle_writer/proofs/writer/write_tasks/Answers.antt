@@ -1,22 +1,15 @@
 -- `vehicle_writer::writer::write_tasks` meets its contract.
-use Rattle.vehicle_writer.proofs.EndLaws.{still_space, still_few, still_ahead, still_less, still_end}
-use native.Mathlib.Omega.{arith}
+use Rattle.vehicle_writer.proofs.EndLaws.{still_space, still_ahead, still_less, still_end}
 use Rattle.vehicle_writer.proofs.writer.write_tasks.Goals as goal
 
-pub write_task-progress-requires : goal.write_task-progress-requires
-write_task-progress-requires c = search still_ahead
+pub write_task-ready-requires : goal.write_task-ready-requires
+write_task-ready-requires c = search still_ahead
 
-pub loop-layout-smaller : goal.loop-layout-smaller
-loop-layout-smaller c = search still_less
+pub loop-words-smaller : goal.loop-words-smaller
+loop-words-smaller c = search still_less
 
-pub offset_bounds-part-at : goal.offset_bounds-part-at
-offset_bounds-part-at c = omega (arith, still_few c.requires c.loop-layout.invariant)
+pub put-requires : goal.put-requires
+put-requires c = search still_space
 
-pub bounds-part-at : goal.bounds-part-at
-bounds-part-at c = search still_space
-
-pub overflow_add-result : goal.overflow_add-result
-overflow_add-result c = omega (arith, still_few c.requires c.loop-layout.invariant)
-
-pub returns : goal.returns
-returns c = search still_end
+pub returns-clause-ends : goal.returns-clause-ends
+returns-clause-ends c = search still_end

@@ -1,10 +1,13 @@
 -- `vehicle_writer::writer::write_tasks` meets its contract.
 use Prim.Native.Nat.{◌-◌}
+use mathlib.Core.Path.{◌≡◌}
 use Rattle.vehicle_writer.specs.Going.{GoesOn}
 use Rattle.vehicle_writer.proofs.writer.write_tasks.Given as goal
 
-abbrev pub invariant-loop-layout : goal.invariant-loop-layout
-invariant-loop-layout l = GoesOn l.day l.layout l.initial.part l.initial.at l.initial.ready l.part l.at l.ready
+abbrev pub invariant-loop-words : goal.invariant-loop-words
+invariant-loop-words l =
+    (l.words.part.ghost_name ≡ l.initial.words.part.ghost_name)
+    × GoesOn l.day l.initial.words.part.now l.initial.words.count l.initial.ready l.words.part.now l.words.count l.ready
 
-abbrev pub decreases-loop-layout : goal.decreases-loop-layout
-decreases-loop-layout l = 1280 - l.at
+abbrev pub decreases-loop-words : goal.decreases-loop-words
+decreases-loop-words l = 1280 - l.words.count
