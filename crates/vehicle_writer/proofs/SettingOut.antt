@@ -1,5 +1,6 @@
 -- A fresh vehicle's first task: where there is one the vehicle is written, where there is none it takes no stop.
 -- Assumes nothing.
+use Rattle.std.specs.Prelude.{Option, Some, None}
 use Prim.Native.Nat.{ℕ, ◌*◌, ◌<◌}
 use mathlib.Core.Path.{◌≡◌, refl, sym, ap, ◌∙◌}
 use mathlib.Core.Bool.{Bool, true, false}
@@ -29,6 +30,7 @@ use Rattle.greedy_laws.proofs.VehicleStops.{rested_routes}
 use Rattle.next_task.specs.NextBy.{is_task}
 use Rattle.vehicle_writer.specs.Going.{LeftOf, IsReady, SetsOut, WordPut, RestSaid, StartSaid, Going, SomeGoing, SomeLeft, VehicleDone, EndsAll, VehicleWritten, WritesOne}
 use Rattle.vehicle_writer.specs.declared.state.Ready.{Ready}
+use Rattle.vehicle_writer.specs.declared.writer.Written.{Written}
 use Rattle.vehicle_writer.proofs.EndLaws.{home_none}
 use Rattle.vehicle_writer.proofs.GoingLaws.{named, next_room, put_said, rest_words}
 
@@ -62,28 +64,10 @@ module _ {day : List ℕ} (before : List ℕ) {r : Ready} (f : IsReady day (rest
       sym (end_none day v (sym f.next_is ∙ home_none r.next e)) ∙ reached_end day before v set_out in
       ap (λ (u : Truck). u.cargo.visits) (sym end) ∙ ap (λ (c : Cargo). c.visits) (resting_cargo day v)
 
--- what is said of the vehicle when it is written, and when it is not
-written_some : {day before : List ℕ} {number : ℕ} {p part : List ℕ} {m : Marks} {words : ℕ} → 0 < (one_vehicle day before).cargo.visits
-    → VehicleDone day before number p part m words → VehicleWritten day before number p part m words
-written_some l d =
-    let some = said_count d.text in
-    record {
-      none = λ z. absurd (omega arith);
-      kept = λ z. absurd (omega arith);
-      left = λ z. absurd (omega arith);
-      some = λ h. l;
-      done = λ h. d;
-    }
-
-written_none : {day before : List ℕ} {number : ℕ} (p : List ℕ) {m : Marks} → (one_vehicle day before).cargo.visits ≡ 0 → LeftOf day before m
-    → VehicleWritten day before number p p m 0
-written_none p e h =
-    record { none = λ z. e; kept = λ z. refl; left = λ z. h; some = λ l. absurd (omega arith); done = λ l. absurd (omega arith) }
-
 module _ {day : List ℕ} {left : Marks} {r : Ready} {asked : Bool} (out : SetsOut day left r) (a : asked ≡ is_task r.next) where
   -- there is no task
-  pub out_idle : {number : ℕ} (part : List ℕ) → asked ≡ false → WritesOne day left number part part left 0
-  out_idle part t = λ before h. written_none part (first_none before (out before h) (sym a ∙ t)) h
+  pub out_idle : (number : ℕ) (part : List ℕ) → asked ≡ false → WritesOne day left number part part None
+  out_idle number part t = λ before h. record { none = first_none before (out before h) (sym a ∙ t); kept = refl }
 
   -- there is one, and room for the first words
   module _ (t : asked ≡ true) where
@@ -106,11 +90,7 @@ module _ {day : List ℕ} {left : Marks} {r : Ready} {asked : Bool} (out : SetsO
             room = some.room;
           }
 
-      -- and then it is written
-      pub out_written : {end : List ℕ} {m : Marks} {words : ℕ} → EndsAll day now at r end m words → WritesOne day left number part end m words
-      out_written ends = λ before h. written_some (first_some before (out before h) (sym a ∙ t)) (ends before number part (out_going before h))
-
--- it is written where the words were put
-pub written_there : {day : List ℕ} {left : Marks} {number : ℕ} {part end now : List ℕ} {m : Marks} {words : ℕ} → now ≡ end
-    → WritesOne day left number part end m words → WritesOne day left number part now m words
-written_there e w = rw e w
+      -- and then it is written, in the part that was lent
+      pub out_written : {end back : List ℕ} (w : Written) → EndsAll day now at r end w.left w.words → back ≡ end → WritesOne day left number part back (Some w)
+      out_written w ends e = λ before h.
+          record { some = first_some before (out before h) (sym a ∙ t); done = rw e (ends before number part (out_going before h)) }

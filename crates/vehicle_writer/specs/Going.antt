@@ -1,5 +1,5 @@
 -- One vehicle's words while they are written, by what they say. It serves the contracts of this crate's own functions. Assumes nothing.
-use Rattle.std.specs.Prelude.{ℕ, ◌+◌, ◌*◌, ◌≤◌, ◌<◌, ◌≡◌, Bool, true, List, [], ◌∷◌, ◌++◌, length, slice_set, if◌then◌else◌}
+use Rattle.std.specs.Prelude.{ℕ, ◌+◌, ◌*◌, ◌≤◌, ◌<◌, ◌≡◌, Bool, true, Option, Some, None, List, [], ◌∷◌, ◌++◌, length, slice_set, if◌then◌else◌}
 use Rattle.rules.specs.Lists.{unmet}
 use Rattle.rules.specs.Fields.{stops}
 use Rattle.rules.specs.PlanWords.{Word, rest}
@@ -11,6 +11,7 @@ use Rattle.greedy_laws.specs.Reached.{Reached}
 use Rattle.greedy_laws.specs.States.{unrouted}
 use Rattle.next_task.specs.NextBy.{next_of, NextWithin, is_task}
 use Rattle.vehicle_writer.specs.declared.state.Ready.{Ready}
+use Rattle.vehicle_writer.specs.declared.writer.Written.{Written}
 
 -- the marks are those of the stops still to be routed, and as many
 pub record LeftOf (day taken : List ℕ) (m : Marks) : Type 0 where
@@ -86,14 +87,20 @@ abbrev pub EndsAll : List ℕ → List ℕ → ℕ → Ready → List ℕ → Ma
 EndsAll day part at r now m words =
     (before : List ℕ) (number : ℕ) (p : List ℕ) → Going day before number p part at r → VehicleDone day before number p now m words
 
--- nothing is written where the vehicle takes no stop
-pub record VehicleWritten (day before : List ℕ) (number : ℕ) (p part : List ℕ) (m : Marks) (words : ℕ) : Type 0 where
-  pub none : words ≡ 0 → (one_vehicle day before).cargo.visits ≡ 0
-  pub kept : words ≡ 0 → part ≡ p
-  pub left : words ≡ 0 → LeftOf day before m
-  pub some : 0 < words → 0 < (one_vehicle day before).cargo.visits
-  pub done : 0 < words → VehicleDone day before number p part m words
+-- the vehicle takes a stop, and is written
+pub record VehicleOut (day before : List ℕ) (number : ℕ) (p part : List ℕ) (w : Written) : Type 0 where
+  pub some : 0 < (one_vehicle day before).cargo.visits
+  pub done : VehicleDone day before number p part w.left w.words
+
+-- it takes none, and nothing is written
+pub record VehicleIdle (day before p part : List ℕ) : Type 0 where
+  pub none : (one_vehicle day before).cargo.visits ≡ 0
+  pub kept : part ≡ p
+
+abbrev pub VehicleWritten : List ℕ → List ℕ → ℕ → List ℕ → List ℕ → Option Written → Type 0
+VehicleWritten day before number p part (Some w) = VehicleOut day before number p part w
+VehicleWritten day before number p part None = VehicleIdle day before p part
 
 -- so it is for whatever stops were routed that leave these marks
-abbrev pub WritesOne : List ℕ → Marks → ℕ → List ℕ → List ℕ → Marks → ℕ → Type 0
-WritesOne day left number part now m words = (before : List ℕ) → LeftOf day before left → VehicleWritten day before number part now m words
+abbrev pub WritesOne : List ℕ → Marks → ℕ → List ℕ → List ℕ → Option Written → Type 0
+WritesOne day left number part now w = (before : List ℕ) → LeftOf day before left → VehicleWritten day before number part now w

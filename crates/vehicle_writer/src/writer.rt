@@ -85,19 +85,19 @@ pub struct Written {
     pub words: usize,
 }
 
-// One vehicle, with the stops still to be routed; nothing is written where it takes none.
-pub fn write_vehicle(day: &Day, left: Marks, number: u32, part: &mut [u32]) -> Written
+// One vehicle, with the stops still to be routed; none, and nothing is written, where it takes no stop.
+pub fn write_vehicle(day: &Day, left: Marks, number: u32, part: &mut [u32]) -> Option<Written>
     requires { (number < 256) × SomeLeft day.now part.old left }
-    ensures { WritesOne day.now left number part.old part.new result.left result.words }
+    ensures { WritesOne day.now left number part.old part.new result }
 {
     let ready = set_out(day, left);
     if !has_task(ready) {
-        return Written { left, words: 0 };
+        return None;
     }
     let mut words = Words { part, count: 0 };
     write_start(day, number, &mut words);
-    Written {
+    Some(Written {
         left: write_tasks(day, ready, &mut words),
         words: words.count,
-    }
+    })
 }

@@ -1,5 +1,5 @@
 -- `vehicle_writer::writer::write_vehicle` meets its contract.
-use Rattle.vehicle_writer.proofs.SettingOut.{out_idle, out_room, out_under_way, out_written, written_there}
+use Rattle.vehicle_writer.proofs.SettingOut.{out_idle, out_room, out_under_way, out_written}
 use borrow.Author.Rules.{rules}
 use Rattle.vehicle_writer.proofs.writer.write_vehicle.Goals as goal
 
@@ -13,4 +13,5 @@ pub write_tasks-requires : goal.write_tasks-requires
 write_tasks-requires c = search out_under_way
 
 pub returns : goal.returns
-returns c = written_there {end = c.write_tasks.new.words.part.now} (search rules) (search out_written)
+returns c =
+    out_written c.set_out-ready.ensures c.has_task.ensures c.if-not-has_task.false c.write_start.ensures.said _ c.write_tasks.ensures.ends (search rules)
