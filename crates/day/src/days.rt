@@ -8,6 +8,7 @@ ghost use Rattle.day.specs.Layout.{LayoutOf, WindowOf, LegOf, VisitOf};
 use crate::fields::{Layout, Leg, Visit, Window, layout_of};
 use std::marker::Model;
 
+#[derive(Drop)]
 pub struct Day<'a> {
     words: &'a [u32],
     layout: Layout,
