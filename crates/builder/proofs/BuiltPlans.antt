@@ -78,19 +78,18 @@ filled day {p} {part} {now} {end} to w e l x =
 -- the vehicles are written
 module _ {day p part : List ℕ} {m : Marks} {words : ℕ} (w : AllWritten day p part m words) where
   -- as many stops are left out as marks are left
-  pub lefts_are : {lefts : ℕ} → lefts ≡ ones_of m.words → lefts ≡ length (greedy_lefts day)
-  lefts_are e = e ∙ w.left_is.count ∙ sym (remaining_count (routed day (stops day + 1) []) (stops day))
+  pub lefts_are : ones_of m.words ≡ length (greedy_lefts day)
+  lefts_are = w.left_is.count ∙ sym (remaining_count (routed day (stops day + 1) []) (stops day))
 
   -- and the stops left out
   module _ {now : List ℕ} {end : ℕ} (l : LeavesAll part words m now end) where
     pub plan_size : end ≡ length (greedy_plan day)
     plan_size = (plan_words_lem w l).count
 
-    pub plan_filled : {layout : Layout} {after : List ℕ} → LayoutOf day layout → end ≤ words + ones_of m.words
-        → after ≡ (take end now ++ replicate (5 * layout.stops - end) 0) ++ drop (5 * layout.stops) now → after ≡ planned day (greedy_plan day) p
-    plan_filled {layout} i n x =
-        let to : 5 * layout.stops ≡ 5 * stops day = ap (λ (k : ℕ). 5 * k) i.stops_are in
-        filled day (5 * layout.stops) (plan_words_lem w l) to (omega (arith, w.left_is.count, w.room)) x
+    pub plan_filled : {n : ℕ} {after : List ℕ} → n ≡ stops day → end ≤ words + ones_of m.words
+        → after ≡ (take end now ++ replicate (5 * n - end) 0) ++ drop (5 * n) now → after ≡ planned day (greedy_plan day) p
+    plan_filled {n} e most x =
+        filled day (5 * n) (plan_words_lem w l) (ap (λ (k : ℕ). 5 * k) e) (omega (arith, most, w.left_is.count, w.room)) x
 
 planned_length : (day p : List ℕ) → 5 * stops day ≤ length p → length (planned day (greedy_plan day) p) ≡ length p
 unfolding planned
@@ -130,27 +129,27 @@ unfolding planned over
 planned_front day p n e =
     ap (take n) (append_assoc (greedy_plan day) _ _) ∙ take_at (greedy_plan day) _ n (sym e)
 
+-- it has its words, and no fewer
+pub plan_cut : (day p : List ℕ) {now : List ℕ} {words : ℕ} → words ≡ length (greedy_plan day) → now ≡ planned day (greedy_plan day) p
+    → words ≡ length (take words now)
+plan_cut day p {now} {words} e x = e ∙ ap length (sym (ap (take words) x ∙ planned_front day p words e))
+
 words_answer : (day : List ℕ) → IsAccepted day → check_words day (greedy_plan day) ≡ given (totals day (greedy_rounds day))
 unfolding check_plan
 words_answer day a = rw a at (greedy_answer day a)
 
 module _ (day p : List ℕ) (a : IsAccepted day) {now : List ℕ} {words : ℕ} (answer : Answer) (x : now ≡ planned day (greedy_plan day) p)
-    (w : words ≡ length (greedy_plan day)) (c : answer_values answer ≡ check_words day (take (words - 0) (drop 0 now))) where
+    (w : words ≡ length (greedy_plan day)) (c : answer_values answer ≡ check_words day (take words now)) where
   plan_answer_lem : answer_values answer ≡ given (totals day (greedy_rounds day))
-  plan_answer_lem =
-      let all : words - 0 ≡ words = omega arith in
-      c
-      ∙ ap (λ (k : ℕ). check_words day (take k now)) all
-      ∙ ap (check_words day) (ap (take words) x ∙ planned_front day p words w)
-      ∙ words_answer day a
+  plan_answer_lem = c ∙ ap (check_words day) (ap (take words) x ∙ planned_front day p words w) ∙ words_answer day a
 
   -- it is lawful, so it is answered with its distance
-  pub long_answer : {layout : Layout} {d v s lefts : ℕ} → LayoutOf day layout → 5 * layout.stops ≤ length p → answer ≡ Answers.Lawful d v s
-      → lefts ≡ length (greedy_lefts day) → given (d ∷ 0 ∷ 0 ∷ lefts ∷ words ∷ []) ≡ built_answer day (length p)
+  pub long_answer : {layout : Layout} {d v s lefts marks : ℕ} → LayoutOf day layout → 5 * layout.stops ≤ length p → answer ≡ Answers.Lawful d v s
+      → lefts ≡ marks → marks ≡ length (greedy_lefts day) → given (d ∷ 0 ∷ 0 ∷ lefts ∷ words ∷ []) ≡ built_answer day (length p)
   unfolding built_answer totals
-  long_answer {layout} {d} {v} {s} {lefts} i l e m =
+  long_answer {layout} {d} {v} {s} {lefts} {marks} i l e many m =
       let same : d ≡ total (distance_from day 0) (greedy_rounds day) = ap (λ (xs : List ℕ). get_or xs 1 0) (sym (ap answer_values e) ∙ plan_answer_lem) in
-      rw (long day p i l, same, m, w) refl
+      rw (long day p i l, same, many, m, w) refl
 
   -- and not refused
   pub not_refused : {k i : ℕ} → answer ≡ Answers.Refused k i → ⊥

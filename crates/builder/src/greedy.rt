@@ -1,37 +1,38 @@
 // The greedy plan, written into the plan's buffer and answered.
 ghost use Rattle.std.specs.Prelude.{◌≡◌, ◌*◌, ◌≤◌, length};
-ghost use Rattle.rules.specs.Fields.{IsAccepted};
+ghost use Rattle.rules.specs.Fields.{stops, IsAccepted};
 ghost use Rattle.rules.specs.Build.{greedy_lefts, greedy_plan};
 ghost use Rattle.rules.specs.AnswerValues.{plan_values};
 ghost use Rattle.rules.specs.Planned.{planned, built_answer, built_buffer};
+ghost use Rattle.laws.specs.Marks.{ones_of};
 ghost use Rattle.day.specs.Layout.{LayoutOf};
 
 use crate::fleet::write_vehicles;
 use crate::lefts::{fill_zeros, write_lefts};
+use day::days::Day;
 use day::fields::Layout;
 use rules::answers::{Answer, PlanAnswer};
+use vehicle_writer::writer::Written;
 
-// How many words a plan has, and how many stops it leaves out.
-#[derive(Clone, Copy)]
-struct Size {
-    words: usize,
-    lefts: usize,
-}
-
-// The vehicles, the stops left out, and zeros to the end of the five words for each stop.
-fn write_plan(day: &[u32], layout: Layout, plan: &mut [u32]) -> Size
-    requires { LayoutOf day.now layout × (layout.stops ≤ 240) × (5 * layout.stops ≤ length plan.old) }
-    ensures size { (result.words ≡ length (greedy_plan day.now)) × (result.lefts ≡ length (greedy_lefts day.now)) }
+// The vehicles, the stops left out, and zeros to the end of the five words for each stop; the stops left out, and how many words the plan has.
+fn write_plan(day: &Day, plan: &mut [u32]) -> Written
+    requires { (stops day.now ≤ 240) × (5 * stops day.now ≤ length plan.old) }
+    ensures size { (result.words ≡ length (greedy_plan day.now)) × (ones_of result.left.words ≡ length (greedy_lefts day.now)) }
     ensures text { plan.new ≡ planned day.now (greedy_plan day.now) plan.old }
 {
-    let written = write_vehicles(day, layout, plan);
-    let left = written.left;
-    let end = write_lefts(left, plan, written.words);
-    fill_zeros(plan, end, 5 * layout.stops);
-    Size {
-        words: end,
-        lefts: marks::remaining(left) as usize,
-    }
+    let vehicles = write_vehicles(day, plan);
+    let words = write_lefts(vehicles.left, plan, vehicles.words);
+    fill_zeros(plan, words, 5 * day.stops());
+    Written { words, ..vehicles }
+}
+
+// The same by the words of the day and its layout, until the check takes the day's type.
+fn write_laid_out(day: &[u32], layout: Layout, plan: &mut [u32]) -> Written
+    requires { LayoutOf day.now layout × (stops day.now ≤ 240) × (5 * stops day.now ≤ length plan.old) }
+    ensures size { (result.words ≡ length (greedy_plan day.now)) × (ones_of result.left.words ≡ length (greedy_lefts day.now)) }
+    ensures text { plan.new ≡ planned day.now (greedy_plan day.now) plan.old }
+{
+    write_plan(&Day::with(day, layout), plan)
 }
 
 // The answer on an accepted day.
@@ -47,20 +48,14 @@ pub fn build_accepted(day: &[u32], layout: Layout, plan: &mut [u32]) -> PlanAnsw
             place: need,
         };
     }
-    let size = write_plan(day, layout, plan);
-    let words = size.words;
-    let answer = checker::check_accepted(day, layout, &plan[0..words]);
-    match answer {
-        Answer::Lawful {
-            distance,
-            vehicles: _,
-            served: _,
-        } => PlanAnswer::Planned {
+    let written = write_laid_out(day, layout, plan);
+    match checker::check_accepted(day, layout, &plan[..written.words]) {
+        Answer::Lawful { distance, .. } => PlanAnswer::Planned {
             distance,
             trials: 0,
             settled: false,
-            left_out: size.lefts,
-            words,
+            left_out: marks::remaining(written.left) as usize,
+            words: written.words,
         },
         Answer::Refused { number, place } => PlanAnswer::Refused { number, place },
     }

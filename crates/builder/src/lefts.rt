@@ -29,9 +29,5 @@ pub fn fill_zeros(part: &mut [u32], from: usize, to: usize)
     requires { (from ≤ to) × (to ≤ length part.old) }
     ensures { part.new ≡ take from part.old ++ replicate (to - from) 0 ++ drop to part.old }
 {
-    let mut at = from;
-    while at < to {
-        part[at] = 0;
-        at += 1;
-    }
+    part[from..to].fill(0);
 }

@@ -4,17 +4,17 @@ use borrow.Author.Rules.{rules}
 use native.Mathlib.Omega.{arith}
 use Rattle.builder.proofs.fleet.write_vehicles.Goals as goal
 
-pub loop-words-init : goal.loop-words-init
-loop-words-init c = search (rules, underway_start)
+pub loop-written-init : goal.loop-written-init
+loop-written-init c = search (rules, underway_start)
 
-pub overflow_add-at : goal.overflow_add-at
-overflow_add-at c = omega (arith, next_few c.loop-words.invariant c.loop-words-test.true c.write_vehicle-written.ensures)
+pub overflow_add-words : goal.overflow_add-words
+overflow_add-words c = omega (arith, next_few c.loop-written.invariant _ c.in-Some.ensures)
 
-pub loop-words-smaller : goal.loop-words-smaller
-loop-words-smaller c = search ones_fall
+pub loop-written-smaller : goal.loop-written-smaller
+loop-written-smaller c = ones_fall c.loop-written.invariant _ c.in-Some.ensures
 
-pub loop-words-preserved : goal.loop-words-preserved
-loop-words-preserved c = search underway_next
+pub loop-written-preserved : goal.loop-written-preserved
+loop-written-preserved c = underway_next c.loop-written.invariant _ c.in-Some.ensures
 
 pub returns : goal.returns
-returns c = search underway_end
+returns c = underway_end c.loop-written.invariant c.in_default.ensures

@@ -1,5 +1,5 @@
 -- `builder::greedy::build_accepted` meets its contract.
-use Rattle.builder.proofs.BuiltPlans.{short_answer, short_buffer, long_buffer, long_answer, not_refused, plan_fits}
+use Rattle.builder.proofs.BuiltPlans.{short_answer, short_buffer, long_buffer, long_answer, not_refused, plan_fits, plan_cut}
 use Rattle.day.proofs.Ranges.{accepted_ranges}
 use native.Mathlib.Omega.{arith}
 use Rattle.builder.proofs.greedy.build_accepted.Goals as goal
@@ -10,12 +10,15 @@ returns-then-plan-need-clause-answer c = search short_answer
 pub returns-then-plan-need-clause-buffer : goal.returns-then-plan-need-clause-buffer
 returns-then-plan-need-clause-buffer c = search short_buffer
 
-pub write_plan-size-requires : goal.write_plan-size-requires
-write_plan-size-requires c = let p = c.requires in
-    (p.0, omega (arith, (accepted_ranges _ p.1).stops_most, p.0.stops_are), c.if-plan-need.false)
+pub write_laid_out-written-requires : goal.write_laid_out-written-requires
+write_laid_out-written-requires c = let p = c.requires in
+    (p.0, (accepted_ranges _ p.1).stops_most, omega (arith, p.0.stops_are, c.if-plan-need.false))
 
 pub slice_bounds-check_accepted-end : goal.slice_bounds-check_accepted-end
 slice_bounds-check_accepted-end c = search plan_fits
+
+pub slice_bounds-check_accepted-end-2 : goal.slice_bounds-check_accepted-end-2
+slice_bounds-check_accepted-end-2 c = search plan_cut
 
 pub returns-in-Lawful-clause-answer : goal.returns-in-Lawful-clause-answer
 returns-in-Lawful-clause-answer c = search long_answer
