@@ -1,4 +1,5 @@
 pub mod Numbers
 pub mod Passing
 pub mod Places
+pub mod Taken
 pub mod Words

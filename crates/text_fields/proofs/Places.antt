@@ -1,6 +1,6 @@
 -- Places in a text: none goes back, and the fields of a line do not run over it. Assumes nothing.
 use Rattle.std.specs.Prelude.{if◌then◌else◌}
-use Prim.Native.Nat.{ℕ, zero, suc, ◌+◌, ◌≤◌, ◌<◌}
+use Prim.Native.Nat.{ℕ, zero, suc, ◌≤◌, ◌<◌}
 use mathlib.Core.Path.{◌≡◌, refl, sym, ap, ◌∙◌}
 use mathlib.Core.Bool.{Bool, true, false, not, false≢true}
 use mathlib.Core.List.{List, [], ◌∷◌}
@@ -11,7 +11,7 @@ use lib.ListN.{drop}
 use lib.Seq.{drop-drop}
 use lib.Dec.{ltb, eqb}
 use borrow.Author.Tests.{ltb-true, eqb-true}
-use Rattle.rules.specs.TextFields.{is_blank, is_feed, is_gap, is_field_byte, is_line_byte, is_digit, passed_from, passed, next_field, field_at, next_line, line_at, is_number}
+use Rattle.rules.specs.TextFields.{is_blank, is_feed, is_gap, is_field_byte, is_line_byte, is_digit, passed_from, passed, next_field, field_at, line_at, is_number}
 
 -- a place never goes back
 passed_from_later : (kind : ℕ → Bool) (bs : List ℕ) (i : ℕ) → i ≤ passed_from kind bs i

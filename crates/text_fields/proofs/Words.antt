@@ -1,60 +1,54 @@
--- Laws of comparing the text with a word, byte by byte.
--- Assumes nothing.
-use Prim.Native.Nat.{ℕ, suc, ◌+◌, ◌-◌, ◌≤◌, ◌<◌}
+-- A field compared with a word. Assumes nothing.
+use Rattle.std.specs.Prelude.{if◌then◌else◌, Option, Some, None}
+use Rattle.std.specs.Option.{MatchOption, UnwrapsOrElse}
+use Prim.Native.Nat.{ℕ, zero, suc, ◌+◌, ◌-◌, ◌≤◌, ◌<◌}
 use mathlib.Core.Path.{◌≡◌, refl, sym, ap, ◌∙◌}
-use mathlib.Core.Bool.{Bool, true, false}
+use mathlib.Core.Bool.{Bool, true, false, ◌&&◌}
 use mathlib.Core.List.{List, [], ◌∷◌}
-use native.Mathlib.Numerals.{add-one}
 use native.Mathlib.Omega.{arith}
-use lib.ListN.{length, get_or, drop, drop_of_length-le}
-use lib.Seq.{drop-cons}
-use borrow.Author.Tests.{eq-eqb, ne_eqb}
+use lib.Dec.{eqb, eqb-suc-suc, eqb-suc-zero, eqb-zero-suc}
+use lib.ListN.{length, take, drop, drop_of_length-le, length-drop}
+use lib.Pointwise.{pointwise}
+use denote.Ref.{Bor}
+use mathlib.Core.Logic.{◌⊎◌}
+use lib.Seq.{take-nil}
+use Rattle.std.specs.List.{prefix_len, slice_range}
+use Rattle.std.proofs.lemmas.List.Sums.{prefix_len-le-length}
+use Rattle.text_fields.proofs.Passing.{passed_counts}
 use Rattle.rules.specs.TextFields.{is_field_byte, passed, starts_with, is_word}
 
-pub starts_first : (text word : List ℕ) (at : ℕ) → starts_with (drop (at + 0) text) (drop 0 word) ≡ starts_with (drop at text) word
-starts_first text word at = let e : at + 0 ≡ at = omega arith in ap (λ (k : ℕ). starts_with (drop k text) word) e
-
--- every text begins with no bytes
-starts_none : (bs : List ℕ) → starts_with bs [] ≡ true
+-- the first n bytes are the word's if the word has n bytes and they begin with it
+compared : (bs word : List ℕ) (n : ℕ) → n ≤ length bs → pointwise eqb (take n bs) word ≡ (if eqb n (length word) then starts_with bs word else false)
 unfolding starts_with
-starts_none [] = refl
-starts_none (b ∷ bs) = refl
+compared [] [] zero h = refl
+compared [] (w ∷ word) zero h = rw (eqb-zero-suc (length word)) refl
+compared (b ∷ bs) [] zero h = refl
+compared (b ∷ bs) (w ∷ word) zero h = rw (eqb-zero-suc (length word)) refl
+compared [] word (suc n) h = absurd (omega arith)
+compared (b ∷ bs) [] (suc n) h = rw (eqb-suc-zero n) refl
+compared (b ∷ bs) (w ∷ word) (suc n) h = rw (eqb-suc-suc n (length word)) (go (eqb b w) (eqb n (length word)) (compared bs word n (omega arith)))
+  where
+    go : (t u : Bool) → pointwise eqb (take n bs) word ≡ (if u then starts_with bs word else false)
+        → (t && pointwise eqb (take n bs) word) ≡ (if u then (if t then starts_with bs word else false) else false)
+    go true u e = e
+    go false true e = refl
+    go false false e = refl
 
-module _ (text word : List ℕ) (at i : ℕ) {x : Bool} where
-  pub starts_on : i < length word → at + i < length text → get_or text (at + i) 0 ≡ get_or word i 0
-      → starts_with (drop (at + i) text) (drop i word) ≡ x → starts_with (drop (at + (i + 1)) text) (drop (i + 1) word) ≡ x
-  unfolding starts_with
-  starts_on h g e k = ap (λ (j : ℕ). starts_with (drop j text) (drop (i + 1) word)) next ∙ sym step ∙ k
-    where
-      next : at + (i + 1) ≡ at + i + 1
-      next = omega arith
+module _ (text word : List ℕ) (at : ℕ) {end : ℕ} (behind : end ≡ passed is_field_byte text at) where
+  passed_bytes : end - at ≡ prefix_len is_field_byte (drop at text)
+  passed_bytes = omega (arith, behind, passed_counts is_field_byte text at)
 
-      step : starts_with (drop (at + i) text) (drop i word) ≡ starts_with (drop (at + i + 1) text) (drop (i + 1) word)
-      step = rw (add-one, add-one, drop-cons text (at + i) 0 g, drop-cons word i 0 h, eq-eqb _ _ e)
-
-  pub starts_differs : i < length word → at + i < length text → (get_or text (at + i) 0 ≡ get_or word i 0 → ⊥)
-      → starts_with (drop (at + i) text) (drop i word) ≡ x → false ≡ x
-  unfolding starts_with
-  starts_differs h g e k = rw (drop-cons text (at + i) 0 g, drop-cons word i 0 h, ne_eqb _ _ e) at k
-
-  pub starts_short : i < length word → length text ≤ at + i
-      → starts_with (drop (at + i) text) (drop i word) ≡ x → false ≡ x
-  unfolding starts_with
-  starts_short h g k = rw (drop_of_length-le text g, drop-cons word i 0 h) at k
-
-  pub starts_all : length word ≤ i → starts_with (drop (at + i) text) (drop i word) ≡ x → true ≡ x
-  unfolding starts_with
-  starts_all h k = sym (all (drop (at + i) text)) ∙ k
-    where
-      all : (bs : List ℕ) → starts_with bs (drop i word) ≡ true
-      all bs = rw (drop_of_length-le word h) (starts_none bs)
-
--- the word's length is the field's, or not
-module _ (text word : List ℕ) (at : ℕ) {e : ℕ} where
-  pub word_compared : {b : Bool} → e ≡ passed is_field_byte text at → e - at ≡ length word → b ≡ starts_with (drop at text) word → b ≡ is_word text at word
+  word_compared : (field : List ℕ) → field ≡ take (end - at) (drop at text) → pointwise eqb field word ≡ is_word text at word
   unfolding is_word
-  word_compared ee h k = rw (← ee, eq-eqb _ _ h) k
+  word_compared field e =
+      let few : end - at ≤ length (drop at text) = rw passed_bytes (prefix_len-le-length is_field_byte (drop at text)) in
+      rw (e, ← behind) (compared (drop at text) word (end - at) few)
 
-  pub word_other : e ≡ passed is_field_byte text at → (e - at ≡ length word → ⊥) → false ≡ is_word text at word
-  unfolding is_word
-  word_other ee h = rw (← ee, ne_eqb _ _ h) refl
+  -- the bytes of the field, and none behind the text's end
+  pub word_told : (got : Option (Bor (List ℕ))) (field : Bor (List ℕ)) {told : Bool} → at ≤ end
+      → MatchOption got ((end < at) ⊎ (length text < end)) (λ x. (at ≤ end) × (end ≤ length text) × (x.now ≡ slice_range text at end) × (length x.now + at ≡ end))
+      → UnwrapsOrElse got (λ r. r.now ≡ []) field → told ≡ pointwise eqb field.now word → told ≡ is_word text at word
+  word_told None field later missing empty e =
+      let past : length text ≤ at = omega (arith, length-drop at text, passed_bytes, prefix_len-le-length is_field_byte (drop at text)) in
+      e ∙ word_compared field.now (rw (drop_of_length-le text past, empty) (sym (take-nil (end - at))))
+  word_told (Some x) field later given same e = e ∙ word_compared field.now (ap (λ (b : Bor (List ℕ)). b.now) same ∙ given.2)

@@ -1,13 +1,17 @@
 -- `text_fields::pass` meets its contract.
-use Rattle.text_fields.proofs.Passing.{pass_on, pass_stop, pass_end}
 use borrow.Author.Rules.{rules}
+use borrow.Author.Tests.{tests}
+use Rattle.std.proofs.lemmas.Iterator.{YieldsList-from_slice}
+use Rattle.std.proofs.lemmas.Iterator.Adapters.{YieldsList-from_skip}
+use Rattle.std.proofs.lemmas.Iterator.Search.{YieldsList-from_take_while}
+use Rattle.std.proofs.lemmas.Iterator.Consumers.{count_from_yields_List}
+use Rattle.text_fields.proofs.Passing.{passed_counted}
 use Rattle.text_fields.proofs.pass.Goals as goal
 
-pub loop-i-preserved : goal.loop-i-preserved
-loop-i-preserved c = (search rules, search pass_on)
-
-pub returns-else-belongs : goal.returns-else-belongs
-returns-else-belongs c = (search pass_stop, search rules)
-
-pub returns : goal.returns
-returns c = (search pass_end, search rules)
+pub returns-clause-passed : goal.returns-clause-passed
+returns-clause-passed g c = λ kind told.
+    passed_counted kind c.args.text.now c.args.at
+    (count_from_yields_List c.take_while.result c.count.result c.count.ensures.ran
+    (YieldsList-from_take_while _ kind
+    (YieldsList-from_skip c.args.at (YieldsList-from_slice c.args.text.now (search rules)) (search rules))
+    c.take_while.ensures.closure c.take_while.ensures.done (λ x b q k. search (rules, tests, told))))
