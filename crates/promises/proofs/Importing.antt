@@ -6,7 +6,6 @@ use mathlib.Core.List.{List, [], ◌∷◌}
 use lib.ListN.{length, take}
 use Rattle.rules.specs.Answers.{given, refused, is_given}
 use Rattle.rules.specs.DayFile.{judge_day}
-use Rattle.rules.specs.SolomonForm.{judge_text}
 use Rattle.rules.specs.SolomonDay.{IsRoot, squares, customer_number, capacity, stops_of, import_words, import_answer, import_buffer}
 use Rattle.laws.proofs.Buffer.{over_front}
 use Rattle.roots.proofs.RootLaws.{root_is}
@@ -17,7 +16,7 @@ use Rattle.promises.specs.Imported.{SaysText, Earliest, NoOffence, ImportedBy}
 module _ (text : List ℕ) where
   -- "the words written .. must read back as an accepted day", with one tip
   pub imported_accepted : (room : ℕ) → is_given (import_answer text room) ≡ true → judge_day (import_words text) ≡ given (stops_of text ∷ 1 ∷ [])
-  imported_accepted room h = solomon.import_accepted text (solomon.import_given text room h)
+  imported_accepted = solomon.import_accepted text
 
   -- "whose number the answer carries"
   pub imported_counted : (room : ℕ) → is_given (import_answer text room) ≡ true → import_answer text room ≡ given (length (import_words text) ∷ [])
@@ -33,7 +32,7 @@ module _ (text : List ℕ) where
   pub imported_says : (room : ℕ) → is_given (import_answer text room) ≡ true → SaysText text (import_words text)
   unfolding import_words
   imported_says room h =
-      let fit = solomon.text_limits text (solomon.import_given text room h) in
+      let fit = solomon.text_limits text room h in
       let number = customer_number text in
       let load = capacity text in
       let n = stops_of text in
@@ -58,20 +57,19 @@ module _ (text : List ℕ) where
 
   -- a text that is read, or refused by 14, has no offence
   pub read_right : (room : ℕ) → is_given (import_answer text room) ≡ true → NoOffence text
-  read_right room h = solomon.no_offence text (solomon.import_given text room h)
+  read_right room h = let right = solomon.import_given text room h in solomon.no_offence text right.0 right.1
 
   pub short_right : (room place : ℕ) → import_answer text room ≡ refused 14 place → NoOffence text × (place ≡ length (import_words text))
-  short_right room place e = let s = solomon.import_short text room place e in (solomon.no_offence text s.0, s.1)
+  short_right room place e = let s = solomon.import_short text room place e in (solomon.no_offence text s.0.0 s.0.1, s.1)
 
   -- 17 and 18: "of the two the earlier byte counts, at one byte 17"
   pub refused_earliest : (room number place : ℕ) → import_answer text room ≡ refused number place → (number ≡ 0 → ⊥) → (number ≡ 14 → ⊥)
       → Earliest text number place
   refused_earliest room number place e n0 n14 =
       let f = solomon.import_fault text room number place e n0 n14 in
-      let some : (judge_text text).number ≡ 0 → ⊥ = λ z. n0 (sym f.0 ∙ z) in
-      subst (Earliest text number) f.1
-      (subst (λ (k : ℕ). Earliest text k (judge_text text).place) f.0
-      (record { offends = solomon.fault_offends text some; earliest = solomon.fault_earliest text some }))
+      subst (Earliest text number) f.3
+      (subst (λ (k : ℕ). Earliest text k f.0.place) f.2
+      (record { offends = solomon.fault_offends text f.0 f.1; earliest = solomon.fault_earliest text f.0 f.1 }))
 
 -- all of it, of the call's answer and its buffer
 pub imported_by : (text words answer now : List ℕ) → answer ≡ import_answer text (length words) → now ≡ import_buffer text words → ImportedBy text answer now

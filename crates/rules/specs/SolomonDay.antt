@@ -1,11 +1,14 @@
 -- The day of a Solomon instance, word by word in the order of document 01, "Day file": document 02, Q-6. A number is asked for by its customer and
 -- its field; customer 0 is the depot. And what the call answers and writes: refusals 17 and 18, then 14. Assumes nothing.
-use Rattle.std.specs.Prelude.{ℕ, zero, suc, ◌+◌, ◌-◌, ◌*◌, ◌/◌, ◌%◌, ◌≤◌, ◌<◌, List, [], ◌∷◌, length, eqb, ltb, leb, if◌then◌else◌}
+use Rattle.std.specs.Prelude.{ℕ, zero, suc, ◌+◌, ◌-◌, ◌*◌, ◌/◌, ◌%◌, ◌≤◌, ◌<◌, List, [], ◌∷◌, length, eqb, ltb, leb, if◌then◌else◌, Result, Ok, Err}
+use Rattle.std.specs.Result.{result_unwrap_or}
+use Rattle.rules.specs.Faults.{text_fault_number}
 use Rattle.rules.specs.Answers.{given, refused, is_given}
 use Rattle.rules.specs.Lists.{listed, over}
 use Rattle.rules.specs.DayFile.{tips_end, legs_at, places_of, words_of}
 use Rattle.rules.specs.TextFields.{number_at}
 use Rattle.rules.specs.SolomonForm.{place_of, judge_text}
+use Rattle.rules.specs.declared.texts.Offence.{Offence}
 
 -- field i of customer k: 1 abscissa, 2 ordinate, 3 demand, 4 ready time, 5 due date, 6 service time
 unfoldable pub customer_number : List ℕ → ℕ → ℕ → ℕ
@@ -97,18 +100,20 @@ day_words number load n = listed (day_word number load n) (words_of 1 n)
 
 -- the stops of a text
 abbrev pub stops_of : List ℕ → ℕ
-stops_of text = (judge_text text).stops
+stops_of text = result_unwrap_or (judge_text text) 0
 
 -- "the words written"
 unfoldable pub import_words : List ℕ → List ℕ
 import_words text = day_words (customer_number text) (capacity text) (stops_of text)
 
--- the answer, for a buffer of so much room: how many words, or 17 and 18, which "come before every other refusal of this call", then 14
+-- the answer on what is found of a text, for a buffer of so much room: how many words, or 17 and 18, which "come before every other refusal of this
+-- call", then 14
+abbrev pub answer_on : Result ℕ Offence → ℕ → List ℕ
+answer_on (Ok stops) room = if ltb room (words_of 1 stops) then refused 14 (words_of 1 stops) else given (words_of 1 stops ∷ [])
+answer_on (Err found) room = refused (text_fault_number found.fault) found.place
+
 unfoldable pub import_answer : List ℕ → ℕ → List ℕ
-import_answer text room =
-    if eqb (judge_text text).number 0
-    then (if ltb room (words_of 1 (stops_of text)) then refused 14 (words_of 1 (stops_of text)) else given (words_of 1 (stops_of text) ∷ []))
-    else refused (judge_text text).number (judge_text text).place
+import_answer text room = answer_on (judge_text text) room
 
 -- the lent buffer then: as before past what was written, and after a refusal as before
 unfoldable pub import_buffer : List ℕ → List ℕ → List ℕ

@@ -1,35 +1,37 @@
 -- The numbers of a text without fault are within a day file's limits, and so is the table that they are read into. Assumes nothing.
-use Rattle.std.specs.Prelude.{if◌then◌else◌}
-use Prim.Native.Nat.{ℕ, ◌+◌, ◌-◌, ◌≤◌, ◌<◌}
+use Rattle.std.specs.Prelude.{if◌then◌else◌, Ok, Err}
+use Rattle.std.specs.Result.{result_and}
+use Prim.Native.Nat.{ℕ, ◌+◌, ◌-◌, ◌*◌, ◌≤◌, ◌<◌}
 use mathlib.Core.Path.{◌≡◌, refl}
 use mathlib.Core.Bool.{Bool, true, false}
 use mathlib.Core.List.{List}
 use native.Mathlib.Omega.{arith}
 use lib.Dec.{eqb, ltb}
 use borrow.Author.Tests.{ltb-false, ne_eqb, le-leb, lt-leb}
-use Rattle.rules.specs.TextFields.{is_number, number_at}
-use Rattle.rules.specs.SolomonForm.{range_fault, fleet_fault, is_unused, most_of, least_of, customer_fault, field_fault, place_of, number_before}
+use Rattle.rules.specs.TextFields.{number_at}
+use Rattle.rules.specs.SolomonForm.{Finding, fine, plain_fault, range_fault, fleet_fault, is_unused, most_of, least_of, customer_fault, field_fault, place_of, number_before}
 use Rattle.rules.specs.SolomonDay.{customer_number, capacity}
+use Rattle.rules.specs.declared.faults.TextFault.TheVariants.{Range}
 use Rattle.text_fields.specs.Runs.{held_at}
 use Rattle.text_fields.proofs.Numbers.{held_most}
 use Rattle.solomon_form.proofs.Judged.{TextRight}
 use Rattle.solomon_words.specs.Table.{cell, Stored, CustomerFit, StopFit, Fit, Same}
 
 -- a number in its range
-range_holds : (text : List ℕ) (at least most : ℕ) → range_fault text at least most ≡ 0 → (least ≤ number_at text at) × (number_at text at ≤ most)
+range_holds : (text : List ℕ) (at least most : ℕ) → range_fault text at least most ≡ fine → (least ≤ number_at text at) × (number_at text at ≤ most)
 unfolding range_fault
-range_holds text at least most e = go (is_number text at) (ltb (number_at text at) least) (ltb most (number_at text at)) refl refl e
+range_holds text at least most e = go (plain_fault text at) (ltb (number_at text at) least) (ltb most (number_at text at)) refl refl e
   where
-    go : (a b c : Bool) → ltb (number_at text at) least ≡ b → ltb most (number_at text at) ≡ c
-        → ◌≡◌ {A = ℕ} (if a then (if b then 18 else if c then 18 else 0) else 17) 0 → (least ≤ number_at text at) × (number_at text at ≤ most)
-    go true true c eb ec e = absurd (omega arith)
-    go true false true eb ec e = absurd (omega arith)
-    go true false false eb ec e = (ltb-false (number_at text at) least eb, ltb-false most (number_at text at) ec)
-    go false b c eb ec e = absurd (omega arith)
+    go : (plain : Finding) (b c : Bool) → ltb (number_at text at) least ≡ b → ltb most (number_at text at) ≡ c
+        → result_and plain (if b then Err Range else if c then Err Range else fine) ≡ fine → (least ≤ number_at text at) × (number_at text at ≤ most)
+    go (Ok _) true c eb ec e = cc
+    go (Ok _) false true eb ec e = cc
+    go (Ok _) false false eb ec e = (ltb-false (number_at text at) least eb, ltb-false most (number_at text at) ec)
+    go (Err fault) b c eb ec e = cc
 
 -- the line of customer k, whose number i is used
-ranged : (text : List ℕ) (k i at before : ℕ) → k ≤ 240 → 0 < i → i < 7 → is_unused k i ≡ false → field_fault text (6 + k) i at before ≡ 0
-    → range_fault text at (least_of i before) (most_of i) ≡ 0
+ranged : (text : List ℕ) (k i at before : ℕ) → k ≤ 240 → 0 < i → i < 7 → is_unused k i ≡ false → field_fault text (6 + k) i at before ≡ fine
+    → range_fault text at (least_of i before) (most_of i) ≡ fine
 unfolding field_fault customer_fault
 ranged text k i at before few some seven used e =
     let customer : 6 + k - 6 ≡ k = omega arith in

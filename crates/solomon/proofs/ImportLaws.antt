@@ -1,16 +1,20 @@
 -- Laws of the import: one for each way through it. Assumes nothing.
-use Prim.Native.Nat.{ℕ, ◌+◌, ◌-◌, ◌≤◌, ◌<◌}
+use Rattle.std.specs.Prelude.{if◌then◌else◌, Ok, Err}
+use Prim.Native.Nat.{ℕ, ◌+◌, ◌-◌, ◌*◌, ◌≤◌, ◌<◌}
 use mathlib.Core.Path.{◌≡◌, refl, sym, ap, subst, ◌∙◌}
-use mathlib.Core.List.{List, [], ◌∷◌}
 use native.Mathlib.Omega.{arith}
+use mathlib.Core.List.{List, [], ◌∷◌}
 use lib.ListN.{length}
-use borrow.Author.Tests.{eq-eqb, ne_eqb, lt-ltb, le-ltb}
-use Rattle.rules.specs.Answers.{given, refused}
+use borrow.Author.Tests.{lt-ltb, le-ltb}
+use Rattle.rules.specs.Answers.{given, refused, is_given}
+use Rattle.rules.specs.Faults.{text_fault_number}
 use Rattle.rules.specs.DayFile.{words_of}
 use Rattle.rules.specs.Lists.{listed, over}
 use Rattle.rules.specs.SolomonForm.{place_of, judge_text}
 use Rattle.rules.specs.SolomonDay.{day_word, stops_of, import_words, import_answer, import_buffer}
-use Rattle.rules.specs.declared.texts.Verdict.{Verdict}
+use Rattle.rules.specs.declared.faults.TextFault.{TextFault}
+use Rattle.rules.specs.declared.faults.TextFault.TheVariants.{Form, Range}
+use Rattle.rules.specs.declared.texts.Offence.{Offence}
 use Rattle.text_fields.specs.Runs.{held_at}
 use Rattle.solomon_form.proofs.Judged.{TextRight, text_right}
 use Rattle.solomon_words.specs.Table.{cell, Stored, Fit}
@@ -37,40 +41,38 @@ module _ (text : List ℕ) (customers : List (List ℕ)) (n m : ℕ) {held : ℕ
       rw stops at e
       ∙ ap (λ (ws : List ℕ). over ws words) (words_same (table_same text n t customers all) held ∙ rw (load_same text n t customers all eh, en) refl)
 
--- what is found of a text without fault
-module _ (text : List ℕ) {v : Verdict} where
-  pub found_right : v ≡ judge_text text → v.number ≡ 0 → TextRight text v.stops
-  found_right e h =
-      subst (λ (u : Verdict). TextRight text u.stops) (sym e) (text_right text (sym (ap (λ (u : Verdict). u.number) e) ∙ h))
+module _ (text words : List ℕ) where
+  -- what is found of a text at fault
+  pub import_refused : {found : Offence} {number : ℕ} → Err found ≡ judge_text text → number ≡ text_fault_number found.fault
+      → refused number found.place ≡ import_answer text (length words)
+  unfolding import_answer
+  import_refused {found} e n = rw (← e, n) refl
 
-  pub found_few : v ≡ judge_text text → v.number ≡ 0 → v.stops ≤ 240
-  found_few e h = (found_right e h).stops_most
-
-  pub found_stops : v ≡ judge_text text → v.stops ≡ stops_of text
-  found_stops e = ap (λ (u : Verdict). u.stops) e
-
--- the call's answer and buffer
-module _ (text words : List ℕ) {v : Verdict} (e : v ≡ judge_text text) where
-  pub import_refused : (v.number ≡ 0 → ⊥)
-      → (refused v.number v.place ≡ import_answer text (length words)) × (1 ≤ v.number) × (words ≡ import_buffer text words)
+  pub refused_kept : {found : Offence} → Err found ≡ judge_text text → words ≡ import_buffer text words
   unfolding import_answer import_buffer
-  import_refused h = rw (← e, ne_eqb v.number 0 h) (refl, omega arith, rw (ne_eqb v.number 0 h) refl)
+  refused_kept {found} e = rw (← e) (either found.fault)
+    where
+      either : (fault : TextFault) → words ≡ (if is_given (refused (text_fault_number fault) found.place) then over (import_words text) words else words)
+      either Form = refl
+      either Range = refl
 
-  module _ {total : ℕ} (et : total ≡ words_of 1 v.stops) where
-    none : v.number ≡ 0 → (judge_text text).number ≡ 0
-    none h = sym (ap (λ (u : Verdict). u.number) e) ∙ h
+  -- and of one without fault
+  module _ {n : ℕ} (e : Ok n ≡ judge_text text) where
+    pub found_right : TextRight text n
+    found_right = text_right text n (sym e)
 
-    needed : total ≡ words_of 1 (stops_of text)
-    needed = et ∙ ap (words_of 1) (found_stops text e)
+    pub found_few : n ≤ 240
+    found_few = found_right.stops_most
 
-    pub import_short : v.number ≡ 0 → length words < total → (refused 14 total ≡ import_answer text (length words)) × (words ≡ import_buffer text words)
-    unfolding import_answer import_buffer
-    import_short h l =
-        rw (eq-eqb (judge_text text).number 0 (none h), lt-ltb (length words) (words_of 1 (stops_of text)) (rw needed at l)) (ap (refused 14) needed, refl)
+    pub found_stops : n ≡ stops_of text
+    found_stops = rw (← e) refl
 
-    pub import_read : {after : List ℕ} → v.number ≡ 0 → total ≤ length words → after ≡ over (import_words text) words
-        → (given (total ∷ []) ≡ import_answer text (length words)) × (after ≡ import_buffer text words)
-    unfolding import_answer import_buffer
-    import_read h l ew =
-        rw (eq-eqb (judge_text text).number 0 (none h), le-ltb (length words) (words_of 1 (stops_of text)) (rw needed at l))
-        (ap (λ (k : ℕ). given (k ∷ [])) needed, ew)
+    module _ {total : ℕ} (et : total ≡ words_of 1 n) where
+      pub import_short : length words < total → (refused 14 total ≡ import_answer text (length words)) × (words ≡ import_buffer text words)
+      unfolding import_answer import_buffer
+      import_short l = rw (← e, lt-ltb (length words) (words_of 1 n) (rw et at l)) (ap (refused 14) et, refl)
+
+      pub import_read : {after : List ℕ} → total ≤ length words → after ≡ over (import_words text) words
+          → (given (total ∷ []) ≡ import_answer text (length words)) × (after ≡ import_buffer text words)
+      unfolding import_answer import_buffer
+      import_read l ew = rw (← e, le-ltb (length words) (words_of 1 n) (rw et at l)) (ap (λ (k : ℕ). given (k ∷ [])) et, ew)

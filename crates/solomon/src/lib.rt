@@ -9,6 +9,7 @@ ghost use Rattle.rules.specs.AnswerValues.{import_values, ImportNumbered};
 ghost use Rattle.solomon_form.proofs.Judged.{TextRight};
 
 use rules::answers::ImportAnswer;
+use solomon_form::judge_text;
 use solomon_words::Instance;
 use solomon_words::numbers::{capacity_of, store_numbers};
 
@@ -42,20 +43,22 @@ pub fn import_solomon(text: &[u8], words: &mut [u32]) -> ImportAnswer
     ensures numbered { ImportNumbered result }
     ensures buffer { words.new ≡ import_buffer text.now words.old }
 {
-    let found = solomon_form::judge_text(text);
-    if found.number != 0 {
-        return ImportAnswer::Refused {
-            number: found.number,
-            place: found.place,
-        };
-    }
-    let total = words_needed(found.stops);
+    let stops = match judge_text(text) {
+        Ok(stops) => stops,
+        Err(found) => {
+            return ImportAnswer::Refused {
+                number: found.fault as u32,
+                place: found.place,
+            };
+        }
+    };
+    let total = words_needed(stops);
     if words.len() < total {
         return ImportAnswer::Refused {
             number: 14,
             place: total,
         };
     }
-    write_import(text, found.stops, words);
+    write_import(text, stops, words);
     ImportAnswer::Read { words: total }
 }

@@ -1,5 +1,6 @@
 -- The first fault met is the earliest offence: none has an earlier byte, and at its byte none has a lower number. Assumes nothing.
-use Rattle.std.specs.Prelude.{if◌then◌else◌}
+use Rattle.std.specs.Prelude.{if◌then◌else◌, Ok, Err}
+use Rattle.std.specs.Result.{result_and}
 use Prim.Native.Nat.{ℕ, suc, ◌+◌, ◌-◌, ◌≤◌, ◌<◌}
 use mathlib.Core.Path.{◌≡◌, refl, sym, ap, ap₂, subst, ◌∙◌}
 use mathlib.Core.Bool.{Bool, true, false, false≢true}
@@ -10,20 +11,23 @@ use native.Mathlib.Omega.{arith}
 use lib.ListN.{length}
 use lib.Dec.{eqb, ltb, leb}
 use borrow.Author.Tests.{leb-true, leb-false, le-leb}
+use Rattle.rules.specs.Faults.{text_fault_number}
 use Rattle.rules.specs.TextFields.{field_at, line_at, ends_line, is_number, number_at, is_word}
-use Rattle.rules.specs.SolomonForm.{plain_fault, range_fault, order_fault, end_fault, name_fault, word_fault, vehicle_word, customer_word, fleet_fault, is_unused, most_of}
+use Rattle.rules.specs.SolomonForm.{Finding, fine, plain_fault, range_fault, order_fault, end_fault, name_fault, word_fault, vehicle_word, customer_word, fleet_fault, is_unused, most_of}
 use Rattle.rules.specs.SolomonForm.{least_of, customer_fault, beyond_fault, field_fault, number_before, place_of, fault_at, is_over, Offends, judge_text}
+use Rattle.rules.specs.declared.faults.TextFault.{TextFault}
+use Rattle.rules.specs.declared.faults.TextFault.TheVariants.{Form, Range}
+use Rattle.rules.specs.declared.texts.Offence.{Offence}
 use Rattle.text_fields.proofs.Places.{fields_rise, lines_rise, fields_before, number_later}
-use Rattle.solomon_form.proofs.LineLaws.{over_lines}
-use Rattle.solomon_form.proofs.Judged.{TextRight, text_right, FirstFault, first_fault}
+use Rattle.solomon_form.proofs.Judged.{TextRight, text_right, FirstFault}
 
--- what a fault can be: none, 17, or 18 of a field that is a number
-data Faulty (is_number : Bool) : ℕ → Type 0 where
-  none : Faulty is_number 0
-  form : Faulty is_number 17
-  limit : is_number ≡ true → Faulty is_number 18
+-- what can be found of a field: nothing, a fault of its form, or a fault of its value where it is a number
+data Faulty (is_number : Bool) : Finding → Type 0 where
+  none : Faulty is_number fine
+  form : Faulty is_number (Err Form)
+  limit : is_number ≡ true → Faulty is_number (Err Range)
 
-faulty_if : {b : Bool} (t : Bool) {x y : ℕ} → Faulty b x → Faulty b y → Faulty b (if t then x else y)
+faulty_if : {b : Bool} (t : Bool) {x y : Finding} → Faulty b x → Faulty b y → Faulty b (if t then x else y)
 faulty_if true f g = f
 faulty_if false f g = g
 
@@ -32,26 +36,33 @@ module _ (text : List ℕ) (at : ℕ) where
   unfolding plain_fault
   plain_faulty = faulty_if (is_number text at) none form
 
+  -- what is said of a number
+  number_faulty : (said : Finding) → (is_number text at ≡ true → Faulty (is_number text at) said) → Faulty (is_number text at) (result_and (plain_fault text at) said)
+  unfolding plain_fault
+  number_faulty said f = go (is_number text at) refl
+    where
+      go : (t : Bool) → is_number text at ≡ t → Faulty (is_number text at) (result_and (if t then fine else Err Form) said)
+      go true e = f e
+      go false e = form
+
   range_faulty : (least most : ℕ) → Faulty (is_number text at) (range_fault text at least most)
   unfolding range_fault
-  range_faulty least most = go (is_number text at) refl
-    where
-      go : (t : Bool) → is_number text at ≡ t
-          → Faulty (is_number text at) (if t then (if ltb (number_at text at) least then 18 else if ltb most (number_at text at) then 18 else 0) else 17)
-      go true e = faulty_if (ltb (number_at text at) least) (limit e) (faulty_if (ltb most (number_at text at)) (limit e) none)
-      go false e = form
+  range_faulty least most =
+      number_faulty (if ltb (number_at text at) least then Err Range else if ltb most (number_at text at) then Err Range else fine)
+      (λ e. faulty_if (ltb (number_at text at) least) (limit e) (faulty_if (ltb most (number_at text at)) (limit e) none))
 
   order_faulty : (k : ℕ) → Faulty (is_number text at) (order_fault text at k)
   unfolding order_fault
-  order_faulty k = faulty_if (is_number text at) (faulty_if (eqb (number_at text at) k) none form) form
+  order_faulty k = number_faulty (if eqb (number_at text at) k then fine else Err Form) (λ e. faulty_if (eqb (number_at text at) k) none form)
 
-  order_number : (k : ℕ) → eqb (order_fault text at k) 0 ≡ true → is_number text at ≡ true
-  unfolding order_fault
+  -- a customer's number is a number
+  order_number : (k : ℕ) → order_fault text at k ≡ fine → is_number text at ≡ true
+  unfolding order_fault plain_fault
   order_number k e = go (is_number text at) e
     where
-      go : (t : Bool) → eqb (if t then (if eqb (number_at text at) k then 0 else 17) else 17) 0 ≡ true → t ≡ true
+      go : (t : Bool) → result_and (if t then fine else Err Form) (if eqb (number_at text at) k then fine else Err Form) ≡ fine → t ≡ true
       go true h = refl
-      go false h = absurd (false≢true h)
+      go false h = cc
 
   end_faulty : Faulty (is_number text at) (end_fault text at)
   unfolding end_fault
@@ -63,11 +74,11 @@ module _ (text : List ℕ) (at : ℕ) where
 
   beyond_faulty : (k i : ℕ) → Faulty (is_number text at) (beyond_fault text k i at)
   unfolding beyond_fault
-  beyond_faulty k i = faulty_if (eqb i 0) (go (eqb (order_fault text at k) 0) refl) none
+  beyond_faulty k i = faulty_if (eqb i 0) (go (order_fault text at k) refl (order_faulty k)) none
     where
-      go : (t : Bool) → eqb (order_fault text at k) 0 ≡ t → Faulty (is_number text at) (if t then 18 else 17)
-      go true e = limit (order_number k e)
-      go false e = form
+      go : (found : Finding) → order_fault text at k ≡ found → Faulty (is_number text at) found → Faulty (is_number text at) (result_and found (Err Range))
+      go (Ok _) e f = limit (order_number k e)
+      go (Err fault) e f = f
 
   field_faulty : (j i before : ℕ) → Faulty (is_number text at) (field_fault text j i at before)
   unfolding field_fault customer_fault fleet_fault name_fault
@@ -93,26 +104,24 @@ in_order_lem a b = elim (ℕ_discrete a b) [
     go n true e = let h = leb-true a b e in inl (omega arith)
     go n false e = let h = leb-false a b e in inr (inr (omega arith))
 
--- a fault is 17, or 18 of a number
-fault_known : {b : Bool} {x : ℕ} → Faulty b x → (x ≡ 0 → ⊥) → (x ≡ 17) ⊎ ((x ≡ 18) × (b ≡ true))
-fault_known none n = absurd (n refl)
-fault_known form n = inl refl
-fault_known (limit e) n = inr (refl, e)
+-- a fault is of the form, or of the value of a number
+fault_known : {b : Bool} {found : Finding} {fault : TextFault} → Faulty b found → found ≡ Err fault → (fault ≡ Form) ⊎ ((fault ≡ Range) × (b ≡ true))
+fault_known none e = cc
+fault_known form e = inl (cc)
+fault_known (limit h) e = inr (cc, h)
 
 -- what is said of another offence beside the one found
 abbrev pub Later : ℕ → ℕ → ℕ → ℕ → Type 0
 Later number place other byte = (place ≤ byte) × (place ≡ byte → number ≤ other)
 
-module _ (text : List ℕ) where
-  known_at : (j i : ℕ) → (fault_at text j i ≡ 0 → ⊥) → (fault_at text j i ≡ 17) ⊎ ((fault_at text j i ≡ 18) × (is_number text (place_of text j i) ≡ true))
-  known_at j i n = fault_known (field_faulty text (place_of text j i) j i (number_before text j i)) n
+-- a refusal of a text has number 17 or 18, and 17 is the lower
+pub number_least : (fault : TextFault) → (text_fault_number fault ≡ 17) ⊎ (text_fault_number fault ≡ 18)
+number_least Form = inl refl
+number_least Range = inr refl
 
-  -- an offence has number 17 or 18
-  pub offence_number : (number place : ℕ) → Offends text number place → (number ≡ 17) ⊎ (number ≡ 18)
-  offence_number number place o = elim (known_at o.line o.field (λ z. o.some (sym o.wrong ∙ z))) [
-    | inl e ↦ inl (sym o.wrong ∙ e)
-    | inr e ↦ inr (sym o.wrong ∙ e.0)
-  ]
+module _ (text : List ℕ) where
+  known_at : (j i : ℕ) {fault : TextFault} → fault_at text j i ≡ Err fault → (fault ≡ Form) ⊎ ((fault ≡ Range) × (is_number text (place_of text j i) ≡ true))
+  known_at j i e = fault_known (field_faulty text (place_of text j i) j i (number_before text j i)) e
 
   -- a field of a later line, or a later one of the same line, has no earlier place, and behind a number a later one
   later_line : (j i k m : ℕ) → j < k → place_of text j i ≤ place_of text k m
@@ -131,7 +140,7 @@ module _ (text : List ℕ) where
   no_earlier j i k m (inr h) =
       subst (λ (l : ℕ). place_of text j i ≤ place_of text l m) h.0 (fields_rise text (line_at text j) i m (omega (arith, h.1)))
 
-  module _ {number place : ℕ} (f : FirstFault text number place) (n : number ≡ 0 → ⊥) where
+  module _ {found : Offence} (f : FirstFault text found) where
     -- another offence stands in a later line, later in the same line, or it is the one found
     behind : {other byte : ℕ} (o : Offends text other byte)
         → ((f.line < o.line) ⊎ ((f.line ≡ o.line) × (f.field < o.field))) ⊎ ((f.line ≡ o.line) × (f.field ≡ o.field))
@@ -140,43 +149,51 @@ module _ (text : List ℕ) where
       | inr (inl same) ↦ elim (in_order_lem f.field o.field) [
         | inl less ↦ inl (inr (same, less))
         | inr (inl this) ↦ inr (same, this)
-        | inr (inr more) ↦ absurd (o.some (sym o.wrong ∙ ap (λ (j : ℕ). fault_at text j o.field) (sym same) ∙ f.fields o.field more))
+        | inr (inr more) ↦ absurd (unlike (sym o.wrong ∙ ap (λ (j : ℕ). fault_at text j o.field) (sym same) ∙ f.fields o.field more))
       ]
-      | inr (inr after) ↦ absurd (o.some (sym o.wrong ∙ f.lines o.line o.field after o.looked))
+      | inr (inr after) ↦ absurd (unlike (sym o.wrong ∙ f.lines o.line o.field after o.looked))
     ]
+      where
+        unlike : {fault : TextFault} → Err fault ≡ fine → ⊥
+        unlike e = cc
 
-    apart : {other byte : ℕ} (o : Offends text other byte) → (f.line < o.line) ⊎ ((f.line ≡ o.line) × (f.field < o.field)) → place ≡ byte → number ≤ other
-    apart {other} {byte} o h e = elim (known_at f.line f.field (λ z. n (sym f.wrong ∙ z))) [
-      | inl first ↦ elim (offence_number other byte o) [
-        | inl least ↦ omega (arith, f.wrong)
-        | inr greater ↦ omega (arith, f.wrong)
+    apart : {other byte : ℕ} (o : Offends text other byte) → (f.line < o.line) ⊎ ((f.line ≡ o.line) × (f.field < o.field)) → found.place ≡ byte
+        → text_fault_number found.fault ≤ other
+    apart {other} {byte} o h e = elim (known_at f.line f.field f.wrong) [
+      | inl first ↦ elim (number_least o.fault) [
+        | inl least ↦ omega (arith, ap text_fault_number first, o.numbered)
+        | inr greater ↦ omega (arith, ap text_fault_number first, o.numbered)
       ]
       | inr first ↦ absurd (omega (arith, strictly f.line f.field o.line o.field first.1 h, f.byte, o.byte))
     ]
 
-    later : {other byte : ℕ} (o : Offends text other byte) → (f.line < o.line) ⊎ ((f.line ≡ o.line) × (f.field < o.field)) → Later number place other byte
+    later : {other byte : ℕ} (o : Offends text other byte) → (f.line < o.line) ⊎ ((f.line ≡ o.line) × (f.field < o.field))
+        → Later (text_fault_number found.fault) found.place other byte
     later o h = (omega (arith, no_earlier f.line f.field o.line o.field h, f.byte, o.byte), apart o h)
 
-    this_one : {other byte : ℕ} (o : Offends text other byte) → f.line ≡ o.line → f.field ≡ o.field → Later number place other byte
+    this_one : {other byte : ℕ} (o : Offends text other byte) → f.line ≡ o.line → f.field ≡ o.field
+        → Later (text_fault_number found.fault) found.place other byte
     this_one o same field =
         let place : place_of text f.line f.field ≡ place_of text o.line o.field = ap₂ (place_of text) same field in
-        let fault : fault_at text f.line f.field ≡ fault_at text o.line o.field = ap₂ (fault_at text) same field in
-        (omega (arith, f.byte, o.byte), λ e. omega (arith, f.wrong, o.wrong))
+        let said : fault_at text f.line f.field ≡ fault_at text o.line o.field = ap₂ (fault_at text) same field in
+        let fault : found.fault ≡ o.fault = cc (f.wrong, o.wrong) in
+        (omega (arith, f.byte, o.byte), λ e. omega (arith, ap text_fault_number fault, o.numbered))
 
-    pub found_earliest : (other byte : ℕ) → Offends text other byte → Later number place other byte
+    pub found_earliest : (other byte : ℕ) → Offends text other byte → Later (text_fault_number found.fault) found.place other byte
     found_earliest other byte o = elim (behind o) [
       | inl h ↦ later o h
       | inr h ↦ this_one o h.0 h.1
     ]
 
-    pub found_offends : Offends text number place
+    pub found_offends : Offends text (text_fault_number found.fault) found.place
     found_offends = record {
       line = f.line;
       field = f.field;
       asked = f.asked;
       looked = f.looked;
+      fault = found.fault;
       wrong = f.wrong;
-      some = n;
+      numbered = refl;
       byte = f.byte;
     }
 
@@ -194,18 +211,15 @@ module _ (text : List ℕ) where
       go false et e = absurd (false≢true e)
 
   -- a text without fault has no offence
-  pub none_offends : (judge_text text).number ≡ 0 → (number place : ℕ) → Offends text number place → ⊥
-  none_offends e number place o = elim (in_order_lem o.line (7 + (judge_text text).stops)) [
+  pub none_offends : (n : ℕ) → judge_text text ≡ Ok n → (number place : ℕ) → Offends text number place → ⊥
+  none_offends n e number place o = elim (in_order_lem o.line (7 + n)) [
     | inl there ↦ fault_free there
     | inr (inl last) ↦ absurd (false≢true (sym o.asked ∙ ap (is_over text) last ∙ r.over))
-    | inr (inr past) ↦ absurd (false≢true (sym o.asked ∙ over_past past))
+    | inr (inr past) ↦ absurd (false≢true (sym o.asked ∙ over_later (7 + n) o.line r.over (omega arith)))
   ]
     where
-      r : TextRight text (judge_text text).stops
-      r = text_right text e
+      r : TextRight text n
+      r = text_right text n e
 
-      fault_free : o.line < 7 + (judge_text text).stops → ⊥
-      fault_free h = o.some (sym o.wrong ∙ r.right o.line o.field h o.looked)
-
-      over_past : 7 + (judge_text text).stops < o.line → is_over text o.line ≡ true
-      over_past h = over_later (7 + (judge_text text).stops) o.line r.over (omega arith)
+      fault_free : o.line < 7 + n → ⊥
+      fault_free h = let said = r.right o.line o.field h o.looked in let wrong = o.wrong in cc

@@ -1,190 +1,144 @@
-// What is wrong with one field of a line: 17, 18, or 0 for nothing.
-ghost use Rattle.std.specs.Prelude.{◌≡◌, ◌≤◌, ◌<◌};
-ghost use Rattle.rules.specs.SolomonForm.{plain_fault, range_fault, order_fault, end_fault, name_fault, word_fault, vehicle_word, customer_word};
-ghost use Rattle.rules.specs.SolomonForm.{fleet_fault, is_unused, most_of, least_of, customer_fault, beyond_fault, field_fault};
+// What is found of one field of a line: nothing, or a fault.
+ghost use Rattle.std.specs.Prelude.{◌≡◌, ◌≤◌, ◌<◌, if◌then◌else◌};
+ghost use Rattle.rules.specs.TextFields.{number_at};
+ghost use Rattle.rules.specs.SolomonForm.{fine, plain_fault, range_fault, order_fault, end_fault, name_fault, word_fault, fleet_fault};
+ghost use Rattle.rules.specs.SolomonForm.{is_unused, most_of, least_of, customer_fault, beyond_fault, field_fault};
+ghost use Rattle.text_fields.specs.Runs.{held_at};
 
+use rules::faults::TextFault;
 use text_fields::{ends_line, is_number, is_word, number_at};
 
-fn plain_fault(text: &[u8], at: usize) -> u32
-    ensures { result ≡ plain_fault text.now at }
+// The fault of a field that fails a test.
+fn unless(test: bool, fault: TextFault) -> Result<(), TextFault>
+    ensures { result ≡ (if test then fine else Err fault) }
 {
-    if is_number(text, at) {
-        return 0;
-    }
-    17
+    if test { Ok(()) } else { Err(fault) }
 }
 
-fn range_fault(text: &[u8], at: usize, least: u32, most: u32) -> u32
+#[tactic(auto, unfolding(rules::specs::SolomonForm::plain_fault))]
+fn plain_fault(text: &[u8], at: usize) -> Result<(), TextFault>
+    ensures { result ≡ plain_fault text.now at }
+{
+    unless(is_number(text, at), TextFault::Form)
+}
+
+#[tactic(auto, unfolding(rules::specs::SolomonForm::range_fault))]
+fn range_fault(text: &[u8], at: usize, least: u32, most: u32) -> Result<(), TextFault>
     requires { (least ≤ 1000000) × (most < 1000000) }
     ensures { result ≡ range_fault text.now at least most }
 {
-    if is_number(text, at) {
-        let number = number_at(text, at);
-        if number < least {
-            return 18;
-        }
-        if most < number {
-            return 18;
-        }
-        return 0;
-    }
-    17
+    plain_fault(text, at)?;
+    unless(
+        (least..=most).contains(&number_at(text, at)),
+        TextFault::Range,
+    )
 }
 
-fn order_fault(text: &[u8], at: usize, k: usize) -> u32
-    requires { k < 1000000 }
+#[tactic(auto, unfolding(rules::specs::SolomonForm::order_fault))]
+fn order_fault(text: &[u8], at: usize, k: u8) -> Result<(), TextFault>
     ensures { result ≡ order_fault text.now at k }
 {
-    if is_number(text, at) {
-        if number_at(text, at) as usize == k {
-            return 0;
-        }
-    }
-    17
+    plain_fault(text, at)?;
+    unless(number_at(text, at) == u32::from(k), TextFault::Form)
 }
 
-fn end_fault(text: &[u8], at: usize) -> u32
+#[tactic(auto, unfolding(rules::specs::SolomonForm::end_fault))]
+fn end_fault(text: &[u8], at: usize) -> Result<(), TextFault>
     ensures { result ≡ end_fault text.now at }
 {
-    if ends_line(text, at) {
-        return 0;
-    }
-    17
+    unless(ends_line(text, at), TextFault::Form)
 }
 
-fn name_fault(text: &[u8], i: usize, at: usize) -> u32
+#[tactic(auto, unfolding(rules::specs::SolomonForm::name_fault))]
+fn name_fault(text: &[u8], i: u8, at: usize) -> Result<(), TextFault>
     ensures { result ≡ name_fault text.now i at }
 {
-    if i == 0 {
-        if at < text.len() {
-            return 0;
-        }
-        return 17;
-    }
-    0
+    unless(i != 0 || at < text.len(), TextFault::Form)
 }
 
-fn word_fault(text: &[u8], word: &[u8], i: usize, at: usize) -> u32
+#[tactic(auto, unfolding(rules::specs::SolomonForm::word_fault))]
+fn word_fault(text: &[u8], word: &[u8], i: u8, at: usize) -> Result<(), TextFault>
     ensures { result ≡ word_fault text.now word.now i at }
 {
     if i == 0 {
-        if is_word(text, at, word) {
-            return 0;
-        }
-        return 17;
+        unless(is_word(text, at, word), TextFault::Form)
+    } else {
+        end_fault(text, at)
     }
-    end_fault(text, at)
 }
 
-fn vehicle_fault(text: &[u8], i: usize, at: usize) -> u32
-    ensures { result ≡ word_fault text.now vehicle_word i at }
-{
-    word_fault(text, b"VEHICLE", i, at)
-}
-
-fn customers_fault(text: &[u8], i: usize, at: usize) -> u32
-    ensures { result ≡ word_fault text.now customer_word i at }
-{
-    word_fault(text, b"CUSTOMER", i, at)
-}
-
-fn fleet_fault(text: &[u8], i: usize, at: usize) -> u32
+#[tactic(auto, unfolding(rules::specs::SolomonForm::fleet_fault))]
+fn fleet_fault(text: &[u8], i: u8, at: usize) -> Result<(), TextFault>
     ensures { result ≡ fleet_fault text.now i at }
 {
-    if i == 0 {
-        return plain_fault(text, at);
+    match i {
+        0 => plain_fault(text, at),
+        1 => range_fault(text, at, 1, 100_000),
+        _ => end_fault(text, at),
     }
-    if i == 1 {
-        return range_fault(text, at, 1, 100000);
-    }
-    end_fault(text, at)
 }
 
-fn is_unused(k: usize, i: usize) -> bool
+#[tactic(auto, unfolding(rules::specs::SolomonForm::is_unused))]
+fn is_unused(k: u8, i: u8) -> bool
     ensures { result ≡ is_unused k i }
 {
-    if k == 0 {
-        if i == 3 {
-            return true;
-        }
-        return i == 6;
-    }
-    false
+    k == 0 && matches!(i, 3 | 6)
 }
 
-fn most_of(i: usize) -> u32
+#[tactic(auto, unfolding(rules::specs::SolomonForm::most_of))]
+fn most_of(i: u8) -> u32
     ensures { (result ≡ most_of i) × (result < 1000000) }
 {
-    if i < 3 {
-        return 1000;
+    match i {
+        0..=2 => 1000,
+        3 => 100_000,
+        4 | 5 => 1440,
+        _ => 240,
     }
-    if i == 3 {
-        return 100000;
-    }
-    if i < 6 {
-        return 1440;
-    }
-    240
 }
 
-fn least_of(i: usize, before: u32) -> u32
-    requires { before ≤ 1000000 }
-    ensures { (result ≡ least_of i before) × (result ≤ 1000000) }
+// A due date is no less than the ready time before it.
+#[tactic(auto, unfolding(rules::specs::SolomonForm::least_of))]
+fn least_of(text: &[u8], i: u8, before: usize) -> u32
+    ensures { (result ≡ least_of i (held_at text.now before)) × (result ≤ 1000000) }
 {
-    if i == 5 {
-        return before;
-    }
-    0
+    if i == 5 { number_at(text, before) } else { 0 }
 }
 
-fn customer_fault(text: &[u8], k: usize, i: usize, at: usize, before: u32) -> u32
-    requires { (k < 1000000) × (before ≤ 1000000) }
-    ensures { result ≡ customer_fault text.now k i at before }
+#[tactic(auto, unfolding(rules::specs::SolomonForm::customer_fault))]
+fn customer_fault(text: &[u8], k: u8, i: u8, at: usize, before: usize) -> Result<(), TextFault>
+    ensures { result ≡ customer_fault text.now k i at (number_at text.now before) }
 {
-    if i == 0 {
-        return order_fault(text, at, k);
+    match i {
+        0 => order_fault(text, at, k),
+        7.. => end_fault(text, at),
+        _ if is_unused(k, i) => plain_fault(text, at),
+        _ => range_fault(text, at, least_of(text, i, before), most_of(i)),
     }
-    if 7 <= i {
-        return end_fault(text, at);
-    }
-    if is_unused(k, i) {
-        return plain_fault(text, at);
-    }
-    range_fault(text, at, least_of(i, before), most_of(i))
 }
 
-fn beyond_fault(text: &[u8], k: usize, i: usize, at: usize) -> u32
-    requires { k < 1000000 }
+#[tactic(auto, unfolding(rules::specs::SolomonForm::beyond_fault))]
+fn beyond_fault(text: &[u8], k: u8, i: u8, at: usize) -> Result<(), TextFault>
     ensures { result ≡ beyond_fault text.now k i at }
 {
-    if i == 0 {
-        if order_fault(text, at, k) == 0 {
-            return 18;
-        }
-        return 17;
+    if i != 0 {
+        return Ok(());
     }
-    0
+    order_fault(text, at, k)?;
+    Err(TextFault::Range)
 }
 
-// Field i of line j, which stands at `at` behind a field of the number `before`.
-pub fn field_fault(text: &[u8], j: usize, i: usize, at: usize, before: u32) -> u32
-    requires { (j < 1000000) × (before ≤ 1000000) }
-    ensures { result ≡ field_fault text.now j i at before }
+// Field i of line j, which stands at `at` behind the field at `before`.
+#[tactic(auto, unfolding(rules::specs::SolomonForm::field_fault, rules::specs::SolomonForm::vehicle_word, rules::specs::SolomonForm::customer_word))]
+pub fn field_fault(text: &[u8], j: u8, i: u8, at: usize, before: usize) -> Result<(), TextFault>
+    ensures { result ≡ field_fault text.now j i at (number_at text.now before) }
 {
-    if 247 <= j {
-        return beyond_fault(text, j - 6, i, at);
+    match j {
+        1 => word_fault(text, b"VEHICLE", i, at),
+        3 => fleet_fault(text, i, at),
+        4 => word_fault(text, b"CUSTOMER", i, at),
+        6..=246 => customer_fault(text, j - 6, i, at, before),
+        247.. => beyond_fault(text, j - 6, i, at),
+        _ => name_fault(text, i, at),
     }
-    if 6 <= j {
-        return customer_fault(text, j - 6, i, at, before);
-    }
-    if j == 1 {
-        return vehicle_fault(text, i, at);
-    }
-    if j == 3 {
-        return fleet_fault(text, i, at);
-    }
-    if j == 4 {
-        return customers_fault(text, i, at);
-    }
-    name_fault(text, i, at)
 }

@@ -1,15 +1,14 @@
 -- `solomon_form::faults::range_fault` meets its contract.
-use Rattle.solomon_form.proofs.FieldFaults.{range_low, range_high, range_right, range_none}
+use Prim.Native.Nat.{◌≤◌, ◌<◌}
+use mathlib.Core.Logic.{◌⊎◌}
+use native.Mathlib.Omega.{arith}
+use Rattle.std.specs.Bool.{MatchBool}
+use Rattle.std.proofs.lemmas.Grind.{common_steps}
+use Rattle.solomon_form.proofs.FieldFaults.{range_told}
 use Rattle.solomon_form.proofs.faults.range_fault.Goals as goal
 
-pub returns-then-number-least : goal.returns-then-number-least
-returns-then-number-least c = search range_low
-
-pub returns-then-most-number : goal.returns-then-most-number
-returns-then-most-number c = search range_high
-
-pub returns-then-is_number : goal.returns-then-is_number
-returns-then-is_number c = search range_right
-
 pub returns : goal.returns
-returns c = search range_none
+returns c =
+    let within : MatchBool c.contains.result ((c.args.least ≤ c.number_at.result) × (c.number_at.result ≤ c.args.most))
+    ((c.number_at.result < c.args.least) ⊎ (c.args.most < c.number_at.result)) = grind (arith, common_steps) in
+    range_told _ _ c.in_ok-plain_fault.ensures c.number_at.ensures.0 _ _ c.contains.result c.requires.0 c.requires.1 within c.unless.ensures
