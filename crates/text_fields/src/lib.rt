@@ -1,4 +1,5 @@
 // Lines, fields and numbers of a text: every place of every text has an answer, and nothing is required.
+// A text and a place stay two parameters: the text from the place on, as one slice, is no plainer, since the callers go on to name the place.
 #![tactic(auto)]
 
 ghost use Rattle.std.specs.Prelude.{◌≡◌, ℕ, Bool, ◌+◌, ◌*◌, ◌-◌, ◌≤◌, ◌<◌, min};
