@@ -1,28 +1,26 @@
 -- Laws of the walk over a plan's parts: between the words of a vehicle that is out only cargo and trip change. Assumes nothing.
+use Rattle.std.specs.Prelude.{Option, Some, None, Ok, IfSome}
 use Prim.Native.Nat.{ℕ, ◌+◌, ◌-◌, ◌<◌, ◌≤◌}
 use mathlib.Core.Path.{◌≡◌, refl, sym, ap, ◌∙◌}
 use mathlib.Core.Bool.{Bool, true, false, not, false≢true}
 use mathlib.Core.List.{List}
 use native.Mathlib.Omega.{arith}
-use lib.ListN.{length, get_or, set}
+use lib.ListN.{length, get_or}
 use borrow.Author.Tests.{not-false}
 use Rattle.rules.specs.PlanWords.{Word, vehicle, stop, tip, rest, back, left, stray, word_of}
+use Rattle.rules.specs.Fields.{stops}
 use Rattle.rules.specs.Cargo.{empty, cargo_after}
 use Rattle.rules.specs.Trip.{leaving}
 use Rattle.rules.specs.Check.{well_formed, tally_after, start, check_from}
 use Rattle.rules.specs.declared.walk.Cargo.{Cargo}
 use Rattle.rules.specs.declared.walk.Tally.{Tally}
 use Rattle.rules.specs.declared.walk.Trip.{Trip}
-use Rattle.day.specs.Layout.{LayoutOf}
-use Rattle.day.specs.declared.fields.Layout.{Layout}
-use Rattle.word_steps.specs.Steps.{fault_by, Next, StepOf, Within}
+use Rattle.word_steps.specs.Steps.{fault_by, marked, Next, StepOf, Within}
 use Rattle.trips.specs.Trips.{TallyWithin}
 use Rattle.word_steps.specs.declared.steps.State.{State}
-use Rattle.word_steps.specs.declared.steps.Step.{Step}
 use Rattle.plan_parts.specs.Walked.{out_with, end_of, Reached, PartTo, ToldAll}
 use Rattle.plan_parts.specs.declared.parts.Part.{Part}
-use Rattle.plan_parts.specs.declared.parts.Told.{Told}
-use Rattle.plan_parts.proofs.Reaching.{stop_byte, reached_next, reached_passed, reached_small, reached_tally, reached_end}
+use Rattle.plan_parts.proofs.Reaching.{reached_next, reached_passed, reached_small, reached_tally, reached_end}
 
 -- a tally with so many stops served
 abbrev served_to : Tally → ℕ → Tally
@@ -41,125 +39,94 @@ still_out day y c u back f e = absurd (false≢true e)
 still_out day y c u (left k) f e = absurd (false≢true f)
 still_out day y c u stray f e = absurd (false≢true f)
 
-module _ (day plan : List ℕ) (i : ℕ) (y : Tally) (c : Cargo) (t : Trip) (bytes : List ℕ) (so_far : Reached day plan i (out_with y c t) bytes) where
+module _ (day plan : List ℕ) (i : ℕ) (y : Tally) (c : Cargo) (t : Trip) (flags : List Bool) (so_far : Reached day plan i (out_with y c t) flags) where
   -- the stops served are few
   pub out_few : length plan ≤ 4096 → i < length plan → y.served + c.visits ≤ 4096
-  out_few short h = (reached_small day plan i (out_with y c t) bytes so_far short h).tally_small.served
+  out_few short h = (reached_small day plan i (out_with y c t) flags so_far short h).tally_small.served
 
   module _ (s : State) (same : s ≡ out_with y c t) (here : i < length plan) where
-    now_far : Reached day plan i s bytes
+    now_far : Reached day plan i s flags
     now_far = rw same so_far
 
     pub out_small : length plan ≤ 4096 → Within day 4096 s
-    out_small short = reached_small day plan i s bytes now_far short here
+    out_small short = reached_small day plan i s flags now_far short here
 
-    module _ (r : Step) (task : r.fault ≡ 0 → StepOf (fault_by day bytes s (word_of (get_or plan i 0))) day s (word_of (get_or plan i 0)) r) (none : r.fault ≡ 0) where
-      pub out_byte : r.stop < 256
-      out_byte = stop_byte day plan i s bytes now_far here r (task none) none
+    module _ {r : State} (task : StepOf (fault_by day flags s (word_of (get_or plan i 0))) day s (word_of (get_or plan i 0)) (Ok r)) {after : List Bool}
+        (m : after ≡ marked flags (word_of (get_or plan i 0))) where
+      -- behind the word
+      pub out_next : Reached day plan (i + 1) r after
+      out_next = reached_next day plan i s flags now_far here task m
 
-      module _ (marked : List ℕ) (m : marked ≡ set bytes r.stop 1) where
-        -- behind the word
-        pub out_next : Reached day plan (i + 1) r.state marked
-        out_next = reached_next day plan i s bytes now_far here r (task none) none marked m
+      -- the vehicle is still out
+      pub out_again : not r.tally.inside ≡ false → Reached day plan (i + 1) (out_with y r.cargo r.trip) after
+      out_again h = rw tally at whole
+        where
+          inside : r.tally.inside ≡ true
+          inside = not-false _ h
 
-        -- the vehicle is still out
-        pub out_again : not r.state.tally.inside ≡ false → Reached day plan (i + 1) (out_with y r.state.cargo r.state.trip) marked
-        out_again h = rw tally at whole
-          where
-            inside : r.state.tally.inside ≡ true
-            inside = not-false _ h
+          next : Next day (out_with y c t) (word_of (get_or plan i 0)) r
+          next = rw same at (reached_passed day plan i s flags now_far here task).0
 
-            next : Next day (out_with y c t) (word_of (get_or plan i 0)) r
-            next = rw same at (reached_passed day plan i s bytes now_far here r (task none) none).0
+          formed : well_formed day (served_to y (y.served + c.visits)) c (word_of (get_or plan i 0)) ≡ true
+          formed = rw same at (reached_passed day plan i s flags now_far here task).1.formed
 
-            formed : well_formed day (served_to y (y.served + c.visits)) c (word_of (get_or plan i 0)) ≡ true
-            formed = rw same at (reached_passed day plan i s bytes now_far here r (task none) none).1.formed
+          tally : r.tally ≡ served_to y (y.served + r.cargo.visits)
+          tally =
+              next.tally_is
+              ∙ rw next.cargo_is (still_out day y c _ (word_of (get_or plan i 0)) formed (rw next.tally_is at inside))
 
-            tally : r.state.tally ≡ served_to y (y.served + r.state.cargo.visits)
-            tally =
-                next.tally_is
-                ∙ rw next.cargo_is (still_out day y c _ (word_of (get_or plan i 0)) formed (rw next.tally_is at inside))
-
-            whole : Reached day plan (i + 1) (record { tally = r.state.tally; cargo = r.state.cargo; trip = r.state.trip }) marked
-            whole = out_next
-
--- a part that was not gone through tells nothing
-pub no_part : (day plan met : List ℕ) (from : ℕ) (r : Part) → r.done ≡ false → r.done ≡ true → PartTo day plan met from r
-no_part day plan met from r d e = absurd (false≢true (sym d ∙ e))
+          whole : Reached day plan (i + 1) (record { tally = r.tally; cargo = r.cargo; trip = r.trip }) after
+          whole = out_next
 
 -- a vehicle that leaves is out, with nothing
 sets_out : (y : Tally) → y.inside ≡ true → y ≡ served_to y (y.served + 0)
 sets_out y e = ap (λ (b : Bool). record { inside = b; vehicles = y.vehicles; served = y.served; left = y.left; last = y.last; distance = y.distance }) e ∙ ap (served_to y) (omega arith)
 
-module _ (day plan : List ℕ) (i : ℕ) (s : State) (bytes : List ℕ) (so_far : Reached day plan i s bytes) (here : i < length plan) where
+module _ (day plan : List ℕ) (i : ℕ) (s : State) (flags : List Bool) (so_far : Reached day plan i s flags) (here : i < length plan) where
   pub part_small : length plan ≤ 4096 → Within day 4096 s
-  part_small short = reached_small day plan i s bytes so_far short here
+  part_small short = reached_small day plan i s flags so_far short here
 
-  module _ (x : Word) (r : Step) (word : word_of (get_or plan i 0) ≡ x) (first : StepOf (fault_by day bytes s x) day s x r) (none : r.fault ≡ 0) where
-    step : StepOf (fault_by day bytes s (word_of (get_or plan i 0))) day s (word_of (get_or plan i 0)) r
-    step = rw word first
+  module _ (x : Word) {r : State} (word : word_of (get_or plan i 0) ≡ x) (first : StepOf (fault_by day flags s x) day s x (Ok r)) {after : List Bool}
+      (m : after ≡ marked flags x) where
+    pub part_next : Reached day plan (i + 1) r after
+    part_next = reached_next day plan i s flags so_far here (rw word first) (rw word m)
 
-    pub part_byte : r.stop < 256
-    part_byte = stop_byte day plan i s bytes so_far here r step none
-
-    pub part_next : (marked : List ℕ) → marked ≡ set bytes r.stop 1 → Reached day plan (i + 1) r.state marked
-    part_next marked m = reached_next day plan i s bytes so_far here r step none marked m
-
-  pub part_out : (k : ℕ) (r : Step) → word_of (get_or plan i 0) ≡ vehicle k → StepOf (fault_by day bytes s (vehicle k)) day s (vehicle k) r → r.fault ≡ 0
-      → (y : Tally) → y ≡ r.state.tally → (marked : List ℕ) → marked ≡ set bytes r.stop 1
-      → Reached day plan (i + 1) (out_with y empty (leaving day)) marked
-  unfolding tally_after cargo_after
-  part_out k r word first none y q marked m =
-      rw (next.cargo_is, next.trip_is, ← q, sets_out y (rw (q, next.tally_is))) at whole
+  pub part_out : (k : ℕ) {r : State} → word_of (get_or plan i 0) ≡ vehicle k
+      → StepOf (fault_by day flags s (vehicle k)) day s (vehicle k) (Ok r)
+      → Reached day plan (i + 1) (out_with r.tally empty (leaving day)) flags
+  unfolding tally_after cargo_after marked
+  part_out k {r} word first = rw (next.cargo_is, next.trip_is, sets_out r.tally (rw next.tally_is)) at whole
     where
       next : Next day s (vehicle k) r
-      next = first.next_is (sym first.fault_is ∙ none)
+      next = first.next_is
 
-      whole : Reached day plan (i + 1) (record { tally = r.state.tally; cargo = r.state.cargo; trip = r.state.trip }) marked
-      whole = part_next (vehicle k) r word first none marked m
+      whole : Reached day plan (i + 1) (record { tally = r.tally; cargo = r.cargo; trip = r.trip }) flags
+      whole = part_next (vehicle k) word first refl
 
-pub part_behind : (day plan met : List ℕ) (i : ℕ) (r : Part) → (r.done ≡ true → PartTo day plan met (i + 1) r) → r.done ≡ true → PartTo day plan met i r
-part_behind day plan met i r h e =
-    let p = h e in
-    record { more = omega (arith, p.more); most = p.most; reached = p.reached }
+pub part_behind : (day plan : List ℕ) (met : List Bool) (i : ℕ) (r : Option Part) → IfSome r (PartTo day plan met (i + 1)) → IfSome r (PartTo day plan met i)
+part_behind day plan met i None p = p
+part_behind day plan met i (Some r) p = record { more = omega (arith, p.more); most = p.most; reached = p.reached }
 
 -- at the plan's end
-pub told_end : (day plan : List ℕ) (i : ℕ) (s : State) (bytes : List ℕ) (layout : Layout) (r : Told) → Reached day plan i s bytes → i ≤ length plan → length plan ≤ i
-    → LayoutOf day layout → length plan ≤ 4096 → r.tally ≡ s.tally → ToldAll day plan r
-told_end day plan i s bytes layout r so_far most least l short q =
+pub told_end : (day plan : List ℕ) (i : ℕ) (s : State) (flags : List Bool) → Reached day plan i s flags → i ≤ length plan → length plan ≤ i
+    → length plan ≤ 4096 → ToldAll day plan s.tally
+told_end day plan i s flags so_far most least short =
     let end : length plan ≡ i = omega arith in
     record {
-      small = rw q (reached_tally day plan i s bytes so_far short most);
-      same = rw (q, end, ← l.stops_are) (reached_end day plan i s bytes layout _ so_far least l refl);
+      small = reached_tally day plan i s flags so_far short most;
+      same = rw end (reached_end day plan i s flags _ _ so_far least refl refl);
     }
 
 -- as a vehicle leaves
-pub out_start : (day plan : List ℕ) (i : ℕ) (y : Tally) (c : Cargo) (t : Trip) (bytes : List ℕ) → c ≡ empty → t ≡ leaving day
-    → Reached day plan i (out_with y empty (leaving day)) bytes → Reached day plan i (out_with y c t) bytes
-out_start day plan i y c t bytes e f so_far = rw (e, f) so_far
+pub out_start : (day plan : List ℕ) (i : ℕ) (y : Tally) (c : Cargo) (t : Trip) (flags : List Bool) → c ≡ empty → t ≡ leaving day
+    → Reached day plan i (out_with y empty (leaving day)) flags → Reached day plan i (out_with y c t) flags
+out_start day plan i y c t flags e f so_far = rw (e, f) so_far
 
 -- behind a part
-module _ (day plan met : List ℕ) (i : ℕ) (r : Part) (h : r.done ≡ true → PartTo day plan met i r) (d : not r.done ≡ false) where
-  part : PartTo day plan met i r
-  part = h (not-false _ d)
-
-  pub part_less : length plan - r.end < length plan - i
-  part_less = omega (arith, part.more, part.most)
-
-  pub part_most : r.end ≤ length plan
-  part_most = part.most
-
-  pub part_reached : Reached day plan r.end r.state met
-  part_reached = part.reached
-
--- a plan that was not gone through tells nothing
-pub none_told : (day plan : List ℕ) (r : Told) → r.all ≡ false → r.all ≡ true → ToldAll day plan r
-none_told day plan r d e = absurd (false≢true (sym d ∙ e))
+pub part_less : (day plan : List ℕ) (met : List Bool) (i : ℕ) {r : Part} → PartTo day plan met i r → length plan - r.end < length plan - i
+part_less day plan met i p = omega (arith, p.more, p.most)
 
 -- the answer at the end of a plan that was gone through
-module _ (day plan : List ℕ) (r : Told) (h : r.all ≡ true → ToldAll day plan r) (d : r.all ≡ true) where
-  pub told_small : TallyWithin 4096 r.tally
-  told_small = (h d).small
-
-  pub told_answer : (layout : Layout) (answer : List ℕ) → LayoutOf day layout → answer ≡ end_of layout.stops (length plan) r.tally → answer ≡ check_from day plan 0 (start day)
-  told_answer layout answer l e = e ∙ rw l.stops_are (h d).same
+pub told_answer : (day plan : List ℕ) {y : Tally} → ToldAll day plan y → (n : ℕ) (answer : List ℕ) → n ≡ stops day → answer ≡ end_of n (length plan) y
+    → answer ≡ check_from day plan 0 (start day)
+told_answer day plan h n answer l e = e ∙ rw l h.same

@@ -1,6 +1,6 @@
 -- Laws of the walk over a plan: what is left to check, from the state and the stops met so far, is answered as the whole plan is.
 -- Assumes nothing.
-use Rattle.std.specs.Prelude.{if◌then◌else◌}
+use Rattle.std.specs.Prelude.{Result, Ok, Err, if◌then◌else◌}
 use Prim.Native.Nat.{ℕ, ◌+◌, ◌<◌, ◌≤◌}
 use mathlib.Core.Path.{◌≡◌, refl, sym, ap, ◌∙◌}
 use mathlib.Core.Bool.{Bool, true, false, not, ◌&&◌}
@@ -13,6 +13,9 @@ use lib.ListN.{length, get_or, set, drop, length-set, length-replicate, get_or-r
 use lib.Seq.{drop-cons, get_or-set_same, get_or-set_other}
 use borrow.Author.Tests.{ne_eqb, lt-ltb, le-ltb}
 use Rattle.rules.specs.Answers.{refused}
+use Rattle.rules.specs.Faults.{plan_fault_number}
+use Rattle.rules.specs.declared.faults.PlanFault.{PlanFault}
+use Rattle.rules.specs.declared.faults.PlanFault.TheVariants as Faults
 use Rattle.rules.specs.Lists.{mem, unmet}
 use Rattle.rules.specs.Fields.{stops}
 use Rattle.rules.specs.PlanWords.{Word, vehicle, stop, tip, rest, back, left, stray, word_of}
@@ -20,13 +23,9 @@ use Rattle.rules.specs.Check.{within, well_formed, met_again, met_after, tally_a
 use Rattle.rules.specs.declared.walk.Trip.{Trip}
 use Rattle.laws.proofs.Lists.{mem_same, mem_other, unmet_nil, unmet_less}
 use Rattle.laws.proofs.Tests.{both_true}
-use Rattle.day.specs.Layout.{LayoutOf}
-use Rattle.day.specs.declared.fields.Layout.{Layout}
-use Rattle.word_steps.specs.Steps.{is_met, stop_in, is_met_in, formed_fault, fault_by, Next, StepOf, Within}
+use Rattle.word_steps.specs.Steps.{is_met, is_met_in, marked, formed_fault, fault_by, Next, StepOf, Within}
 use Rattle.trips.specs.Trips.{TallyWithin}
 use Rattle.word_steps.specs.declared.steps.State.{State}
-use Rattle.word_steps.specs.declared.steps.Step.{Step}
-use Rattle.plan_words.proofs.WordForms.{Apart, is_vehicle, is_stop, is_tip, is_rest, is_back, is_left, is_stray, apart}
 use Rattle.plan_laws.proofs.Passing.{Passes, fault_passes, within_both}
 use Rattle.plan_parts.specs.Walked.{none_met, walk_of, end_of, met_by, Reached}
 use Rattle.plan_parts.proofs.Bounds.{within_step, within_start, within_more}
@@ -42,20 +41,29 @@ left_known day s k f =
     let out = (both_true (not s.tally.inside && within (stops day) k) (ltb s.tally.last k) f).0 in
     within_both (stops day) k (both_true (not s.tally.inside) (within (stops day) k) out).1
 
--- a word's stop is a byte
-stop_small : (w : ℕ) (x : Word) → Apart w x → stop_in x < 256
-unfolding stop_in
-stop_small w x (is_vehicle k h d e) = omega arith
-stop_small w x (is_stop k h d e) = h
-stop_small w x (is_tip k h d e) = omega arith
-stop_small w x (is_rest d e) = omega arith
-stop_small w x (is_back d e) = omega arith
-stop_small w x (is_left k h d e) = h
-stop_small w x (is_stray e) = omega arith
+-- no fault has number 0
+fault_some : (f : PlanFault) → plan_fault_number f ≡ 0 → ⊥
+fault_some Faults.Form e = omega arith
+fault_some Faults.Stop e = omega arith
+fault_some Faults.Limit e = omega arith
+fault_some Faults.Load e = omega arith
+fault_some Faults.Late e = omega arith
+fault_some Faults.Rest e = omega arith
 
--- bytes and list agree on every stop's number
-module _ (bytes met : List ℕ) (marks : (k : ℕ) → 0 < k → k < 256 → is_met bytes k ≡ mem k met) where
-  same_again : (day : List ℕ) (s : State) (w : Word) → well_formed day s.tally s.cargo w ≡ true → is_met_in bytes w ≡ met_again met w
+-- a mark more, and there are as many
+length_marked : (flags : List Bool) (w : Word) → length (marked flags w) ≡ length flags
+unfolding marked
+length_marked flags (vehicle k) = refl
+length_marked flags (stop k) = length-set flags k true
+length_marked flags (tip k) = refl
+length_marked flags rest = refl
+length_marked flags back = refl
+length_marked flags (left k) = length-set flags k true
+length_marked flags stray = refl
+
+-- marks and list agree on every stop's number
+module _ (flags : List Bool) (met : List ℕ) (marks : (k : ℕ) → 0 < k → k < 256 → is_met flags k ≡ mem k met) where
+  same_again : (day : List ℕ) (s : State) (w : Word) → well_formed day s.tally s.cargo w ≡ true → is_met_in flags w ≡ met_again met w
   unfolding is_met_in met_again
   same_again day s (vehicle k) f = refl
   same_again day s (stop k) f = let known = stop_known day s k f in marks k known.0 (omega (arith, known.1))
@@ -65,36 +73,33 @@ module _ (bytes met : List ℕ) (marks : (k : ℕ) → 0 < k → k < 256 → is_
   same_again day s (left k) f = let known = left_known day s k f in marks k known.0 (omega (arith, known.1))
   same_again day s stray f = refl
 
-  -- the fault by the bytes is the fault by the list
-  same_fault : (day : List ℕ) (s : State) (w : Word) → fault_by day bytes s w ≡ fault_at day (walk_of s met) w
+  -- the fault by the marks is the fault by the list
+  same_fault : (day : List ℕ) (s : State) (w : Word) → fault_by day flags s w ≡ fault_at day (walk_of s met) w
   unfolding fault_by formed_fault fault_at
   same_fault day s w = go (well_formed day s.tally s.cargo w) (same_again day s w)
     where
-      go : (f : Bool) → (f ≡ true → is_met_in bytes w ≡ met_again met w)
-          → ◌≡◌ {A = ℕ} (if not f then 7 else if is_met_in bytes w then 8 else formed_fault day s w) (if not f then 7 else if met_again met w then 8 else formed_fault day s w)
+      go : (f : Bool) → (f ≡ true → is_met_in flags w ≡ met_again met w)
+          → ◌≡◌ {A = ℕ} (if not f then 7 else if is_met_in flags w then 8 else formed_fault day s w) (if not f then 7 else if met_again met w then 8 else formed_fault day s w)
       go true same = rw (same refl)
       go false same = refl
 
-  -- one more stop is met; a word that names none marks number 0
-  mark_stop : length bytes ≡ 256 → (k j : ℕ) → 0 < j → j < 256 → is_met (set bytes k 1) j ≡ mem j (k ∷ met)
+  -- one more stop is met
+  mark_stop : length flags ≡ 256 → (k j : ℕ) → 0 < j → j < 256 → is_met (set flags k true) j ≡ mem j (k ∷ met)
   mark_stop long k j h g = go (ℕ_discrete j k)
     where
-      go : Dec (j ≡ k) → is_met (set bytes k 1) j ≡ mem j (k ∷ met)
-      go (yes q) = rw (q, get_or-set_same bytes k 1 0 (omega arith)) (sym (mem_same k k met refl))
-      go (no q) = rw (get_or-set_other bytes k j 1 0 q) (marks j h g ∙ sym (mem_other k j met q))
+      go : Dec (j ≡ k) → is_met (set flags k true) j ≡ mem j (k ∷ met)
+      go (yes q) = rw (q, get_or-set_same flags k true false (omega arith)) (sym (mem_same k k met refl))
+      go (no q) = rw (get_or-set_other flags k j true false q) (marks j h g ∙ sym (mem_other k j met q))
 
-  mark_none : (j : ℕ) → 0 < j → j < 256 → is_met (set bytes 0 1) j ≡ mem j met
-  mark_none j h g = rw (get_or-set_other bytes 0 j 1 0 (λ q. omega arith)) (marks j h g)
-
-  mark_word : length bytes ≡ 256 → (w : Word) → (j : ℕ) → 0 < j → j < 256 → is_met (set bytes (stop_in w) 1) j ≡ mem j (met_after met w)
-  unfolding stop_in met_after
-  mark_word long (vehicle k) = mark_none
+  mark_word : length flags ≡ 256 → (w : Word) → (j : ℕ) → 0 < j → j < 256 → is_met (marked flags w) j ≡ mem j (met_after met w)
+  unfolding marked met_after
+  mark_word long (vehicle k) = marks
   mark_word long (stop k) = mark_stop long k
-  mark_word long (tip k) = mark_none
-  mark_word long rest = mark_none
-  mark_word long back = mark_none
+  mark_word long (tip k) = marks
+  mark_word long rest = marks
+  mark_word long back = marks
   mark_word long (left k) = mark_stop long k
-  mark_word long stray = mark_none
+  mark_word long stray = marks
 
 -- each stop that is met counts as served or left out
 count_word : (day : List ℕ) (s : State) (met : List ℕ) (w : Word) (t : Trip) → Passes day (walk_of s met) w
@@ -114,61 +119,58 @@ count_word day s met (left k) t p c =
 count_word day s met stray t p c = c
 
 -- one word: what is left to check is decided by the fault
-module _ (day plan : List ℕ) (i : ℕ) (s : State) (bytes : List ℕ) (so_far : Reached day plan i s bytes) (here : i < length plan) where
+module _ (day plan : List ℕ) (i : ℕ) (s : State) (flags : List Bool) (so_far : Reached day plan i s flags) (here : i < length plan) where
   abbrev word_here : Word
   word_here = word_of (get_or plan i 0)
 
-  turn : (if eqb (fault_by day bytes s word_here) 0 then check_from day (drop (i + 1) plan) (i + 1) (walk_after day (walk_of s (met_by plan i)) word_here)
-      else refused (fault_by day bytes s word_here) i) ≡ check_from day plan 0 (start day)
+  turn : (if eqb (fault_by day flags s word_here) 0 then check_from day (drop (i + 1) plan) (i + 1) (walk_after day (walk_of s (met_by plan i)) word_here)
+      else refused (fault_by day flags s word_here) i) ≡ check_from day plan 0 (start day)
   unfolding check_from
-  turn = rw (same_fault bytes (met_by plan i) so_far.marks day s word_here, add-one) (sym (rw (drop-cons plan i 0)) ∙ so_far.remains)
+  turn = rw (same_fault flags (met_by plan i) so_far.marks day s word_here, add-one) (sym (rw (drop-cons plan i 0)) ∙ so_far.remains)
 
-  module _ (r : Step) (step : StepOf (fault_by day bytes s word_here) day s word_here r) where
-    pub reached_fault : (r.fault ≡ 0 → ⊥) → refused r.fault i ≡ check_from day plan 0 (start day)
-    reached_fault h = rw (← step.fault_is, ne_eqb _ _ h) at turn
+  abbrev StepsTo : Result State PlanFault → Type 0
+  StepsTo r = StepOf (fault_by day flags s word_here) day s word_here r
 
-    module _ (none : r.fault ≡ 0) where
-      no_fault : fault_by day bytes s word_here ≡ 0
-      no_fault = sym step.fault_is ∙ none
+  pub reached_fault : {f : PlanFault} → StepsTo (Err f) → refused (plan_fault_number f) i ≡ check_from day plan 0 (start day)
+  reached_fault {f} step = rw (← step.fault_is, ne_eqb _ _ (fault_some f)) at turn
 
-      next : Next day s word_here r
-      next = step.next_is no_fault
+  module _ {r : State} (step : StepsTo (Ok r)) where
+    no_fault : fault_by day flags s word_here ≡ 0
+    no_fault = sym step.fault_is
 
-      passed : Passes day (walk_of s (met_by plan i)) word_here
-      passed = fault_passes day _ word_here (sym (same_fault bytes (met_by plan i) so_far.marks day s word_here) ∙ no_fault)
+    passed : Passes day (walk_of s (met_by plan i)) word_here
+    passed = fault_passes day _ word_here (sym (same_fault flags (met_by plan i) so_far.marks day s word_here) ∙ no_fault)
 
-      pub reached_passed : Next day s word_here r × Passes day (walk_of s (met_by plan i)) word_here
-      reached_passed = (next, passed)
+    pub reached_passed : Next day s word_here r × Passes day (walk_of s (met_by plan i)) word_here
+    reached_passed = (step.next_is, passed)
 
-      pub stop_byte : r.stop < 256
-      stop_byte = rw next.stop_is (stop_small _ _ (apart (get_or plan i 0)))
-
-      pub reached_next : (marked : List ℕ) → marked ≡ set bytes r.stop 1 → Reached day plan (i + 1) r.state marked
-      unfolding met_by
-      reached_next marked m =
-          record {
-            remains = rw (next.tally_is, next.cargo_is, next.trip_is, add-one) (rw (no_fault, add-one) at turn);
-            within = within_step day i s so_far.within (met_by plan i) word_here r passed next;
-            bytes = rw m (simp length-set so_far.bytes);
-            marks = rw (m, next.stop_is, add-one) (mark_word bytes (met_by plan i) so_far.marks so_far.bytes word_here);
-            count = rw (next.tally_is, add-one) (count_word day s (met_by plan i) word_here _ passed so_far.count);
-          }
+    pub reached_next : {after : List Bool} → after ≡ marked flags word_here → Reached day plan (i + 1) r after
+    unfolding met_by
+    reached_next m =
+        let next : Next day s word_here r = step.next_is in
+        record {
+          remains = rw (next.tally_is, next.cargo_is, next.trip_is, add-one) (rw (no_fault, add-one) at turn);
+          within = within_step day i s so_far.within (met_by plan i) word_here r passed next;
+          long = rw m (length_marked flags word_here ∙ so_far.long);
+          marks = rw (m, add-one) (mark_word flags (met_by plan i) so_far.marks so_far.long word_here);
+          count = rw (next.tally_is, add-one) (count_word day s (met_by plan i) word_here _ passed so_far.count);
+        }
 
 -- before the first word
-pub reached_start : (day plan : List ℕ) (s : State) (bytes : List ℕ) → walk_of s [] ≡ start day → bytes ≡ none_met → Reached day plan 0 s bytes
+pub reached_start : (day plan : List ℕ) (s : State) (flags : List Bool) → walk_of s [] ≡ start day → flags ≡ none_met → Reached day plan 0 s flags
 unfolding met_by none_met mem
-reached_start day plan s bytes e b =
+reached_start day plan s flags e b =
     record {
       remains = ap (check_from day plan 0) e;
       within =
           within_start day s (ap (λ (x : Walk). x.tally) e) (ap (λ (x : Walk). x.cargo) e) (ap (λ (x : Walk). x.trip) e);
-      bytes = rw b (length-replicate {A = ℕ} 256 0);
-      marks = λ k h g. rw (b, get_or-replicate {A = ℕ} 256 k 0 0 g);
+      long = rw b (length-replicate 256 false);
+      marks = λ k h g. rw (b, get_or-replicate 256 k false false g);
       count = rw (ap (λ (x : Walk). x.tally) e) (omega (arith, unmet_nil (stops day)));
     }
 
 -- at most 4,096 words are behind
-module _ (day plan : List ℕ) (i : ℕ) (s : State) (bytes : List ℕ) (so_far : Reached day plan i s bytes) (short : length plan ≤ 4096) where
+module _ (day plan : List ℕ) (i : ℕ) (s : State) (flags : List Bool) (so_far : Reached day plan i s flags) (short : length plan ≤ 4096) where
   pub reached_small : i < length plan → Within day 4096 s
   reached_small h = within_more day i 4096 s (omega arith) so_far.within
 
@@ -183,9 +185,9 @@ missing u x n e = go (dec_lt 0 u)
     go (yes h) = lt-ltb 0 u h ∙ sym (lt-ltb x n (omega arith))
     go (no h) = le-ltb 0 u (omega arith) ∙ sym (le-ltb x n (omega arith))
 
-pub reached_end : (day plan : List ℕ) (i : ℕ) (s : State) (bytes : List ℕ) (layout : Layout) (answer : List ℕ) → Reached day plan i s bytes → length plan ≤ i
-    → LayoutOf day layout → answer ≡ end_of layout.stops i s.tally → answer ≡ check_from day plan 0 (start day)
+pub reached_end : (day plan : List ℕ) (i : ℕ) (s : State) (flags : List Bool) (n : ℕ) (answer : List ℕ) → Reached day plan i s flags → length plan ≤ i
+    → n ≡ stops day → answer ≡ end_of n i s.tally → answer ≡ check_from day plan 0 (start day)
 unfolding check_from finished end_of
-reached_end day plan i s bytes layout answer so_far h l e =
+reached_end day plan i s flags n answer so_far h l e =
     e
-    ∙ rw (l.stops_are, ← missing _ _ _ so_far.count) (rw (drop_of_length-le plan h) at so_far.remains)
+    ∙ rw (l, ← missing _ _ _ so_far.count) (rw (drop_of_length-le plan h) at so_far.remains)

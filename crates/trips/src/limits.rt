@@ -7,6 +7,32 @@ use crate::cargo::Limits;
 use day::days::Day;
 use rules::walk::Cargo;
 
+// A day with its limits.
+#[derive(Drop)]
+pub struct LimitedDay<'a> {
+    pub day: &'a Day<'a>,
+    pub limits: Limits,
+    pub ghost read: { LimitsOf day.now limits },
+}
+
+impl<'a> LimitedDay<'a> {
+    pub fn new(day: &'a Day<'a>) -> Self
+        ensures { result.day.now ≡ day.now }
+    {
+        LimitedDay {
+            day,
+            limits: day_limits(day),
+        }
+    }
+
+    // Over the load, the day's kg or the day's stops.
+    pub fn is_over(&self, cargo: Cargo) -> bool
+        ensures { result ≡ over_limits self.now.day.now cargo }
+    {
+        exceeds(self.day, self.limits, cargo)
+    }
+}
+
 pub fn day_limits(day: &Day) -> Limits
     ensures { LimitsOf day.now result }
 {

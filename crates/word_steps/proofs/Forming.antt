@@ -1,134 +1,137 @@
 -- Laws of a word's form: which word a number is, whether it has the form where it stands, and its step then. Assumes nothing.
+use Rattle.std.specs.Prelude.{Result, Ok, Err, OnOk}
 use Prim.Native.Nat.{ℕ, ◌+◌, ◌<◌, ◌≤◌}
 use mathlib.Core.Path.{◌≡◌, refl, sym, ◌∙◌}
 use mathlib.Core.Bool.{Bool, true, false, not, ◌&&◌}
 use mathlib.Core.List.{List}
 use native.Mathlib.Omega.{arith}
-use lib.Dec.{eqb, ltb, leb}
-use lib.ListN.{get_or}
-use borrow.Author.Tests.{eq-eqb, ne_eqb, lt-leb, le-leb, not-false}
+use lib.Dec.{eqb, ltb}
+use Rattle.rules.specs.Fields.{tips, stops}
 use Rattle.rules.specs.PlanWords.{Word, vehicle, stop, tip, rest, back, left, stray, stop_word, tip_word, word_of}
 use Rattle.rules.specs.Check.{within, well_formed}
+use Rattle.rules.specs.declared.faults.PlanFault.{PlanFault}
+use Rattle.rules.specs.declared.faults.PlanFault.TheVariants as Faults
 use Rattle.laws.proofs.Tests.{both_true}
-use Rattle.day.specs.Layout.{LayoutOf}
-use Rattle.day.specs.declared.fields.Layout.{Layout}
-use Rattle.word_steps.specs.Steps.{is_met_in, formed_fault, fault_by, StepOf}
+use Rattle.word_steps.specs.Steps.{is_met_in, marked, met_behind, formed_fault, fault_by, StepOf}
 use Rattle.word_steps.specs.declared.steps.State.{State}
-use Rattle.word_steps.specs.declared.steps.Step.{Step}
 use Rattle.word_steps.proofs.Stepping.{step_fault}
 use Rattle.plan_words.specs.Indexes.{IndexFrom}
 use Rattle.plan_words.proofs.WordForms.{stop_indexed, tip_indexed}
 use Rattle.plan_laws.proofs.Passing.{within_both}
-
--- a number from 1 to the most
-pub within_low : (most k : ℕ) → k < 1 → false ≡ within most k
-unfolding within
-within_low most k h = rw (lt-leb 1 k h)
-
-pub within_high : (most k : ℕ) → 1 ≤ k → leb k most ≡ within most k
-unfolding within
-within_high most k h = rw (le-leb 1 k h)
 
 -- the form of each kind, as the code tests it
 module _ (day : List ℕ) (s : State) where
   abbrev formed : Word → Bool
   formed w = well_formed day s.tally s.cargo w
 
-  module _ (layout : Layout) (k : ℕ) (known b : Bool) (l : LayoutOf day layout) where
-    pub stop_formed : known ≡ within layout.stops k → b ≡ (s.tally.inside && known) → b ≡ formed (stop k)
+  module _ (n k : ℕ) (known : Bool) (e : known ≡ within n k) where
+    pub stop_formed : n ≡ stops day → (s.tally.inside && known) ≡ formed (stop k)
     unfolding well_formed
-    stop_formed e f = f ∙ rw (e, l.stops_are)
+    stop_formed l = rw (e, l)
 
-    pub tip_formed : known ≡ within layout.tips k → b ≡ (s.tally.inside && known) → b ≡ formed (tip k)
+    pub tip_formed : n ≡ tips day → (s.tally.inside && known) ≡ formed (tip k)
     unfolding well_formed
-    tip_formed e f = f ∙ rw (e, l.tips_are)
+    tip_formed l = rw (e, l)
 
-    pub left_formed : (out : Bool) → known ≡ within layout.stops k → out ≡ (not s.tally.inside && known) → b ≡ (out && ltb s.tally.last k) → b ≡ formed (left k)
+    pub left_formed : n ≡ stops day → (not s.tally.inside && known && ltb s.tally.last k) ≡ formed (left k)
     unfolding well_formed
-    left_formed out e o f = f ∙ rw (o, e, l.stops_are)
+    left_formed l = rw (e, l)
 
-  pub rest_formed : (b : Bool) → b ≡ s.tally.inside → b ≡ formed rest
+  pub rest_formed : s.tally.inside ≡ formed rest
   unfolding well_formed
-  rest_formed b f = f
+  rest_formed = refl
 
-  pub back_formed : (b : Bool) → b ≡ (s.tally.inside && ltb 0 s.cargo.visits) → b ≡ formed back
+  pub back_formed : (s.tally.inside && ltb 0 s.cargo.visits) ≡ formed back
   unfolding well_formed
-  back_formed b f = f
+  back_formed = refl
 
-  pub vehicle_formed : (k : ℕ) (out b : Bool) → out ≡ (not s.tally.inside && eqb s.tally.last 0) → b ≡ (out && eqb k (s.tally.vehicles + 1)) → b ≡ formed (vehicle k)
+  pub vehicle_formed : (k : ℕ) → (not s.tally.inside && eqb s.tally.last 0 && eqb k (s.tally.vehicles + 1)) ≡ formed (vehicle k)
   unfolding well_formed
-  vehicle_formed k out b o f = f ∙ rw o
+  vehicle_formed k = refl
 
 -- what a form that holds tells
-module _ (most k : ℕ) (known b inside : Bool) (e : known ≡ within most k) (f : b ≡ (inside && known)) (h : not b ≡ false) where
-  known_number : (0 < k) × (k ≤ most)
-  known_number = within_both most k (sym e ∙ (both_true inside known (sym f ∙ not-false b h)).1)
+module _ (n k : ℕ) (known inside : Bool) (e : known ≡ within n k) (h : (inside && known) ≡ true) where
+  known_number : (0 < k) × (k ≤ n)
+  known_number = within_both n k (sym e ∙ (both_true inside known h).1)
 
   pub known_some : 0 < k
   known_some = known_number.0
 
-  pub known_most : k ≤ most
-  known_most = known_number.1
+  pub known_most : {most : ℕ} → n ≡ most → k ≤ most
+  known_most l = omega (arith, known_number.1)
 
--- a stop's number is a byte
-module _ (day : List ℕ) (layout : Layout) (l : LayoutOf day layout) (k : ℕ) (known b : Bool) (e : known ≡ within layout.stops k) (h : not b ≡ false) where
-  pub stop_below : (inside : Bool) → b ≡ (inside && known) → k < 256
-  stop_below inside f = omega (arith, known_most layout.stops k known b inside e f h, l.stops_are)
+  -- a stop's number is small
+  pub known_below : n < 256 → k < 256
+  known_below l = omega (arith, known_number.1)
 
-  pub left_below : (outside out beyond : Bool) → out ≡ (outside && known) → b ≡ (out && beyond) → k < 256
-  left_below outside out beyond o f =
-      let is-out : out ≡ true = (both_true out beyond (sym f ∙ not-false b h)).0 in
-      omega (arith, known_most layout.stops k known out outside e o (rw is-out), l.stops_are)
+-- the number of a stop left out is small
+pub left_below : (n k : ℕ) (known outside beyond : Bool) → known ≡ within n k → (outside && known && beyond) ≡ true → n < 256 → k < 256
+left_below n k known outside beyond e h l = known_below n k known outside e (both_true _ beyond h).0 l
 
 -- a vehicle is out
-pub is_inside : (inside other b : Bool) → b ≡ (inside && other) → not b ≡ false → inside ≡ true
-is_inside inside other b f h = (both_true inside other (sym f ∙ not-false b h)).0
-
--- a stop that is met already, by its byte
-module _ (met : List ℕ) (k : ℕ) where
-  pub stop_met : (get_or met k 0 ≡ 0 → ⊥) → is_met_in met (stop k) ≡ true
-  unfolding is_met_in
-  stop_met h = rw (ne_eqb _ _ h)
-
-  pub stop_unmet : get_or met k 0 ≡ 0 → is_met_in met (stop k) ≡ false
-  unfolding is_met_in
-  stop_unmet h = rw (eq-eqb _ _ h)
-
-  pub left_met : (get_or met k 0 ≡ 0 → ⊥) → is_met_in met (left k) ≡ true
-  unfolding is_met_in
-  left_met h = rw (ne_eqb _ _ h)
-
-  pub left_unmet : get_or met k 0 ≡ 0 → is_met_in met (left k) ≡ false
-  unfolding is_met_in
-  left_unmet h = rw (eq-eqb _ _ h)
+pub is_inside : (inside other : Bool) → (inside && other) ≡ true → inside ≡ true
+is_inside inside other h = (both_true inside other h).0
 
 -- misformed, met again, or what the word does
-module _ (day met : List ℕ) (s : State) (w : Word) (r : Step) (b : Bool) (e : b ≡ well_formed day s.tally s.cargo w) where
-  pub misformed : not b ≡ true → r.fault ≡ 7 → StepOf (fault_by day met s w) day s w r
+module _ (day : List ℕ) (met : List Bool) (s : State) (w : Word) (b : Bool) (e : b ≡ well_formed day s.tally s.cargo w) where
+  pub misformed : b ≡ false → StepOf (fault_by day met s w) day s w (Err Faults.Form)
   unfolding fault_by
-  misformed h f = step_fault day s w r 7 (rw (← e, h)) (omega arith) f
+  misformed h = step_fault day s w Faults.Form (rw (← e, h) refl)
 
-  pub met_again_lem : not b ≡ false → is_met_in met w ≡ true → r.fault ≡ 8 → StepOf (fault_by day met s w) day s w r
+  pub met_again_lem : b ≡ true → is_met_in met w ≡ true → StepOf (fault_by day met s w) day s w (Err Faults.Stop)
   unfolding fault_by
-  met_again_lem h m f = step_fault day s w r 8 (rw (← e, h, m)) (omega arith) f
+  met_again_lem h m = step_fault day s w Faults.Stop (rw (← e, h, m) refl)
 
-  pub goes_on_lem : not b ≡ false → is_met_in met w ≡ false → StepOf (formed_fault day s w) day s w r → StepOf (fault_by day met s w) day s w r
+  pub goes_on_lem : (r : Result State PlanFault) → b ≡ true → is_met_in met w ≡ false → StepOf (formed_fault day s w) day s w r → StepOf (fault_by day met s w) day s w r
   unfolding fault_by
-  goes_on_lem h m x = rw (← e, h, m) x
+  goes_on_lem r h m x = rw (← e, h, m) x
 
 -- the step of the word that a number is
-module _ (day met : List ℕ) (s : State) (w : ℕ) (r : Step) where
+module _ (day : List ℕ) (met : List Bool) (s : State) (w : ℕ) (r : Result State PlanFault) where
   pub as_word : (x : Word) → word_of w ≡ x → StepOf (fault_by day met s x) day s x r → StepOf (fault_by day met s (word_of w)) day s (word_of w) r
   as_word x e h = rw e h
 
-  pub as_stray : word_of w ≡ stray → r.fault ≡ 7 → StepOf (fault_by day met s (word_of w)) day s (word_of w) r
-  unfolding well_formed
-  as_stray e f = rw e (misformed day met s stray r false refl refl f)
+pub as_stray : (day : List ℕ) (met : List Bool) (s : State) (w : ℕ) → word_of w ≡ stray → StepOf (fault_by day met s (word_of w)) day s (word_of w) (Err Faults.Form)
+unfolding well_formed
+as_stray day met s w e = rw e (misformed day met s stray false refl refl)
+
+-- and the marks behind it
+module _ (met : List Bool) (r : Result State PlanFault) where
+  pub met_as : (w : ℕ) (x : Word) {m : List Bool} → word_of w ≡ x → m ≡ met_behind met x r → m ≡ met_behind met (word_of w) r
+  met_as w x e h = rw e h
+
+  -- a word that names no stop leaves them as they were
+  pub unmarked : (x : Word) → met ≡ marked met x → met ≡ met_behind met x r
+  unmarked x e = go r
+    where
+      go : (r : Result State PlanFault) → met ≡ met_behind met x r
+      go (Ok next) = e
+      go (Err f) = refl
+
+-- a fact that holds at any result holds of one without a fault
+on_ok : (P : Type 0) (r : Result State PlanFault) → P → OnOk r P
+on_ok P (Ok next) p = p
+on_ok P (Err f) p = tt
+
+-- the same of a word of a vehicle that is out
+module _ (day : List ℕ) (met : List Bool) (s : State) (w : ℕ) (r : Result State PlanFault) (x : Word) (e : word_of w ≡ x) where
+  -- whatever stops were met
+  pub any_word : ((met : List Bool) → StepOf (fault_by day met s x) day s x r) → StepOf (fault_by day met s (word_of w)) day s (word_of w) r
+  any_word h = as_word day met s w r x e (h met)
+
+  pub task_word : StepOf (fault_by day met s x) day s x r → OnOk r (StepOf (fault_by day met s (word_of w)) day s (word_of w) r)
+  task_word h = on_ok (StepOf (fault_by day met s (word_of w)) day s (word_of w) r) r (as_word day met s w r x e h)
+
+  pub task_any : ((met : List Bool) → StepOf (fault_by day met s x) day s x r) → OnOk r (StepOf (fault_by day met s (word_of w)) day s (word_of w) r)
+  task_any h = task_word (h met)
+
+pub task_met : (met : List Bool) (r : Result State PlanFault) (w : ℕ) (x : Word) {m : List Bool} → word_of w ≡ x → m ≡ met_behind met x r → OnOk r (m ≡ met_behind met (word_of w) r)
+task_met met r w x {m} e h = on_ok (m ≡ met_behind met (word_of w) r) r (met_as met r w x e h)
 
 -- a word by its distance from the first stop's word, or from the first tip's
-module _ (day : List ℕ) (layout : Layout) (l : LayoutOf day layout) (w r : ℕ) where
-  pub stop_ranged : IndexFrom (stop_word 1) w r → r < layout.stops → word_of w ≡ stop (r + 1)
-  stop_ranged e h = stop_indexed w r (omega (arith, l.stops_are)) e
+module _ (w n r : ℕ) where
+  pub stop_ranged : n < 256 → IndexFrom (stop_word 1) w r → r < n → word_of w ≡ stop (r + 1)
+  stop_ranged l e h = stop_indexed w r (omega arith) e
 
-  pub tip_ranged : IndexFrom (tip_word 1) w r → r < layout.tips → word_of w ≡ tip (r + 1)
-  tip_ranged e h = tip_indexed w r (omega (arith, l.tips_are)) e
+  pub tip_ranged : n < 16 → IndexFrom (tip_word 1) w r → r < n → word_of w ≡ tip (r + 1)
+  tip_ranged l e h = tip_indexed w r (omega arith) e

@@ -1,32 +1,37 @@
 -- Laws of the steps: one for each way through what a word does, where it has the form and names no stop that was met before.
 -- Assumes nothing.
+use Rattle.std.specs.Prelude.{Ok, Err}
 use Prim.Native.Nat.{ℕ, ◌+◌, ◌<◌, ◌≤◌}
 use mathlib.Core.Path.{◌≡◌, refl, sym, ◌∙◌}
 use mathlib.Core.Bool.{Bool, true, false}
 use mathlib.Core.List.{List}
 use native.Mathlib.Omega.{arith}
 use borrow.Author.Tests.{lt-ltb, le-ltb}
+use Rattle.rules.specs.Faults.{plan_fault_number}
 use Rattle.rules.specs.Fields.{stop_place, quantity}
 use Rattle.rules.specs.PlanWords.{Word, vehicle, stop, tip, rest, back, left}
 use Rattle.rules.specs.Cargo.{empty, loaded, emptied, over_limits, cargo_fault, cargo_after}
 use Rattle.rules.specs.Trip.{leaving, arrival, driven, visited, rested_at, visit_fault, rest_fault, back_fault}
 use Rattle.rules.specs.Check.{one_out, one_served, one_left, one_back, tally_after}
+use Rattle.rules.specs.declared.faults.PlanFault.{PlanFault}
+use Rattle.rules.specs.declared.faults.PlanFault.TheVariants as Faults
 use Rattle.rules.specs.declared.walk.Cargo.{Cargo}
 use Rattle.rules.specs.declared.walk.Tally.{Tally}
 use Rattle.rules.specs.declared.walk.Trip.{Trip}
-use Rattle.trips.specs.Trips.{DrivenTo}
-use Rattle.trips.specs.declared.trip.Driven.{Driven}
-use Rattle.word_steps.specs.Steps.{stop_in, formed_fault, StepOf, Within}
+use Rattle.trips.specs.Drives.{DrivesTo}
+use Rattle.word_steps.specs.Steps.{formed_fault, Next, StepOf, Within}
 use Rattle.word_steps.specs.declared.steps.State.{State}
-use Rattle.word_steps.specs.declared.steps.Step.{Step}
 
--- a fault other than 0 leaves no state to speak of
-pub step_fault : (day : List ℕ) (s : State) (w : Word) (r : Step) (f : ℕ) {fault : ℕ} → fault ≡ f → 0 < f → r.fault ≡ f → StepOf fault day s w r
-step_fault day s w r f e h g = record { fault_is = g ∙ sym e; next_is = λ z. absurd (omega arith) }
+-- a fault leaves no state to speak of
+pub step_fault : (day : List ℕ) (s : State) (w : Word) (f : PlanFault) {fault : ℕ} → plan_fault_number f ≡ fault → StepOf fault day s w (Err f)
+step_fault day s w f e = record { fault_is = e; next_is = tt }
 
--- a step in its parts
-abbrev step_to : (fault named : ℕ) → Tally → Cargo → Trip → Step
-step_to fault named tally cargo trip = record { fault = fault; stop = named; state = record { tally = tally; cargo = cargo; trip = trip } }
+-- a drive without a fault ends in its trip
+drives_on : {fault : ℕ} {trip ends : Trip} → DrivesTo fault ends (Ok trip) → trip ≡ ends
+drives_on d = d.trip_is (sym d.fault_is)
+
+abbrev state_of : Tally → Cargo → Trip → State
+state_of tally cargo trip = record { tally = tally; cargo = cargo; trip = trip }
 
 module _ (day : List ℕ) (s : State) where
   -- B: over a limit, or driven to
@@ -35,77 +40,86 @@ module _ (day : List ℕ) (s : State) where
     over_is : over_limits day (loaded s.cargo (quantity day (stop_place day k))) ≡ over
     over_is = rw (← e, ← c) (sym u)
 
-    pub stop_over : (r : Step) → over ≡ true → r.fault ≡ 9 → StepOf (formed_fault day s (stop k)) day s (stop k) r
+    pub stop_over : over ≡ true → StepOf (formed_fault day s (stop k)) day s (stop k) (Err Faults.Limit)
     unfolding formed_fault cargo_fault
-    stop_over r h f = step_fault day s (stop k) r 9 (rw (over_is, h)) (omega arith) f
+    stop_over h = step_fault day s (stop k) Faults.Limit (rw (over_is, h) refl)
 
-    pub stop_served : (drive : Driven) (tally : Tally) (trip : Trip) → over ≡ false
-        → DrivenTo (visit_fault day s.trip (stop_place day k)) (visited day s.trip (stop_place day k)) drive
-        → tally ≡ one_served s.tally → trip ≡ drive.trip
-        → StepOf (formed_fault day s (stop k)) day s (stop k) (step_to drive.fault k tally cargo trip)
-    unfolding formed_fault cargo_fault cargo_after tally_after stop_in
-    stop_served drive tally trip h d y t =
-        rw (over_is, h)
-        (record { fault_is = d.fault_is; next_is = λ f. record { stop_is = refl; tally_is = y; cargo_is = c ∙ rw e; trip_is = t ∙ d.trip_is f } })
+    module _ (h : over ≡ false) where
+      pub stop_missed : {f : PlanFault} → DrivesTo (visit_fault day s.trip (stop_place day k)) (visited day s.trip (stop_place day k)) (Err f)
+          → StepOf (formed_fault day s (stop k)) day s (stop k) (Err f)
+      unfolding formed_fault cargo_fault
+      stop_missed {f} d = step_fault day s (stop k) f (rw (over_is, h) d.fault_is)
+
+      pub stop_served : {trip : Trip} (tally : Tally) → DrivesTo (visit_fault day s.trip (stop_place day k)) (visited day s.trip (stop_place day k)) (Ok trip)
+          → tally ≡ one_served s.tally
+          → StepOf (formed_fault day s (stop k)) day s (stop k) (Ok (state_of tally cargo trip))
+      unfolding formed_fault cargo_fault cargo_after tally_after
+      stop_served tally d y =
+          record { fault_is = rw (over_is, h) d.fault_is; next_is = record { tally_is = y; cargo_is = c ∙ rw e; trip_is = drives_on d } }
 
   -- C: driven to
-  pub tip_emptied : (k : ℕ) (tally : Tally) (cargo : Cargo) (trip : Trip) (drive : Driven)
-      → DrivenTo (visit_fault day s.trip k) (visited day s.trip k) drive
-      → tally ≡ s.tally → cargo ≡ emptied s.cargo → trip ≡ drive.trip
-      → StepOf (formed_fault day s (tip k)) day s (tip k) (step_to drive.fault 0 tally cargo trip)
-  unfolding formed_fault cargo_fault cargo_after tally_after stop_in
-  tip_emptied k tally cargo trip drive d y c t =
-      record { fault_is = d.fault_is; next_is = λ f. record { stop_is = refl; tally_is = y; cargo_is = c; trip_is = t ∙ d.trip_is f } }
+  pub tip_missed : (k : ℕ) {f : PlanFault} → DrivesTo (visit_fault day s.trip k) (visited day s.trip k) (Err f)
+      → StepOf (formed_fault day s (tip k)) day s (tip k) (Err f)
+  unfolding formed_fault cargo_fault
+  tip_missed k {f} d = step_fault day s (tip k) f d.fault_is
+
+  pub tip_emptied : (k : ℕ) {trip : Trip} (cargo : Cargo) → DrivesTo (visit_fault day s.trip k) (visited day s.trip k) (Ok trip)
+      → cargo ≡ emptied s.cargo
+      → StepOf (formed_fault day s (tip k)) day s (tip k) (Ok (state_of s.tally cargo trip))
+  unfolding formed_fault cargo_fault cargo_after tally_after
+  tip_emptied k cargo d c =
+      record { fault_is = d.fault_is; next_is = record { tally_is = refl; cargo_is = c; trip_is = drives_on d } }
 
   -- D: a rest taken
-  pub rest_taken : (tally : Tally) (cargo : Cargo) (trip : Trip) (drive : Driven) → DrivenTo (rest_fault day s.trip) (rested_at day s.trip) drive
-      → tally ≡ s.tally → cargo ≡ s.cargo → trip ≡ drive.trip
-      → StepOf (formed_fault day s rest) day s rest (step_to drive.fault 0 tally cargo trip)
-  unfolding formed_fault cargo_fault cargo_after tally_after stop_in
-  rest_taken tally cargo trip drive d y c t =
-      record { fault_is = d.fault_is; next_is = λ f. record { stop_is = refl; tally_is = y; cargo_is = c; trip_is = t ∙ d.trip_is f } }
+  pub rest_missed : {f : PlanFault} → DrivesTo (rest_fault day s.trip) (rested_at day s.trip) (Err f) → StepOf (formed_fault day s rest) day s rest (Err f)
+  unfolding formed_fault cargo_fault
+  rest_missed {f} d = step_fault day s rest f d.fault_is
+
+  pub rest_taken : {trip : Trip} → DrivesTo (rest_fault day s.trip) (rested_at day s.trip) (Ok trip)
+      → StepOf (formed_fault day s rest) day s rest (Ok (state_of s.tally s.cargo trip))
+  unfolding formed_fault cargo_fault cargo_after tally_after
+  rest_taken d = record { fault_is = d.fault_is; next_is = record { tally_is = refl; cargo_is = refl; trip_is = drives_on d } }
 
   -- E: back with load, at fault by the minute, or back
-  pub back_loaded : (r : Step) → 0 < s.cargo.load → r.fault ≡ 10 → StepOf (formed_fault day s back) day s back r
+  pub back_loaded : 0 < s.cargo.load → StepOf (formed_fault day s back) day s back (Err Faults.Load)
   unfolding formed_fault cargo_fault
-  back_loaded r h f = step_fault day s back r 10 (rw (lt-ltb _ _ h)) (omega arith) f
+  back_loaded h = step_fault day s back Faults.Load (rw (lt-ltb _ _ h) refl)
 
-  module _ (drive : Driven) (unladen : s.cargo.load ≤ 0)
-      (d : DrivenTo (back_fault day s.trip) (driven day s.trip 0 (arrival day s.trip 0)) drive) where
-    back_fault_lem : drive.fault ≡ formed_fault day s back
+  module _ (unladen : s.cargo.load ≤ 0) where
+    pub back_missed : {f : PlanFault} → DrivesTo (back_fault day s.trip) (driven day s.trip 0 (arrival day s.trip 0)) (Err f)
+        → StepOf (formed_fault day s back) day s back (Err f)
     unfolding formed_fault cargo_fault
-    back_fault_lem = rw (le-ltb _ _ unladen) d.fault_is
+    back_missed {f} d = step_fault day s back f (rw (le-ltb _ _ unladen) d.fault_is)
 
-    pub back_refused : (r : Step) → (drive.fault ≡ 0 → ⊥) → r.fault ≡ drive.fault → StepOf (formed_fault day s back) day s back r
-    back_refused r h f = step_fault day s back r drive.fault (sym back_fault_lem) (omega arith) f
-
-    module _ (none : drive.fault ≡ 0) (trip : Trip) (t : trip ≡ drive.trip) where
-      home : trip ≡ driven day s.trip 0 (arrival day s.trip 0)
-      home = t ∙ d.trip_is (sym d.fault_is ∙ none)
-
-      pub back_home : (tally : Tally) (cargo : Cargo) → tally ≡ one_back s.tally trip.distance → cargo ≡ s.cargo
-          → StepOf (formed_fault day s back) day s back (step_to 0 0 tally cargo trip)
-      unfolding cargo_after tally_after stop_in
-      back_home tally cargo y c =
+    module _ {trip : Trip} (d : DrivesTo (back_fault day s.trip) (driven day s.trip 0 (arrival day s.trip 0)) (Ok trip)) where
+      pub back_home : (tally : Tally) → tally ≡ one_back s.tally trip.distance
+          → StepOf (formed_fault day s back) day s back (Ok (state_of tally s.cargo trip))
+      unfolding formed_fault cargo_fault cargo_after tally_after
+      back_home tally y =
           record {
-            fault_is = sym none ∙ back_fault_lem;
-            next_is = λ f. record { stop_is = refl; tally_is = y ∙ rw home; cargo_is = c; trip_is = home };
+            fault_is = rw (le-ltb _ _ unladen) d.fault_is;
+            next_is = record { tally_is = y ∙ rw (drives_on d); cargo_is = refl; trip_is = drives_on d };
           }
 
       -- the distance of all vehicles fits
       pub home_fits : Within day 4096 s → s.tally.inside ≡ true → s.tally.distance + trip.distance < 4294967296
-      home_fits h i = rw home (omega (arith, h.driven i))
+      home_fits h i = rw (drives_on d) (omega (arith, h.driven i))
 
   -- A: a vehicle leaves
-  pub vehicle_leaves : (k : ℕ) (tally : Tally) (cargo : Cargo) (trip : Trip) → tally ≡ one_out s.tally → cargo ≡ empty → trip ≡ leaving day
-      → StepOf (formed_fault day s (vehicle k)) day s (vehicle k) (step_to 0 0 tally cargo trip)
-  unfolding formed_fault cargo_fault cargo_after tally_after stop_in
-  vehicle_leaves k tally cargo trip y c t =
-      record { fault_is = refl; next_is = λ f. record { stop_is = refl; tally_is = y; cargo_is = c; trip_is = t } }
+  pub vehicle_leaves : (tally : Tally) (cargo : Cargo) (trip : Trip) → tally ≡ one_out s.tally → cargo ≡ empty → trip ≡ leaving day
+      → (k : ℕ) → Next day s (vehicle k) (state_of tally cargo trip)
+  unfolding cargo_after tally_after
+  vehicle_leaves tally cargo trip y c t k = record { tally_is = y; cargo_is = c; trip_is = t }
+
+  pub vehicle_out : (k : ℕ) (r : State) → ((k : ℕ) → Next day s (vehicle k) r) → StepOf (formed_fault day s (vehicle k)) day s (vehicle k) (Ok r)
+  unfolding formed_fault cargo_fault
+  vehicle_out k r n = record { fault_is = refl; next_is = n k }
 
   -- F: a stop is left out
-  pub stop_left : (k : ℕ) (tally : Tally) (cargo : Cargo) (trip : Trip) → tally ≡ one_left s.tally k → cargo ≡ s.cargo → trip ≡ s.trip
-      → StepOf (formed_fault day s (left k)) day s (left k) (step_to 0 k tally cargo trip)
-  unfolding formed_fault cargo_fault cargo_after tally_after stop_in
-  stop_left k tally cargo trip y c t =
-      record { fault_is = refl; next_is = λ f. record { stop_is = refl; tally_is = y; cargo_is = c; trip_is = t } }
+  pub left_over : (k : ℕ) (r : State) → ((day : List ℕ) → Next day s (left k) r) → StepOf (formed_fault day s (left k)) day s (left k) (Ok r)
+  unfolding formed_fault cargo_fault
+  left_over k r n = record { fault_is = refl; next_is = n day }
+
+pub stop_left : (s : State) (k : ℕ) (tally : Tally) → tally ≡ one_left s.tally k → (day : List ℕ) → Next day s (left k) (state_of tally s.cargo s.trip)
+unfolding cargo_after tally_after
+stop_left s k tally y day = record { tally_is = y; cargo_is = refl; trip_is = refl }

@@ -1,188 +1,163 @@
 // A word of the plan: its form, then whether the stop that it names was met before, then what the word does.
-ghost use Rattle.std.specs.Prelude.{◌≡◌, ◌&&◌};
+ghost use Rattle.std.specs.Prelude.{◌≡◌, Bool, List, OnOk};
 ghost use Rattle.rules.specs.PlanWords.{vehicle, stop, tip, rest, back, left, word_of};
 ghost use Rattle.rules.specs.Check.{within};
-ghost use Rattle.day.specs.Layout.{LayoutOf};
-ghost use Rattle.trips.specs.Trips.{LimitsOf};
-ghost use Rattle.word_steps.specs.Steps.{fault_by, StepOf, Within};
+ghost use Rattle.word_steps.specs.Steps.{fault_by, met_behind, StepOf, Within};
 
-use crate::steps::{
-    State, Step, at_fault, come_back, empty_out, leave_out, serve, set_out, take_rest,
-};
-use trips::cargo::Limits;
-
-fn both(a: bool, b: bool) -> bool
-    ensures { result ≡ (a && b) }
-{
-    if a { b } else { false }
-}
+use crate::steps::{State, come_back, empty_out, leave_out, serve, set_out, take_rest};
+use day::days::Day;
+use rules::faults::PlanFault;
+use trips::limits::LimitedDay;
 
 // A number from 1 to the most.
 fn is_within(most: usize, k: usize) -> bool
     ensures { result ≡ within most k }
 {
-    if k < 1 {
-        return false;
-    }
-    k <= most
+    (1 <= k) & (k <= most)
 }
 
 fn stop_word(
-    day: &[u32],
-    layout: day::fields::Layout,
-    limits: Limits,
+    limited: &LimitedDay,
     s: State,
-    met: &[u8; 256],
+    met: &mut [bool; 256],
     number: usize,
-) -> Step
-    requires { LayoutOf day.now layout × LimitsOf day.now limits × Within day.now 4096 s }
-    ensures { StepOf (fault_by day.now met.now s (stop number)) day.now s (stop number) result }
+) -> Result<State, PlanFault>
+    requires { Within limited.now.day.now 4096 s }
+    ensures step { StepOf (fault_by limited.now.day.now met.old s (stop number)) limited.now.day.now s (stop number) result }
+    ensures met { met.new ≡ met_behind met.old (stop number) result }
 {
-    if !both(s.tally.inside, is_within(layout.stops, number)) {
-        return at_fault(7);
+    if !(s.tally.inside & is_within(limited.day.stops(), number)) {
+        return Err(PlanFault::Form);
     }
-    if met[number] != 0 {
-        return at_fault(8);
+    if met[number] {
+        return Err(PlanFault::Stop);
     }
-    serve(day, layout, limits, s, number)
+    let state = serve(limited, s, number)?;
+    met[number] = true;
+    Ok(state)
 }
 
-fn tip_word(
-    day: &[u32],
-    layout: day::fields::Layout,
-    s: State,
-    met: &[u8; 256],
-    number: usize,
-) -> Step
-    requires { LayoutOf day.now layout × Within day.now 4096 s }
-    ensures { StepOf (fault_by day.now met.now s (tip number)) day.now s (tip number) result }
+fn tip_word(day: &Day, s: State, number: usize) -> Result<State, PlanFault>
+    requires { Within day.now 4096 s }
+    ensures { (met : List Bool) → StepOf (fault_by day.now met s (tip number)) day.now s (tip number) result }
 {
-    if !both(s.tally.inside, is_within(layout.tips, number)) {
-        return at_fault(7);
+    if !(s.tally.inside & is_within(day.tips(), number)) {
+        return Err(PlanFault::Form);
     }
-    empty_out(day, layout, s, number)
+    empty_out(day, s, number)
 }
 
-fn rest_word(day: &[u32], layout: day::fields::Layout, s: State, met: &[u8; 256]) -> Step
-    requires { LayoutOf day.now layout × Within day.now 4096 s }
-    ensures { StepOf (fault_by day.now met.now s rest) day.now s rest result }
+fn rest_word(day: &Day, s: State) -> Result<State, PlanFault>
+    requires { Within day.now 4096 s }
+    ensures { (met : List Bool) → StepOf (fault_by day.now met s rest) day.now s rest result }
 {
     if !s.tally.inside {
-        return at_fault(7);
+        return Err(PlanFault::Form);
     }
-    take_rest(day, layout, s)
+    take_rest(day, s)
 }
 
-fn back_word(day: &[u32], layout: day::fields::Layout, s: State, met: &[u8; 256]) -> Step
-    requires { LayoutOf day.now layout × Within day.now 4096 s }
-    ensures { StepOf (fault_by day.now met.now s back) day.now s back result }
+fn back_word(day: &Day, s: State) -> Result<State, PlanFault>
+    requires { Within day.now 4096 s }
+    ensures { (met : List Bool) → StepOf (fault_by day.now met s back) day.now s back result }
 {
-    if !both(s.tally.inside, 0 < s.cargo.visits) {
-        return at_fault(7);
+    if !(s.tally.inside & (0 < s.cargo.visits)) {
+        return Err(PlanFault::Form);
     }
-    come_back(day, layout, s)
+    come_back(day, s)
 }
 
-pub fn vehicle_word(
-    day: &[u32],
-    layout: day::fields::Layout,
-    s: State,
-    met: &[u8; 256],
-    number: u32,
-) -> Step
-    requires { LayoutOf day.now layout × Within day.now 4096 s }
-    ensures { StepOf (fault_by day.now met.now s (vehicle number)) day.now s (vehicle number) result }
+pub fn vehicle_word(day: &Day, s: State, number: u32) -> Result<State, PlanFault>
+    requires { Within day.now 4096 s }
+    ensures { (met : List Bool) → StepOf (fault_by day.now met s (vehicle number)) day.now s (vehicle number) result }
 {
     let y = s.tally;
-    if !both(both(!y.inside, y.last == 0), number == y.vehicles + 1) {
-        return at_fault(7);
+    if !(!y.inside & (y.last == 0) & (number == y.vehicles + 1)) {
+        return Err(PlanFault::Form);
     }
-    set_out(day, layout, s, number)
+    Ok(set_out(day, s))
 }
 
 pub fn left_word(
-    day: &[u32],
-    layout: day::fields::Layout,
+    day: &Day,
     s: State,
-    met: &[u8; 256],
+    met: &mut [bool; 256],
     number: u32,
-) -> Step
-    requires { LayoutOf day.now layout × Within day.now 4096 s }
-    ensures { StepOf (fault_by day.now met.now s (left number)) day.now s (left number) result }
+) -> Result<State, PlanFault>
+    requires { Within day.now 4096 s }
+    ensures step { StepOf (fault_by day.now met.old s (left number)) day.now s (left number) result }
+    ensures met { met.new ≡ met_behind met.old (left number) result }
 {
     let y = s.tally;
     let at = number as usize;
-    if !both(
-        both(!y.inside, is_within(layout.stops, at)),
-        y.last < number,
-    ) {
-        return at_fault(7);
+    if !(!y.inside & is_within(day.stops(), at) & (y.last < number)) {
+        return Err(PlanFault::Form);
     }
-    if met[at] != 0 {
-        return at_fault(8);
+    if met[at] {
+        return Err(PlanFault::Stop);
     }
-    leave_out(day, s, number)
+    met[at] = true;
+    Ok(leave_out(s, number))
 }
 
 // The step of a word, the frequent kinds first.
 pub fn word_step(
-    day: &[u32],
-    layout: day::fields::Layout,
-    limits: Limits,
+    limited: &LimitedDay,
     s: State,
-    met: &[u8; 256],
+    met: &mut [bool; 256],
     w: u32,
-) -> Step
-    requires { LayoutOf day.now layout × LimitsOf day.now limits × Within day.now 4096 s }
-    ensures { StepOf (fault_by day.now met.now s (word_of w)) day.now s (word_of w) result }
+) -> Result<State, PlanFault>
+    requires { Within limited.now.day.now 4096 s }
+    ensures step { StepOf (fault_by limited.now.day.now met.old s (word_of w)) limited.now.day.now s (word_of w) result }
+    ensures met { met.new ≡ met_behind met.old (word_of w) result }
 {
     let k = plan_words::number(w);
     if plan_words::is_stop(w) {
-        return stop_word(day, layout, limits, s, met, k as usize);
+        return stop_word(limited, s, met, k as usize);
     }
     if plan_words::is_tip(w) {
-        return tip_word(day, layout, s, met, k as usize);
+        return tip_word(limited.day, s, k as usize);
     }
     if plan_words::is_rest(w) {
-        return rest_word(day, layout, s, met);
+        return rest_word(limited.day, s);
     }
     if plan_words::is_back(w) {
-        return back_word(day, layout, s, met);
+        return back_word(limited.day, s);
     }
     if plan_words::is_vehicle(w) {
-        return vehicle_word(day, layout, s, met, k);
+        return vehicle_word(limited.day, s, k);
     }
     if plan_words::is_left(w) {
-        return left_word(day, layout, s, met, k);
+        return left_word(limited.day, s, met, k);
     }
-    at_fault(7)
+    Err(PlanFault::Form)
 }
 
 // The step of a word of a vehicle that is out, the frequent kinds first. Another word's step is at fault here, whatever it is.
 pub fn task_step(
-    day: &[u32],
-    layout: day::fields::Layout,
-    limits: Limits,
+    limited: &LimitedDay,
     s: State,
-    met: &[u8; 256],
+    met: &mut [bool; 256],
     w: u32,
-) -> Step
-    requires { LayoutOf day.now layout × LimitsOf day.now limits × Within day.now 4096 s }
-    ensures { result.fault ≡ 0 → StepOf (fault_by day.now met.now s (word_of w)) day.now s (word_of w) result }
+) -> Result<State, PlanFault>
+    requires { Within limited.now.day.now 4096 s }
+    ensures step { OnOk result (StepOf (fault_by limited.now.day.now met.old s (word_of w)) limited.now.day.now s (word_of w) result) }
+    ensures met { OnOk result (met.new ≡ met_behind met.old (word_of w) result) }
 {
+    let day = limited.day;
     let stop = plan_words::stop_index(w) as usize;
-    if stop < layout.stops {
-        return stop_word(day, layout, limits, s, met, stop + 1);
+    if stop < day.stops() {
+        return stop_word(limited, s, met, stop + 1);
     }
     let tip = plan_words::tip_index(w) as usize;
-    if tip < layout.tips {
-        return tip_word(day, layout, s, met, tip + 1);
+    if tip < day.tips() {
+        return tip_word(day, s, tip + 1);
     }
     if plan_words::is_rest(w) {
-        return rest_word(day, layout, s, met);
+        return rest_word(day, s);
     }
     if plan_words::is_back(w) {
-        return back_word(day, layout, s, met);
+        return back_word(day, s);
     }
-    at_fault(7)
+    Err(PlanFault::Form)
 }

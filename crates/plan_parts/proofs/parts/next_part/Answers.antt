@@ -1,18 +1,11 @@
--- `plan_parts::parts::next_part` meets its contract: a vehicle leaves, or a stop is left out.
-use native.Mathlib.Omega.{arith}
-use borrow.Author.Rules.{rules}
-use Rattle.plan_words.proofs.WordForms.{vehicle_told, left_told}
-use Rattle.plan_parts.proofs.GoingThrough.{part_byte, part_next, part_out}
+use Rattle.std.proofs.Common.{rules, ◌≡◌, ◌+◌, ◌<◌, ◌≤◌, length, IfSome, ℕ, ◌-◌, ◌*◌, ◌/◌, ◌%◌, Bool, true, false, nat_eq, nat_lt, List, [], ◌∷◌, ◌++◌, slice_index_or, slice_set, bit_and, bit_or, Fits, w8, w32, w64, Bor, MutBor}
+use Rattle.plan_parts.specs.Walked.{out_with, Leaves, PartTo, Reached, ToldAll}
 use Rattle.plan_parts.proofs.parts.next_part.Goals as goal
 
-pub bounds-met-at : goal.bounds-met-at
-bounds-met-at c = search (part_byte, vehicle_told)
-
+-- src/parts.rt:77:9
 pub round-requires : goal.round-requires
-round-requires c = (search rules, search rules, search rules, search rules, search (part_out, vehicle_told))
+round-requires c = ?
 
-pub bounds-met-at-then-is_left : goal.bounds-met-at-then-is_left
-bounds-met-at-then-is_left c = search (part_byte, left_told)
-
+-- src/parts.rt:81:9
 pub returns-then-is_left : goal.returns-then-is_left
-returns-then-is_left c = λ e. record { more = omega arith; most = omega arith; reached = search (part_next, left_told) }
+returns-then-is_left c = ?

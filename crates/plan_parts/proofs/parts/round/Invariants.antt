@@ -1,11 +1,6 @@
 -- `plan_parts::parts::round` meets its contract: a vehicle is out, with no word at fault so far.
-use Prim.Native.Nat.{◌≤◌, ◌-◌}
-use lib.ListN.{length}
 use Rattle.plan_parts.specs.Walked.{out_with, Reached}
 use Rattle.plan_parts.proofs.parts.round.Given as goal
 
 abbrev pub invariant-loop-i : goal.invariant-loop-i
-invariant-loop-i l = (l.from ≤ l.i) × (l.i ≤ length l.plan) × Reached l.day l.plan l.i (out_with l.y l.cargo l.trip) l.met
-
-abbrev pub decreases-loop-i : goal.decreases-loop-i
-decreases-loop-i l = length l.plan - l.i
+invariant-loop-i l = Reached l.limited.day l.plan l.i (out_with l.y l.cargo l.trip) l.met

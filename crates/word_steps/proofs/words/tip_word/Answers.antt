@@ -4,12 +4,12 @@ use Rattle.word_steps.proofs.Forming.{tip_formed, known_some, known_most, misfor
 use Rattle.word_steps.specs.Steps.{is_met_in}
 use Rattle.word_steps.proofs.words.tip_word.Goals as goal
 
-pub returns-then-not-both : goal.returns-then-not-both
-returns-then-not-both c = search (misformed, tip_formed)
+pub returns-then-not-s-is_within : goal.returns-then-not-s-is_within
+returns-then-not-s-is_within c = λ met. search (misformed, tip_formed)
 
 pub empty_out-requires : goal.empty_out-requires
-empty_out-requires c = (search rules, search rules, search known_some, search known_most)
+empty_out-requires c = (search rules, search known_some, search known_most)
 
 pub returns : goal.returns
 unfolding is_met_in
-returns c = search (goes_on_lem, tip_formed)
+returns c = λ met. search (goes_on_lem, tip_formed)
