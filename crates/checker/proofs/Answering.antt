@@ -1,11 +1,16 @@
 -- Laws of the whole check: the day's refusal stands, and an accepted day's plan is walked. Assumes nothing.
-use Prim.Native.Nat.{ℕ}
-use mathlib.Core.Path.{◌≡◌}
+use Prim.Native.Nat.{ℕ, ◌+◌}
+use mathlib.Core.Path.{◌≡◌, refl}
 use mathlib.Core.List.{List}
+use denote.Enum.Declared.{tag_of}
+use Rattle.rules.specs.contracts.faults.PlanFault.{the_type}
 use Rattle.rules.specs.Answers.{refused}
 use Rattle.rules.specs.DayFile.{judge_day}
 use Rattle.rules.specs.Check.{check_words, check_plan}
 use Rattle.rules.specs.AnswerValues.{day_values}
+use Rattle.rules.specs.Faults.{plan_fault_number}
+use Rattle.rules.specs.declared.faults.PlanFault.{PlanFault}
+use Rattle.rules.specs.declared.faults.PlanFault.TheVariants as Faults
 use Rattle.rules.specs.declared.answers.DayAnswer.{DayAnswer}
 use Rattle.rules.specs.declared.answers.DayAnswer.TheVariants as Days
 use Rattle.day.proofs.Answered.{refused_not_given, refused_day, accepted_day}
@@ -15,6 +20,16 @@ module _ (day plan : List ℕ) (judged : DayAnswer) (e : day_values judged ≡ j
   unfolding check_plan
   day_refused r = let same = refused_day day judged e r in rw (refused_not_given day same) same
 
-  pub day_accepted : {n d : ℕ} → judged ≡ Days.Accepted n d → (answer : List ℕ) → answer ≡ check_words day plan → answer ≡ check_plan day plan
+  pub day_accepted : {n d : ℕ} → judged ≡ Days.Accepted n d → {seen : List ℕ} → seen ≡ day → (answer : List ℕ) → answer ≡ check_words seen plan
+      → answer ≡ check_plan day plan
   unfolding check_plan
-  day_accepted a answer h = rw (← accepted_day day judged e a) h
+  day_accepted a same answer h = rw (← accepted_day day judged e a) (rw same at h)
+
+-- a fault as a number is its refusal's
+pub fault_told : (f : PlanFault) → tag_of the_type f + 7 ≡ plan_fault_number f
+fault_told Faults.Form = refl
+fault_told Faults.Stop = refl
+fault_told Faults.Limit = refl
+fault_told Faults.Load = refl
+fault_told Faults.Late = refl
+fault_told Faults.Rest = refl

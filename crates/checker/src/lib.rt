@@ -9,11 +9,12 @@ ghost use Rattle.rules.specs.Check.{check_words, check_plan};
 ghost use Rattle.rules.specs.AnswerValues.{answer_values};
 
 use crate::run::check_words;
+use day::days::Day;
+use day::fields::Layout;
 use rules::answers::{Answer, DayAnswer};
 
-// The answer on a plan of an accepted day, whose layout is at hand: for callers that check many plans of one day.
-pub fn check_accepted(day: &[u32], layout: day::fields::Layout, plan: &[u32]) -> Answer
-    requires { LayoutOf day.now layout }
+// The answer on a plan of an accepted day: for callers that check many plans of one day.
+pub fn check_laid_out(day: &Day, plan: &[u32]) -> Answer
     ensures { answer_values result ≡ check_words day.now plan.now }
 {
     if 4096 < plan.len() {
@@ -22,7 +23,15 @@ pub fn check_accepted(day: &[u32], layout: day::fields::Layout, plan: &[u32]) ->
             place: 4096,
         };
     }
-    check_words(day, layout, plan)
+    check_words(day, plan)
+}
+
+// The same by the day's layout, until its callers use the day's type.
+pub fn check_accepted(day: &[u32], layout: Layout, plan: &[u32]) -> Answer
+    requires { LayoutOf day.now layout }
+    ensures { answer_values result ≡ check_words day.now plan.now }
+{
+    check_laid_out(&Day::with(day, layout), plan)
 }
 
 // The answer on any day and any plan.
@@ -30,9 +39,7 @@ pub fn check(day: &[u32], plan: &[u32]) -> Answer
     ensures { answer_values result ≡ check_plan day.now plan.now }
 {
     match judge::judge(day) {
-        DayAnswer::Accepted { stops: _, tips: _ } => {
-            check_accepted(day, day::fields::layout_of(day), plan)
-        }
+        DayAnswer::Accepted { .. } => check_laid_out(&Day::new(day), plan),
         DayAnswer::Refused { number, place } => Answer::Refused { number, place },
     }
 }

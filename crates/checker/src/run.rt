@@ -2,15 +2,15 @@
 ghost use Rattle.std.specs.Prelude.{◌≡◌, ◌≤◌, length};
 ghost use Rattle.rules.specs.Check.{start, check_from};
 ghost use Rattle.rules.specs.AnswerValues.{answer_values};
-ghost use Rattle.day.specs.Layout.{LayoutOf};
-ghost use Rattle.trips.specs.Trips.{LimitsOf, TallyWithin};
+ghost use Rattle.trips.specs.Trips.{TallyWithin};
 ghost use Rattle.plan_parts.specs.Walked.{end_of};
 
+use day::days::Day;
 use plan_parts::parts::all_parts;
 use plan_parts::start::{first_state, no_stops};
 use rules::answers::Answer;
 use rules::walk::Tally;
-use trips::cargo::{Limits, limits_of};
+use trips::limits::LimitedDay;
 use word_steps::words::word_step;
 
 // The answer at the plan's end: every stop is met where as many are served or left out as there are.
@@ -37,39 +37,35 @@ fn finish(y: Tally, stops: usize, end: usize) -> Answer
     }
 }
 
-// The answer word by word. A word that names no stop marks number 0, which no stop has.
-fn check_each(day: &[u32], layout: day::fields::Layout, limits: Limits, plan: &[u32]) -> Answer
-    requires { LayoutOf day.now layout × LimitsOf day.now limits × (length plan.now ≤ 4096) }
-    ensures { answer_values result ≡ check_from day.now plan.now 0 (start day.now) }
+// The answer word by word.
+fn check_each(limited: &LimitedDay, plan: &[u32]) -> Answer
+    requires { length plan.now ≤ 4096 }
+    ensures { answer_values result ≡ check_from limited.now.day.now plan.now 0 (start limited.now.day.now) }
 {
-    let mut s = first_state(day, layout);
+    let mut s = first_state(limited.day);
     let mut met = no_stops();
-    let mut i: usize = 0;
-    while i < plan.len() {
-        let step = word_step(day, layout, limits, s, &met, plan[i]);
-        if step.fault != 0 {
-            return Answer::Refused {
-                number: step.fault,
-                place: i,
-            };
+    for (i, word) in plan.iter().enumerate() {
+        match word_step(limited, s, &mut met, *word) {
+            Ok(next) => s = next,
+            Err(fault) => {
+                return Answer::Refused {
+                    number: fault as u32,
+                    place: i,
+                };
+            }
         }
-        let at = step.stop;
-        met[at] = 1;
-        s = step.state;
-        i += 1;
     }
-    finish(s.tally, layout.stops, i)
+    finish(s.tally, limited.day.stops(), plan.len())
 }
 
 // The answer on a plan of at most 4,096 words. Where the walk over the parts ends without an answer, each word is looked at.
-pub(crate) fn check_words(day: &[u32], layout: day::fields::Layout, plan: &[u32]) -> Answer
-    requires { LayoutOf day.now layout × (length plan.now ≤ 4096) }
+pub(crate) fn check_words(day: &Day, plan: &[u32]) -> Answer
+    requires { length plan.now ≤ 4096 }
     ensures { answer_values result ≡ check_from day.now plan.now 0 (start day.now) }
 {
-    let limits = limits_of(day, layout);
-    let told = all_parts(day, layout, limits, plan);
-    if told.all {
-        return finish(told.tally, layout.stops, plan.len());
+    let limited = LimitedDay::new(day);
+    match all_parts(&limited, plan) {
+        Some(tally) => finish(tally, day.stops(), plan.len()),
+        None => check_each(&limited, plan),
     }
-    check_each(day, layout, limits, plan)
 }

@@ -1,5 +1,8 @@
 -- Laws of the walk over a plan's parts: between the words of a vehicle that is out only cargo and trip change. Assumes nothing.
-use Rattle.std.specs.Prelude.{Option, Some, None, Ok, IfSome}
+use Rattle.std.specs.Prelude.{Option, Some, None, Result, Ok, Err, IfSome}
+use Rattle.std.specs.Result.{result_ok}
+use Rattle.std.proofs.lemmas.Option.{none-some, same_Some}
+use Rattle.rules.specs.declared.faults.PlanFault.{PlanFault}
 use Prim.Native.Nat.{ℕ, ◌+◌, ◌-◌, ◌<◌, ◌≤◌}
 use mathlib.Core.Path.{◌≡◌, refl, sym, ap, ◌∙◌}
 use mathlib.Core.Bool.{Bool, true, false, not, false≢true}
@@ -21,6 +24,11 @@ use Rattle.word_steps.specs.declared.steps.State.{State}
 use Rattle.plan_parts.specs.Walked.{out_with, end_of, Reached, PartTo, ToldAll}
 use Rattle.plan_parts.specs.declared.parts.Part.{Part}
 use Rattle.plan_parts.proofs.Reaching.{reached_next, reached_passed, reached_small, reached_tally, reached_end}
+
+-- a result that has a value
+pub ok_is : {r : Result State PlanFault} {o : Option State} {x : State} → o ≡ result_ok r → o ≡ Some x → r ≡ Ok x
+ok_is {r = Ok y} e g = ap Ok (same_Some _ _ (sym e ∙ g))
+ok_is {r = Err f} e g = absurd (none-some _ (sym e ∙ g))
 
 -- a tally with so many stops served
 abbrev served_to : Tally → ℕ → Tally
@@ -61,9 +69,6 @@ module _ (day plan : List ℕ) (i : ℕ) (y : Tally) (c : Cargo) (t : Trip) (fla
       pub out_again : not r.tally.inside ≡ false → Reached day plan (i + 1) (out_with y r.cargo r.trip) after
       out_again h = rw tally at whole
         where
-          inside : r.tally.inside ≡ true
-          inside = not-false _ h
-
           next : Next day (out_with y c t) (word_of (get_or plan i 0)) r
           next = rw same at (reached_passed day plan i s flags now_far here task).0
 
@@ -73,7 +78,7 @@ module _ (day plan : List ℕ) (i : ℕ) (y : Tally) (c : Cargo) (t : Trip) (fla
           tally : r.tally ≡ served_to y (y.served + r.cargo.visits)
           tally =
               next.tally_is
-              ∙ rw next.cargo_is (still_out day y c _ (word_of (get_or plan i 0)) formed (rw next.tally_is at inside))
+              ∙ rw next.cargo_is (still_out day y c _ (word_of (get_or plan i 0)) formed (rw next.tally_is at (not-false _ h)))
 
           whole : Reached day plan (i + 1) (record { tally = r.tally; cargo = r.cargo; trip = r.trip }) after
           whole = out_next

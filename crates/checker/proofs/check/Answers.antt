@@ -3,8 +3,8 @@ use Rattle.day.proofs.Answered.{accepted_long}
 use Rattle.checker.proofs.Answering.{day_refused, day_accepted}
 use Rattle.checker.proofs.check.Goals as goal
 
-pub layout_of-requires : goal.layout_of-requires
-layout_of-requires c = search accepted_long
+pub new-requires : goal.new-requires
+new-requires c = search accepted_long
 
 pub returns-in-Accepted : goal.returns-in-Accepted
 returns-in-Accepted c = search day_accepted

@@ -1,19 +1,29 @@
 -- `checker::run::check_each` meets its contract: what is left to check after i words is answered as the whole plan is.
-use borrow.Author.Rules.{rules}
-use Rattle.plan_parts.proofs.Reaching.{reached_start, reached_fault, stop_byte, reached_next, reached_end}
+use mathlib.Core.Path.{◌≡◌, refl, ◌∙◌}
+use native.Mathlib.Omega.{arith}
+use lib.ListN.{length}
+use Rattle.plan_parts.proofs.Reaching.{reached_start, reached_small, reached_fault, reached_next, reached_tally, reached_end}
+use Rattle.checker.proofs.Answering.{fault_told}
 use Rattle.checker.proofs.run.check_each.Goals as goal
 
 pub loop-i-init : goal.loop-i-init
-loop-i-init c = (search rules, search reached_start)
+loop-i-init c = search reached_start
 
-pub returns-then-step-ne0 : goal.returns-then-step-ne0
-returns-then-step-ne0 c = search reached_fault
+pub word_step-requires : goal.word_step-requires
+word_step-requires c = search reached_small
 
-pub bounds-met-at : goal.bounds-met-at
-bounds-met-at c = search stop_byte
+pub returns-in-Err : goal.returns-in-Err
+returns-in-Err c =
+    rw (fault_told c.in-Err.fault) (reached_fault _ _ _ _ _ c.loop-i.invariant c.loop-i-test.true c.in-Err.ensures.step)
 
 pub loop-i-preserved : goal.loop-i-preserved
-loop-i-preserved c = (search rules, search reached_next)
+loop-i-preserved c =
+    reached_next _ _ _ _ _ c.loop-i.invariant c.loop-i-test.true c.in-Ok.ensures.step c.in-Ok.ensures.met
+
+pub finish-requires : goal.finish-requires
+finish-requires c = search reached_tally
 
 pub returns : goal.returns
-returns c = search reached_end
+returns c =
+    let end : c.loop-i.i ≡ length c.args.plan.now = omega (arith, c.loop-i.auto.i-end, c.loop-i-test.false) in
+    reached_end _ _ _ _ _ _ _ c.loop-i.invariant c.loop-i-test.false c.stops.ensures.count (c.finish.ensures ∙ rw end refl)

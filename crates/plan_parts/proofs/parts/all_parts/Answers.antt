@@ -1,19 +1,17 @@
-use Rattle.std.proofs.Common.{rules, ◌≡◌, ◌+◌, ◌<◌, ◌≤◌, length, IfSome, ℕ, ◌-◌, ◌*◌, ◌/◌, ◌%◌, Bool, true, false, nat_eq, nat_lt, List, [], ◌∷◌, ◌++◌, slice_index_or, slice_set, bit_and, bit_or, Fits, w8, w32, w64, Bor, MutBor}
-use Rattle.plan_parts.specs.Walked.{out_with, Leaves, PartTo, Reached, ToldAll}
+-- `plan_parts::parts::all_parts` meets its contract: what is left to check behind each part is answered as the whole plan is.
+use borrow.Author.Rules.{rules}
+use Rattle.plan_parts.proofs.GoingThrough.{part_less, told_end}
+use Rattle.plan_parts.proofs.Reaching.{reached_start}
 use Rattle.plan_parts.proofs.parts.all_parts.Goals as goal
 
--- src/parts.rt:94:5
 pub loop-i-init : goal.loop-i-init
-loop-i-init c = ?
+loop-i-init c = (search rules, search reached_start)
 
--- src/parts.rt:95:20
-pub next_part-requires : goal.next_part-requires
-next_part-requires c = ?
-
--- src/parts.rt:94:5
 pub loop-i-preserved : goal.loop-i-preserved
-loop-i-preserved c = ?
+loop-i-preserved c = (c.in_ok-part.ensures.most, c.in_ok-part.ensures.reached)
 
--- src/parts.rt:87:1
+pub loop-i-smaller : goal.loop-i-smaller
+loop-i-smaller c = part_less _ _ _ _ c.in_ok-part.ensures
+
 pub returns : goal.returns
-returns c = ?
+returns c = search told_end

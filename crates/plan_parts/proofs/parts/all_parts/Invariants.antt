@@ -5,7 +5,7 @@ use Rattle.plan_parts.specs.Walked.{Reached}
 use Rattle.plan_parts.proofs.parts.all_parts.Given as goal
 
 abbrev pub invariant-loop-i : goal.invariant-loop-i
-invariant-loop-i l = (l.i ≤ length l.plan) × Reached l.limited.day l.plan l.i l.s l.met
+invariant-loop-i l = (l.i ≤ length l.plan) × Reached l.limited.day.now l.plan l.i l.s l.met
 
 abbrev pub decreases-loop-i : goal.decreases-loop-i
 decreases-loop-i l = length l.plan - l.i

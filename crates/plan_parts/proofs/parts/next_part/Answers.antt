@@ -1,11 +1,29 @@
-use Rattle.std.proofs.Common.{rules, ◌≡◌, ◌+◌, ◌<◌, ◌≤◌, length, IfSome, ℕ, ◌-◌, ◌*◌, ◌/◌, ◌%◌, Bool, true, false, nat_eq, nat_lt, List, [], ◌∷◌, ◌++◌, slice_index_or, slice_set, bit_and, bit_or, Fits, w8, w32, w64, Bor, MutBor}
-use Rattle.plan_parts.specs.Walked.{out_with, Leaves, PartTo, Reached, ToldAll}
+-- `plan_parts::parts::next_part` meets its contract: a vehicle leaves, or a stop is left out.
+use native.Mathlib.Omega.{arith}
+use borrow.Author.Rules.{rules}
+use Rattle.rules.specs.PlanWords.{left}
+use Rattle.plan_words.proofs.WordForms.{vehicle_told, left_told}
+use Rattle.plan_parts.proofs.GoingThrough.{ok_is, part_next, part_out, part_behind}
 use Rattle.plan_parts.proofs.parts.next_part.Goals as goal
 
--- src/parts.rt:77:9
 pub round-requires : goal.round-requires
-round-requires c = ?
+round-requires c =
+    let g = ok_is c.ok.ensures.value c.in_ok-out.was in (
+      search rules,
+      omega arith,
+      part_out _ _ _ _ _ c.requires.2 c.requires.1 c.number-k.result (search vehicle_told) (rw g at (c.vehicle_word.ensures c.args.met.now)),
+    )
 
--- src/parts.rt:81:9
+pub returns-then-is_vehicle : goal.returns-then-is_vehicle
+returns-then-is_vehicle c = search part_behind
+
 pub returns-then-is_left : goal.returns-then-is_left
-returns-then-is_left c = ?
+returns-then-is_left c =
+    let g = ok_is c.ok-then-is_left.ensures.value c.in_ok-state.was in
+    record {
+      more = omega arith;
+      most = omega arith;
+      reached =
+          part_next _ _ _ _ _ c.requires.2 c.requires.1 (left c.number-k.result) (search left_told) (rw g at c.left_word.ensures.step)
+          (rw g at c.left_word.ensures.met);
+    }

@@ -1,23 +1,30 @@
-use Rattle.std.proofs.Common.{rules, ◌≡◌, ◌+◌, ◌<◌, ◌≤◌, length, IfSome, ℕ, ◌-◌, ◌*◌, ◌/◌, ◌%◌, Bool, true, false, nat_eq, nat_lt, List, [], ◌∷◌, ◌++◌, slice_index_or, slice_set, bit_and, bit_or, Fits, w8, w32, w64, Bor, MutBor}
-use Rattle.plan_parts.specs.Walked.{out_with, Leaves, PartTo, Reached, ToldAll}
+-- `plan_parts::parts::round` meets its contract: a vehicle is out, with no word at fault so far.
+use native.Mathlib.Omega.{arith}
+use Rattle.plan_parts.proofs.GoingThrough.{ok_is, out_start, out_few, out_small, out_next, out_again}
 use Rattle.plan_parts.proofs.parts.round.Goals as goal
 
--- src/parts.rt:50:5
 pub loop-i-init : goal.loop-i-init
-loop-i-init c = ?
+loop-i-init c = search out_start
 
--- src/parts.rt:51:13
 pub out_with-s-requires : goal.out_with-s-requires
-out_with-s-requires c = ?
+out_with-s-requires c = search out_few
 
--- src/parts.rt:52:21
 pub task_step-requires : goal.task_step-requires
-task_step-requires c = ?
+task_step-requires c = search out_small
 
--- src/parts.rt:54:13
 pub returns-then-not-state : goal.returns-then-not-state
-returns-then-not-state c = ?
+returns-then-not-state c =
+    let g = ok_is c.ok.ensures.value c.in_ok-state.was in
+    record {
+      more = omega arith;
+      most = omega arith;
+      reached =
+          out_next _ _ _ c.args.y c.loop-i.cargo c.loop-i.trip _ c.loop-i.invariant _ c.out_with-s.ensures c.loop-i-test.true (rw g at c.task_step.ensures.step)
+          (rw g at c.task_step.ensures.met);
+    }
 
--- src/parts.rt:50:5
 pub loop-i-preserved : goal.loop-i-preserved
-loop-i-preserved c = ?
+loop-i-preserved c =
+    let g = ok_is c.ok.ensures.value c.in_ok-state.was in
+    out_again _ _ _ c.args.y c.loop-i.cargo c.loop-i.trip _ c.loop-i.invariant _ c.out_with-s.ensures c.loop-i-test.true (rw g at c.task_step.ensures.step)
+    (rw g at c.task_step.ensures.met) c.if-not-state.false
