@@ -3,7 +3,7 @@
 use Rattle.std.specs.Prelude.{if◌then◌else◌}
 use Prim.Native.Nat.{ℕ, suc, ◌+◌, ◌-◌, ◌≤◌, ◌<◌}
 use mathlib.Core.Path.{◌≡◌, refl, sym, ap, ◌∙◌}
-use mathlib.Core.Bool.{Bool, true, false}
+use mathlib.Core.Bool.{Bool, true, false, ◌&&◌}
 use mathlib.Core.List.{List, [], ◌∷◌}
 use native.Mathlib.Numerals.{add-one}
 use native.Mathlib.Omega.{arith}
@@ -27,12 +27,20 @@ not_vehicle number w (Forms.is_back d x) n = refl
 not_vehicle number w (Forms.is_left k h d x) n = refl
 not_vehicle number w (Forms.is_stray x) n = refl
 
-pub other_word : (number w : ℕ) {asked : Bool} → asked ≡ eqb (kind_of w) vehicle_kind → asked ≡ false → false ≡ is_vehicle number (word_of w)
+other_word : (number w : ℕ) {asked : Bool} → asked ≡ eqb (kind_of w) vehicle_kind → asked ≡ false → false ≡ is_vehicle number (word_of w)
 other_word number w a f = not_vehicle number w (apart w) (eqb-false _ _ (sym a ∙ f))
 
-pub vehicle_word_lem : (number w : ℕ) {asked : Bool} {k : ℕ} → asked ≡ eqb (kind_of w) vehicle_kind → asked ≡ true → k ≡ number_of w
+vehicle_word_lem : (number w : ℕ) {asked : Bool} {k : ℕ} → asked ≡ eqb (kind_of w) vehicle_kind → asked ≡ true → k ≡ number_of w
     → eqb k number ≡ is_vehicle number (word_of w)
 vehicle_word_lem number w a t e = rw (vehicle_told w a t e)
+
+pub vehicle_asked : (number w : ℕ) {asked : Bool} {k : ℕ} → asked ≡ eqb (kind_of w) vehicle_kind → k ≡ number_of w
+    → (asked && eqb k number) ≡ is_vehicle number (word_of w)
+vehicle_asked number w {asked} {k} a e = go asked a
+  where
+    go : (b : Bool) → b ≡ eqb (kind_of w) vehicle_kind → (b && eqb k number) ≡ is_vehicle number (word_of w)
+    go true a = vehicle_word_lem number w a refl e
+    go false a = other_word number w a refl
 
 -- an E word, and any other word
 not_back : (w : ℕ) {u : Word} → Apart w u → (w ≡ back_word → ⊥) → is_back u ≡ false
@@ -61,9 +69,10 @@ module _ (plan : List ℕ) (from : ℕ) where
       → (i + 1) - from ≡ words_to_back (drop from plan)
   part_ends i h g a t inv = omega (arith, rw (back_told (get_or plan i 0) a t) at (words_at i g))
 
-  pub part_cut : (i : ℕ) → from ≤ i → length plan ≤ i → (i - from) + words_to_back (drop i plan) ≡ words_to_back (drop from plan) → i - from ≡ words_to_back (drop from plan)
+  pub part_cut : (i : ℕ) → i ≤ length plan → length plan ≤ i → (i - from) + words_to_back (drop i plan) ≡ words_to_back (drop from plan)
+      → length plan - from ≡ words_to_back (drop from plan)
   unfolding words_to_back
-  part_cut i h g inv = omega (arith, inv, ap words_to_back (drop_of_length-le plan g))
+  part_cut i g h inv = omega (arith, inv, ap words_to_back (drop_of_length-le plan h))
 
 -- the vehicles, one word after the other
 module _ (number : ℕ) (plan : List ℕ) where

@@ -18,13 +18,8 @@ use rules::answers::{Answer, PlaceAnswer, RoundsAnswer};
 pub fn vehicle_place(day: &[u32], plan: &[u32], number: u64) -> PlaceAnswer
     ensures { place_values result ≡ vehicle_place day.now plan.now number }
 {
-    let answer = check(day, plan);
-    match answer {
-        Answer::Lawful {
-            distance: _,
-            vehicles: _,
-            served: _,
-        } => place_in(plan, number),
+    match check(day, plan) {
+        Answer::Lawful { .. } => place_in(plan, number),
         Answer::Refused { number, place } => PlaceAnswer::Refused { number, place },
     }
 }
@@ -33,16 +28,12 @@ pub fn vehicle_place(day: &[u32], plan: &[u32], number: u64) -> PlaceAnswer
 pub fn vehicle_words<'a>(day: &[u32], plan: &'a [u32], number: u64) -> &'a [u32]
     ensures { result.now ≡ vehicle_words day.now plan.now number }
 {
-    let answer = vehicle_place(day, plan, number);
-    match answer {
+    match vehicle_place(day, plan, number) {
         PlaceAnswer::Found { start, length } => {
             let end = start + length;
             &plan[start..end]
         }
-        PlaceAnswer::Refused {
-            number: _,
-            place: _,
-        } => &plan[0..0],
+        PlaceAnswer::Refused { .. } => &plan[0..0],
     }
 }
 
@@ -51,17 +42,13 @@ fn second_answer(day: &[u32], first: &[u32], second: &[u32]) -> RoundsAnswer
     ensures answer { rounds_values result ≡ second_answer day.now first.now second.now }
     ensures numbered { RoundsNumbered result }
 {
-    let answer = check(day, second);
-    match answer {
-        Answer::Lawful {
-            distance: _,
-            vehicles: _,
-            served: _,
-        } => {
+    match check(day, second) {
+        Answer::Lawful { .. } => {
             if are_same(first, second) {
-                return RoundsAnswer::Same;
+                RoundsAnswer::Same
+            } else {
+                RoundsAnswer::Different
             }
-            RoundsAnswer::Different
         }
         Answer::Refused { number, place } => RoundsAnswer::Refused {
             number,
@@ -75,13 +62,8 @@ pub fn same_rounds(day: &[u32], first: &[u32], second: &[u32]) -> RoundsAnswer
     ensures answer { rounds_values result ≡ same_rounds day.now first.now second.now }
     ensures numbered { RoundsNumbered result }
 {
-    let answer = check(day, first);
-    match answer {
-        Answer::Lawful {
-            distance: _,
-            vehicles: _,
-            served: _,
-        } => second_answer(day, first, second),
+    match check(day, first) {
+        Answer::Lawful { .. } => second_answer(day, first, second),
         Answer::Refused { number, place } => RoundsAnswer::Refused { number, place },
     }
 }

@@ -10,10 +10,7 @@ use rules::answers::PlaceAnswer;
 fn is_vehicle(w: u32, number: u64) -> bool
     ensures { result ≡ is_vehicle number (word_of w) }
 {
-    if plan_words::is_vehicle(w) {
-        return plan_words::number(w) as u64 == number;
-    }
-    false
+    plan_words::is_vehicle(w) & (u64::from(plan_words::number(w)) == number)
 }
 
 // How many words there are from an index up to the first E.
@@ -21,29 +18,25 @@ fn part_length(plan: &[u32], from: usize) -> usize
     requires { from ≤ length plan.now }
     ensures { (result ≡ words_to_back (drop from plan.now)) × (from + result ≤ length plan.now) }
 {
-    let mut i = from;
-    while i < plan.len() {
+    for i in from..plan.len() {
         if plan_words::is_back(plan[i]) {
             return i + 1 - from;
         }
-        i += 1;
     }
-    i - from
+    plan.len() - from
 }
 
 // Where a vehicle's words stand in a lawful plan.
 pub(crate) fn place_in(plan: &[u32], number: u64) -> PlaceAnswer
     ensures { place_values result ≡ place_from number plan.now 0 }
 {
-    let mut i: usize = 0;
-    while i < plan.len() {
-        if is_vehicle(plan[i], number) {
+    for (i, word) in plan.iter().enumerate() {
+        if is_vehicle(*word, number) {
             return PlaceAnswer::Found {
                 start: i,
                 length: part_length(plan, i),
             };
         }
-        i += 1;
     }
     PlaceAnswer::Refused {
         number: 15,

@@ -7,7 +7,7 @@ pub returns-then-are_same-clause-answer : goal.returns-then-are_same-clause-answ
 returns-then-are_same-clause-answer c = search rounds_same
 
 pub overflow_add-result : goal.overflow_add-result
-overflow_add-result c = omega (arith, place_small _ _ c.check-answer.ensures c.in-Refused.is)
+overflow_add-result c = omega (arith, place_small _ _ c.check.ensures c.in-Refused.is)
 
 pub returns-else-are_same-clause-answer : goal.returns-else-are_same-clause-answer
 returns-else-are_same-clause-answer c = search rounds_differ

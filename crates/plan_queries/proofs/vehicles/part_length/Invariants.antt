@@ -7,6 +7,3 @@ use Rattle.plan_queries.proofs.vehicles.part_length.Given as goal
 
 abbrev pub invariant-loop-i : goal.invariant-loop-i
 invariant-loop-i l = (l.from ≤ l.i) × (l.i ≤ length l.plan) × ((l.i - l.from) + words_to_back (drop l.i l.plan) ≡ words_to_back (drop l.from l.plan))
-
-abbrev pub decreases-loop-i : goal.decreases-loop-i
-decreases-loop-i l = length l.plan - l.i
