@@ -1,121 +1,105 @@
 // The neighbours of every stop, worked out once for a planning call into a table that is lent: a row of 50 places for each stop.
-ghost use Rattle.std.specs.Prelude.{◌≡◌, ◌+◌, ◌*◌, ◌<◌, ◌≤◌, length};
+ghost use Rattle.std.specs.Prelude.{◌≡◌, ◌+◌, ◌*◌, ◌<◌, ◌≤◌, length, Some, None, if◌then◌else◌};
+ghost use Rattle.rules.specs.Fields.{stops};
+ghost use Rattle.rules.specs.Neighbours.{between, compatible, neighbour_key};
 ghost use Rattle.day.specs.Layout.{LayoutOf};
-ghost use Rattle.neighbours.specs.Tables.{TableOf, RowOf, RowBy, KeysTo, key_or_none, key_above, lesser, least_above, stop_of_key};
+ghost use Rattle.neighbours.specs.Tables.{TableOf, RowOf, RowBy, KeysOf, least_above, stop_of_key};
 
+use day::days::Day;
 use day::fields::Layout;
 
-// The key of stop j as a neighbour of stop i: its minutes, then its number. The greatest number where j is no neighbour.
-fn key_of(day: &[u32], layout: Layout, i: usize, j: usize) -> u32
-    requires { LayoutOf day.now layout × (0 < i) × (i ≤ layout.stops) × (0 < j) × (j ≤ layout.stops) }
-    ensures { result ≡ key_or_none day.now i j }
+// Above every key. In the pass over the keys it stands for none, so that one comparison does for both.
+const NO_KEY: u32 = u32::MAX;
+
+// Whether stop j, so many minutes away, is a neighbour of stop i.
+fn is_neighbour(day: &Day, i: usize, j: usize, away: u32) -> bool
+    requires { (0 < i) × (i ≤ stops day.now) × (0 < j) × (j ≤ stops day.now) × (away ≡ between day.now i j) }
+    ensures { result ≡ compatible day.now i j }
 {
-    if i == j {
-        return 4294967295;
-    }
-    let here = day::fields::stop_window(day, layout, i);
-    let there = day::fields::stop_window(day, layout, j);
-    let service = day::fields::stop_service(day, layout, i);
-    let leg = day::fields::leg_between(day, layout, layout.tips + i, layout.tips + j);
-    if here.closing + service + leg.minutes < there.opening {
-        return 4294967295;
-    }
-    if there.closing < here.opening + service + leg.minutes {
-        return 4294967295;
-    }
-    leg.minutes * 256 + (j as u32)
+    let here = day.stop_window(i);
+    let there = day.stop_window(j);
+    let service = day.stop_service(i);
+    let is_met = (there.opening <= here.closing + service + away)
+        & (here.opening + service + away <= there.closing);
+    (i != j) & is_met
 }
 
-// The keys of all stops as neighbours of stop i, each at its number.
-fn fill_keys(day: &[u32], layout: Layout, i: usize, keys: &mut [u32])
-    requires { LayoutOf day.now layout × (layout.stops ≤ 240) × (0 < i) × (i ≤ layout.stops) × (length keys.old ≡ 256) }
-    ensures { KeysTo day.now i layout.stops keys.new }
+// The key of stop j as a neighbour of stop i, where it is one: its minutes, then its number.
+fn key_of(day: &Day, i: usize, j: usize) -> Option<u32>
+    requires { (0 < i) × (i ≤ stops day.now) × (0 < j) × (j ≤ stops day.now) }
+    ensures { result ≡ (if compatible day.now i j then Some (neighbour_key day.now i j) else None) }
 {
-    let stops = layout.stops;
-    let mut j: usize = 0;
-    while j < stops {
-        keys[j + 1] = key_of(day, layout, i, j + 1);
-        j += 1;
+    let leg = day.leg(day.stop_place(i), day.stop_place(j));
+    if is_neighbour(day, i, j, leg.minutes) {
+        Some(leg.minutes * 256 + (j as u32))
+    } else {
+        None
     }
 }
 
-// A key that is above the last one, and the greatest number in place of another.
-fn key_above(last: u32, key: u32) -> u32
-    ensures { result ≡ key_above last key }
+// The keys of all stops as neighbours of stop i, in the order of their numbers.
+fn fill_keys(day: &Day, i: usize, keys: &mut [u32])
+    requires { (0 < i) × (i ≤ stops day.now) × (length keys.old ≡ stops day.now) }
+    ensures { KeysOf day.now i keys.new }
 {
-    if last < key {
-        return key;
+    for (j, key) in keys.iter_mut().enumerate() {
+        *key = key_of(day, i, j + 1).unwrap_or(NO_KEY);
     }
-    4294967295
-}
-
-// The lesser of two keys.
-fn lesser(key: u32, best: u32) -> u32
-    ensures { result ≡ lesser key best }
-{
-    if key < best {
-        return key;
-    }
-    best
 }
 
 // The least key above the last one. No way leads out of the pass, so that many keys can be looked at together.
-fn next_key(keys: &[u32], n: usize, last: u32) -> u32
-    requires { n < length keys.now }
-    ensures { result ≡ least_above keys.now last n }
+fn next_key(keys: &[u32], last: u32) -> u32
+    ensures { result ≡ least_above last keys.now }
 {
-    let mut best: u32 = 4294967295;
-    let mut j: usize = 0;
-    while j < n {
-        best = lesser(key_above(last, keys[j + 1]), best);
-        j += 1;
-    }
-    best
+    keys.iter().fold(
+        NO_KEY,
+        |best, key| if last < *key { best.min(*key) } else { best },
+    )
 }
 
-// The stop of a key, 0 for none.
+// The stop of a key, 0 for none, as in the table.
 fn stop_of_key(key: u32) -> u8
     ensures { result ≡ stop_of_key key }
 {
-    if key == 4294967295 {
-        return 0;
-    }
-    (key % 256) as u8
+    if key == NO_KEY { 0 } else { (key % 256) as u8 }
 }
 
-// The row of stop i by the keys of its neighbours.
-fn fill_row(keys: &[u32], n: usize, k: usize, i: usize, table: &mut [u8])
-    requires { (n < length keys.now) × (k ≤ 50) × (i ≤ 240) × (length table.old ≡ 12050) }
-    ensures { RowBy keys.now n k i table.old table.new }
+// A row by the keys of a stop's neighbours.
+fn fill_row(keys: &[u32], row: &mut [u8])
+    ensures { RowBy keys.now (length row.old) row.new }
 {
-    let mut last: u32 = 0;
-    let mut r: usize = 0;
-    while r < k {
-        last = next_key(keys, n, last);
-        table[50 * i + r] = stop_of_key(last);
-        r += 1;
+    let mut last = 0;
+    for place in row.iter_mut() {
+        last = next_key(keys, last);
+        *place = stop_of_key(last);
     }
 }
 
-// The neighbours of stop i.
-fn fill_stop(day: &[u32], layout: Layout, k: usize, i: usize, table: &mut [u8])
-    requires { LayoutOf day.now layout × (layout.stops ≤ 240) × (k ≤ 50) × (0 < i) × (i ≤ layout.stops) × (length table.old ≡ 12050) }
-    ensures { RowOf day.now k i table.old table.new }
+// The row of stop i.
+fn fill_stop(day: &Day, i: usize, row: &mut [u8])
+    requires { (stops day.now ≤ 240) × (0 < i) × (i ≤ stops day.now) }
+    ensures { RowOf day.now i (length row.old) row.new }
 {
-    let mut keys = [0u32; 256];
-    fill_keys(day, layout, i, &mut keys);
-    fill_row(&keys, layout.stops, k, i, table);
+    let mut space = [0u32; 240];
+    let keys = &mut space[..day.stops()];
+    fill_keys(day, i, keys);
+    fill_row(keys, row);
 }
 
 // The first k neighbours of every stop.
+pub fn fill_rows(day: &Day, k: usize, table: &mut [u8])
+    requires { (stops day.now ≤ 240) × (k ≤ 50) × (length table.old ≡ 12050) }
+    ensures { TableOf day.now k table.new }
+{
+    for i in 1..=day.stops() {
+        fill_stop(day, i, &mut table[50 * i..50 * i + k]);
+    }
+}
+
+// The same by the day's words and layout, until its caller uses the day's type.
 pub fn fill_table(day: &[u32], layout: Layout, k: usize, table: &mut [u8])
     requires { LayoutOf day.now layout × (layout.stops ≤ 240) × (k ≤ 50) × (length table.old ≡ 12050) }
     ensures { TableOf day.now k table.new }
 {
-    let stops = layout.stops;
-    let mut i: usize = 0;
-    while i < stops {
-        fill_stop(day, layout, k, i + 1, table);
-        i += 1;
-    }
+    fill_rows(&Day::with(day, layout), k, table);
 }

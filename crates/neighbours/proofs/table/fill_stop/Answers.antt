@@ -3,4 +3,4 @@ use Rattle.neighbours.proofs.NeighbourTable.{row_of}
 use Rattle.neighbours.proofs.table.fill_stop.Goals as goal
 
 pub returns : goal.returns
-returns c = row_of _ _ _ _ _ _ _ c.requires.0 c.requires.1 c.fill_keys.ensures c.fill_row.ensures
+returns c = row_of _ _ _ _ _ c.requires.0 c.fill_keys.ensures c.fill_row.ensures c.fill_row.auto.row

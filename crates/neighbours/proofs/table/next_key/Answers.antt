@@ -1,10 +1,8 @@
 -- `neighbours::table::next_key` meets its contract.
-use borrow.Author.Rules.{rules}
-use Rattle.neighbours.proofs.KeyLaws.{above_none, above_next}
+use Rattle.std.proofs.Common.{rules}
+use Rattle.neighbours.specs.Tables.{best_above, least_above}
 use Rattle.neighbours.proofs.table.next_key.Goals as goal
 
-pub loop-j-init : goal.loop-j-init
-loop-j-init c = (search rules, above_none _ _)
-
-pub loop-j-preserved : goal.loop-j-preserved
-loop-j-preserved c = (search rules, search above_next)
+pub returns : goal.returns
+unfolding best_above least_above
+returns c = search rules

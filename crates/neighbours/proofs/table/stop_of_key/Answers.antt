@@ -3,10 +3,10 @@ use Rattle.laws.proofs.Tests.{branches}
 use Rattle.neighbours.specs.Tables.{stop_of_key}
 use Rattle.neighbours.proofs.table.stop_of_key.Goals as goal
 
-pub returns-then-key-eq4294967295 : goal.returns-then-key-eq4294967295
+pub returns-then-key-eq-NO_KEY : goal.returns-then-key-eq-NO_KEY
 unfolding stop_of_key
-returns-then-key-eq4294967295 c = search branches
+returns-then-key-eq-NO_KEY c = search branches
 
-pub returns : goal.returns
+pub returns-else-key-eq-NO_KEY : goal.returns-else-key-eq-NO_KEY
 unfolding stop_of_key
-returns c = search branches
+returns-else-key-eq-NO_KEY c = search branches
