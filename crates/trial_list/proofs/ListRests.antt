@@ -1,9 +1,9 @@
 -- The trial list from a cursor on: the first cursor's rest is the whole list, the next trial of the rest is that of its pairs or else of its
 -- tips, and what a trial of the list names. The day may be any list of words.
 -- Assumes nothing.
+use Rattle.std.specs.Prelude.{None}
 use Prim.Native.Nat.{ℕ, suc, ◌-◌, ◌≤◌}
 use mathlib.Core.Path.{◌≡◌, refl, sym, ap, ◌∙◌}
-use mathlib.Core.Bool.{true, false, true≢false}
 use mathlib.Core.List.{List, [], ◌∷◌, ◌++◌}
 use native.Mathlib.Omega.{arith}
 use Rattle.rules.specs.Lists.{Every}
@@ -18,13 +18,14 @@ use Rattle.neighbours.specs.Tables.{TableOf}
 use Rattle.edits.specs.EditWords.{Named, EditKnown, EditSmall}
 use Rattle.edits.specs.declared.Edit as Code
 use Rattle.edits.specs.declared.Edit.TheVariants as Edits
-use Rattle.trial_list.specs.Listing.{PairsOf, PairAnswer, TipsOf, TipAnswer, PlanTables, CursorFits, ListAnswer}
+use Rattle.trial_list.specs.Listing.{PairAnswer, TipAnswer, PlanTables, CursorFits, Answers}
 use Rattle.trial_list.specs.Survey.{Surveyed}
 use Rattle.trial_list.specs.TrialRest.{listed_trial, pair_rest, tip_rest, rest_of, list_start}
 use Rattle.trial_list.specs.declared.listing.Cursor.{Cursor}
 use Rattle.trial_list.specs.declared.listing.Listed.{Listed}
-use Rattle.trial_list.specs.declared.listing.PairListed.{PairListed}
-use Rattle.trial_list.specs.declared.listing.TipListed.{TipListed}
+use Rattle.trial_list.specs.declared.listing.PairPlace.{PairPlace}
+use Rattle.trial_list.specs.declared.listing.TipPlace.{TipPlace}
+use Rattle.trial_list.specs.declared.tables.Tables.{Tables}
 use Rattle.trial_list.specs.declared.listing.Trial as Made
 use Rattle.trial_list.proofs.LaidLaws.{start_next}
 use Rattle.trial_list.proofs.Listed.{listed_all}
@@ -69,64 +70,34 @@ module _ (layout : Layout) (K : ℕ) (table starts vehicles plan : List ℕ) (co
         text = text;
       }
 
-  -- the tables of the pairs and of the tips
-  pub pairs_of : PlanTables layout K table starts vehicles plan count → PairsOf layout K table vehicles
-  pairs_of s =
+-- the next trial of the list is that of its pairs, or else of its tips
+module _ (t : Tables) (c : Cursor) (r : Listed Cursor) (a : Listed PairPlace) (fits : CursorFits t.starts.now t.count c) (pair : PairAnswer t c.pairs a) where
+  pub lists_pair : (a.trial ≡ None → ⊥) → r.trial ≡ a.trial → r.next ≡ record { pairs = a.next; tips = c.tips } → Answers t c r
+  unfolding rest_of
+  lists_pair f m n =
       record {
-        day = s.day;
-        rounds = s.rounds;
-        layout_is = s.layout_is;
-        most = s.most;
-        close = s.close;
-        table_is = s.table_is;
-        routed = s.surveyed.routed;
-        size = s.surveyed.vehicles_size;
+        tells = λ s.
+            let others = tip_rest s.day s.rounds c.tips in
+            record {
+              some = λ k e. ap (λ (ms : List Trial). ms ++ others) ((pair.tells s).some k (sym m ∙ e)) ∙ rw n refl;
+              none = λ e. absurd (f (sym m ∙ e));
+            };
+        fits = rw n (record { first = pair.first; tip_fits = fits.tip_fits });
       }
 
-  pub tips_of : PlanTables layout K table starts vehicles plan count → TipsOf layout starts plan count
-  tips_of s =
+  pub lists_tip : (b : Listed TipPlace) → a.trial ≡ None → TipAnswer t c.tips b
+      → r.trial ≡ b.trial → r.next ≡ record { pairs = a.next; tips = b.next } → Answers t c r
+  unfolding rest_of
+  lists_tip b f tip m n =
       record {
-        day = s.day;
-        rounds = s.rounds;
-        lefts = s.lefts;
-        layout_is = s.layout_is;
-        most = s.most;
-        known = s.known;
-        few = omega (arith, s.surveyed.counted, s.few);
-        counted = s.surveyed.counted;
-        laid = record { text = s.text; starting = s.surveyed.starting };
+        tells = λ s.
+            let none_left = (pair.tells s).none f in
+            record {
+              some = λ k e. rw (none_left.0, n, none_left.1) ((tip.tells s).some k (sym m ∙ e));
+              none = λ e. rw (none_left.0, n, none_left.1) ((tip.tells s).none (sym m ∙ e));
+            };
+        fits = rw n (record { first = pair.first; tip_fits = tip.fits });
       }
-
-  module _ (c : Cursor) (r : Listed) (a : PairListed) (fits : CursorFits starts count c) (pair : PairAnswer layout K table vehicles c.pairs a) where
-    pub lists_pair : a.found ≡ true → r.found ≡ true → r.trial ≡ a.trial → r.next ≡ record { pairs = a.next; tips = c.tips }
-        → ListAnswer layout K table starts vehicles plan count c r
-    unfolding rest_of pairs_of tips_of
-    lists_pair f g m n =
-        record {
-          tells = λ s.
-              let others = tip_rest s.day s.rounds c.tips in
-              record {
-                some = λ t.
-                    ap (λ (ms : List Trial). ms ++ others) ((pair.tells (pairs_of s)).some f)
-                    ∙ rw (m, n) refl;
-                none = λ t. absurd (true≢false (sym g ∙ t));
-              };
-          fits = rw n (record { first = pair.first; tip_fits = fits.tip_fits });
-        }
-
-    pub lists_tip : (b : TipListed) → a.found ≡ false → TipAnswer layout starts plan count c.tips b
-        → r.found ≡ b.found → r.trial ≡ b.trial → r.next ≡ record { pairs = a.next; tips = b.next } → ListAnswer layout K table starts vehicles plan count c r
-    unfolding rest_of pairs_of tips_of
-    lists_tip b f tip g m n =
-        record {
-          tells = λ s.
-              let none_left = (pair.tells (pairs_of s)).none f in
-              record {
-                some = λ t. rw (none_left.0, n, none_left.1, m) ((tip.tells (tips_of s)).some (sym g ∙ t));
-                none = λ t. rw (none_left.0, n, none_left.1) ((tip.tells (tips_of s)).none (sym g ∙ t));
-              };
-          fits = rw n (record { first = pair.first; tip_fits = tip.fits });
-        }
 
 -- what a trial names: stops and tips of the day
 pub record Names (day : List ℕ) (m : Made.Trial) : Type 0 where

@@ -1,6 +1,7 @@
 -- The pairs of the trial list, one after the other: one law for each way through the functions that look for the next. The day may be any
 -- list of words.
 -- Assumes nothing.
+use Rattle.std.specs.Prelude.{Option, Some, None, is_some}
 use Prim.Native.Nat.{ℕ, zero, suc, ◌+◌, ◌*◌, ◌-◌, ◌≤◌, ◌<◌}
 use mathlib.Core.Path.{◌≡◌, refl, sym, ap, ◌∙◌}
 use mathlib.Core.Bool.{Bool, true, false, true≢false}
@@ -8,32 +9,54 @@ use mathlib.Core.List.{List, [], ◌∷◌, ◌++◌, append_assoc}
 use mathlib.Core.Logic.{inl, inr}
 use native.Mathlib.Numerals.{add-one}
 use native.Mathlib.Omega.{arith}
-use lib.Dec.{ltb}
+use lib.Dec.{eqb, ltb}
 use lib.ListN.{length, get_or, drop_of_length-le, get_or-eq_default}
 use lib.Seq.{drop-cons}
-use borrow.Author.Tests.{eq-eqb, ne_eqb, ltb-true, ltb-false}
+use borrow.Author.Tests.{eq-eqb, ne_eqb, eqb-true, eqb-false, ltb-true, ltb-false}
 use Rattle.rules.specs.Fields.{stops}
 use Rattle.rules.specs.Plan.{Round}
 use Rattle.rules.specs.Neighbours.{neighbours}
 use Rattle.rules.specs.Edits.{before, after, swap, Trial, on_one, on_two}
 use Rattle.rules.specs.TrialList.{each, rising, pair_trials}
-use Rattle.day.specs.declared.fields.Layout.{Layout}
 use Rattle.neighbours.proofs.NeighbourLaws.{neighbours_are}
 use Rattle.laws.proofs.Decided.{known}
 use Rattle.laws.proofs.Lists.{every_at}
-use Rattle.trial_list.specs.Listing.{Goes, Tells, next_rank, halfway, next_stop, PairTells, no_trial, last_trial, first_trial, PairsOf, PairStep}
+use Rattle.trial_list.specs.Listing.{Goes, Tells, NumberAt, next_rank, halfway, next_stop, PairTells, no_trial, last_trial, first_trial, TablesOf, PairStep}
 use Rattle.trial_list.specs.TrialRest.{listed_trial, pair_on, from_half, neighbours_from, stops_from, pair_rest}
-use Rattle.trial_list.specs.declared.listing.PairListed.{PairListed}
+use Rattle.trial_list.specs.declared.listing.Listed.{Listed}
 use Rattle.trial_list.specs.declared.listing.PairPlace.{PairPlace}
 use Rattle.trial_list.specs.declared.listing.Trial as Code
+use Rattle.trial_list.specs.declared.tables.Tables.{Tables}
 
 -- a list passes on, or goes on with a trial
-module _ {P : Type 0} {rest : P → List Trial} {at next : P} {found : Bool} {m : Code.Trial} where
-  pub goes_past : found ≡ false → rest at ≡ rest next → Goes rest at found m next
-  goes_past f e = record { some = λ t. absurd (true≢false (sym t ∙ f)); none = λ _. e }
+pub none_some : {A : Type 0} {o : Option A} {m : A} → o ≡ None → o ≡ Some m → ⊥
+none_some e f = cc
 
-  pub goes_with : found ≡ true → rest at ≡ listed_trial m ∷ rest next → Goes rest at found m next
-  goes_with f e = record { some = λ _. e; none = λ t. absurd (true≢false (sym f ∙ t)) }
+some_same : {A : Type 0} {o : Option A} {m n : A} → o ≡ Some m → o ≡ Some n → m ≡ n
+some_same e f = cc
+
+-- by the test
+pub some_tested : {A : Type 0} (o : Option A) {b : Bool} → b ≡ is_some o → b ≡ true → o ≡ None → ⊥
+some_tested None t e f = true≢false (sym e ∙ t)
+some_tested (Some x) t e f = none_some f refl
+
+pub none_tested : {A : Type 0} (o : Option A) {b : Bool} → b ≡ is_some o → b ≡ false → o ≡ None
+none_tested None t e = refl
+none_tested (Some x) t e = absurd (true≢false (sym t ∙ e))
+
+module _ {P : Type 0} {rest : P → List Trial} {at : P} {r : Listed P} where
+  pub goes_past : r.trial ≡ None → rest at ≡ rest r.next → Goes rest at r
+  goes_past f e = record { some = λ m t. absurd (none_some f t); none = λ _. e }
+
+  pub goes_with : {m : Code.Trial} → r.trial ≡ Some m → rest at ≡ listed_trial m ∷ rest r.next → Goes rest at r
+  goes_with {m} f e = record { some = λ n t. rw (some_same f t) at e; none = λ t. absurd (none_some t f) }
+
+-- a number of a table
+pub number_none : {k : ℕ} {o : Option ℕ} → NumberAt k o → o ≡ None → 0 ≡ k
+number_none a e = rw e at a.number_is
+
+pub number_some : {k x : ℕ} {o : Option ℕ} → NumberAt k o → o ≡ Some x → (x ≡ k) × (0 < x)
+number_some a e = (rw e at a.number_is, (rw e at a.some).0)
 
 half_none : (b : Bool) → from_half {A = Trial} b [] ≡ []
 unfolding from_half
@@ -41,42 +64,47 @@ half_none true = refl
 half_none false = refl
 
 -- what is said of a pair, by the vehicles of its stops
-module _ (i j one two : ℕ) (p : PairPlace) (r : PairListed) where
-  pub tells_loose_one : one ≡ 0 → (r.found ≡ false) × (r.next ≡ next_rank p) → PairTells (pair_on i j one two) p r
+module _ (i j one two : ℕ) (p : PairPlace) (r : Listed PairPlace) where
+  pub loose_one : one ≡ 0 → r.trial ≡ None → r.next ≡ next_rank p → PairTells (pair_on i j one two) p r
   unfolding pair_on
-  tells_loose_one e h = no_trial r h.0 (rw (eq-eqb one 0 e) (half_none p.second)) h.1
+  loose_one e f n = no_trial r f (rw (eq-eqb one 0 e) (half_none p.second)) n
 
-  module _ (n : one ≡ 0 → ⊥) where
-    pub tells_loose_two : two ≡ 0 → (r.found ≡ false) × (r.next ≡ next_rank p) → PairTells (pair_on i j one two) p r
+  pub loose_two : (one ≡ 0 → ⊥) → two ≡ 0 → r.trial ≡ None → r.next ≡ next_rank p → PairTells (pair_on i j one two) p r
+  unfolding pair_on
+  loose_two h e f n = no_trial r f (rw (ne_eqb one 0 h, eq-eqb two 0 e) (half_none p.second)) n
+
+  module _ (a : 0 < one) (b : 0 < two) where
+    apart_one : eqb one 0 ≡ false
+    apart_one = ne_eqb one 0 (λ e. omega arith)
+
+    apart_two : eqb two 0 ≡ false
+    apart_two = ne_eqb two 0 (λ e. omega arith)
+
+    pub tells_no_second : (one ≡ two → ⊥) → p.second ≡ true → r.trial ≡ None → r.next ≡ next_rank p → PairTells (pair_on i j one two) p r
+    unfolding pair_on from_half
+    tells_no_second d s f n = no_trial r f (rw (s, apart_one, apart_two, ne_eqb one two d) refl) n
+
+    pub tells_swap : {m : Code.Trial} → (one ≡ two → ⊥) → p.second ≡ false → r.trial ≡ Some m → listed_trial m ≡ on_two (swap i j) one two
+        → r.next ≡ next_rank p → PairTells (pair_on i j one two) p r
+    unfolding pair_on from_half
+    tells_swap {m} d s f e n = last_trial r m f (rw (s, apart_one, apart_two, ne_eqb one two d, e) refl) n
+
+    pub tells_after : {m : Code.Trial} → one ≡ two → p.second ≡ true → r.trial ≡ Some m → listed_trial m ≡ on_one (after i j) one
+        → r.next ≡ next_rank p → PairTells (pair_on i j one two) p r
+    unfolding pair_on from_half
+    tells_after {m} d s f e n = last_trial r m f (rw (s, apart_one, apart_two, eq-eqb one two d, e) refl) n
+
+    pub tells_before : {m : Code.Trial} → one ≡ two → p.second ≡ false → r.trial ≡ Some m → listed_trial m ≡ on_one (before i j) one
+        → r.next ≡ halfway p → PairTells (pair_on i j one two) p r
     unfolding pair_on
-    tells_loose_two e h = no_trial r h.0 (rw (ne_eqb one 0 n, eq-eqb two 0 e) (half_none p.second)) h.1
-
-    module _ (m : two ≡ 0 → ⊥) where
-      pub tells_no_second : (one ≡ two → ⊥) → p.second ≡ true → (r.found ≡ false) × (r.next ≡ next_rank p) → PairTells (pair_on i j one two) p r
-      unfolding pair_on from_half
-      tells_no_second d s h = no_trial r h.0 (rw (s, ne_eqb one 0 n, ne_eqb two 0 m, ne_eqb one two d) refl) h.1
-
-      pub tells_swap : (one ≡ two → ⊥) → p.second ≡ false
-          → r.found ≡ true → listed_trial r.trial ≡ on_two (swap i j) one two → r.next ≡ next_rank p → PairTells (pair_on i j one two) p r
-      unfolding pair_on from_half
-      tells_swap d s f e h = last_trial r f (rw (s, ne_eqb one 0 n, ne_eqb two 0 m, ne_eqb one two d, e) refl) h
-
-      pub tells_after : one ≡ two → p.second ≡ true
-          → r.found ≡ true → listed_trial r.trial ≡ on_one (after i j) one → r.next ≡ next_rank p → PairTells (pair_on i j one two) p r
-      unfolding pair_on from_half
-      tells_after d s f e h = last_trial r f (rw (s, ne_eqb one 0 n, ne_eqb two 0 m, eq-eqb one two d, e) refl) h
-
-      pub tells_before : one ≡ two → p.second ≡ false
-          → r.found ≡ true → listed_trial r.trial ≡ on_one (before i j) one → r.next ≡ halfway p → PairTells (pair_on i j one two) p r
-      unfolding pair_on
-      tells_before d s f e h = first_trial r (on_one (after i j) one) f s (rw (ne_eqb one 0 n, ne_eqb two 0 m, eq-eqb one two d, e) refl) h
+    tells_before {m} d s f e n = first_trial r m (on_one (after i j) one) f s (rw (apart_one, apart_two, eq-eqb one two d, e) refl) n
 
 -- where a pair goes on: at the same stop, and at the next rank where it has no trial
-tells_next : {trials : List Trial} {p : PairPlace} (r : PairListed) → PairTells trials p r
-    → (r.next.stop ≡ p.stop) × (r.found ≡ false → r.next ≡ next_rank p)
+tells_next : {trials : List Trial} {p : PairPlace} (r : Listed PairPlace) → PairTells trials p r
+    → (r.next.stop ≡ p.stop) × (r.trial ≡ None → r.next ≡ next_rank p)
 tells_next r (no_trial _ f e n) = (ap (λ (q : PairPlace). q.stop) n, λ _. n)
-tells_next r (last_trial _ f e n) = (ap (λ (q : PairPlace). q.stop) n, λ _. n)
-tells_next r (first_trial _ m f s e n) = (ap (λ (q : PairPlace). q.stop) n, λ t. absurd (true≢false (sym f ∙ t)))
+tells_next r (last_trial _ m f e n) = (ap (λ (q : PairPlace). q.stop) n, λ _. n)
+tells_next r (first_trial _ m o f s e n) = (ap (λ (q : PairPlace). q.stop) n, λ t. absurd (none_some t f))
 
 -- a neighbour is no 0, and behind the last there is 0
 rank_within : (day : List ℕ) (K i rank : ℕ) → (get_or (neighbours day K i) rank 0 ≡ 0 → ⊥) → rank < length (neighbours day K i)
@@ -127,67 +155,78 @@ module _ (day : List ℕ) (K : ℕ) (rounds : List Round) where
         let here : suc (stops day) - p.stop ≡ suc (stops day - p.stop) = omega arith in
         rw (here, drop-cons (neighbours day K p.stop) p.rank 0 h, append_assoc, all_neighbours p.stop, add-one p.rank) refl
 
-  pair_goes : (p : PairPlace) (r : PairListed) → p.stop ≤ stops day → p.rank < length (neighbours day K p.stop)
-      → PairTells (pair_trials rounds p.stop (get_or (neighbours day K p.stop) p.rank 0)) p r → Goes (pair_rest day K rounds) p r.found r.trial r.next
+  pair_goes : (p : PairPlace) (r : Listed PairPlace) → p.stop ≤ stops day → p.rank < length (neighbours day K p.stop)
+      → PairTells (pair_trials rounds p.stop (get_or (neighbours day K p.stop) p.rank 0)) p r → Goes (pair_rest day K rounds) p r
   unfolding from_half
   pair_goes p r within h (no_trial _ f e n) = goes_past f (rw (rank_at p within h, e, n) refl)
-  pair_goes p r within h (last_trial _ f e n) = goes_with f (rw (rank_at p within h, e, n) refl)
-  pair_goes p r within h (first_trial _ m f s e n) = goes_with f (rw (rank_at p within h, s, n, rank_at (halfway p) within h, e) refl)
+  pair_goes p r within h (last_trial _ m f e n) = goes_with f (rw (rank_at p within h, e, n) refl)
+  pair_goes p r within h (first_trial _ m o f s e n) = goes_with f (rw (rank_at p within h, s, n, rank_at (halfway p) within h, e) refl)
 
 -- by the tables
-module _ (layout : Layout) (K : ℕ) (table vehicles : List ℕ) (p : PairPlace) (r : PairListed) where
+module _ (t : Tables) (p : PairPlace) (r : Listed PairPlace) (h : TablesOf t) (stop_first : 1 ≤ p.stop) (stop_within : p.stop ≤ t.layout.stops) where
+  its_stop : (s : TablesOf t) → p.stop ≤ stops s.day
+  its_stop s = omega (arith, s.layout_is.stops_are)
+
   -- the next stop
-  stop_over : ((s : PairsOf layout K table vehicles) → p.stop ≤ stops s.day → length (neighbours s.day K p.stop) ≤ p.rank)
-      → K ≤ 50 → p.stop ≤ layout.stops → (r.found ≡ false) × (r.next ≡ next_stop p) → PairStep layout K table vehicles p r
-  stop_over l k h e =
+  stop_over : ((s : TablesOf t) → length (neighbours s.day t.k p.stop) ≤ p.rank) → r.trial ≡ None → r.next ≡ next_stop p → PairStep t p r
+  stop_over l f n =
       record {
-        goes = λ s.
-            let b : p.stop ≤ stops s.day = omega (arith, s.layout_is.stops_are) in
-            goes_past e.0 (rw (rank_over s.day K s.rounds p b (l s b), e.1) refl);
-        first = rw e.1 (omega arith);
-        falls = λ f. rw e.1 (omega arith);
+        goes = λ s. goes_past f (rw (rank_over s.day t.k s.rounds p (its_stop s) (l s), n) refl);
+        first = rw n (omega arith);
+        falls = λ _. rw n (omega (arith, h.close));
       }
 
-  pub ranks_over : K ≤ 50 → p.stop ≤ layout.stops → K ≤ p.rank → (r.found ≡ false) × (r.next ≡ next_stop p) → PairStep layout K table vehicles p r
-  ranks_over k h l = stop_over (λ s b. omega (arith, (neighbours_are s.day K p.stop).few)) k h
+  pub ranks_over : t.k ≤ p.rank → r.trial ≡ None → r.next ≡ next_stop p → PairStep t p r
+  ranks_over l = stop_over (λ s. omega (arith, (neighbours_are s.day t.k p.stop).few))
 
-  pub neighbours_over : K ≤ 50 → 1 ≤ p.stop → p.stop ≤ layout.stops → p.rank < K → (j : ℕ) → j ≡ get_or table (50 * p.stop + p.rank) 0 → j ≡ 0
-      → (r.found ≡ false) × (r.next ≡ next_stop p) → PairStep layout K table vehicles p r
-  neighbours_over k a h l j t n =
-      stop_over (λ s b. rank_beyond s.day K p.stop p.rank (sym (s.table_is.rows p.stop p.rank a b l) ∙ sym t ∙ n)) k h
+  module _ (rank_few : p.rank < t.k) (j : ℕ) (ej : j ≡ get_or t.neighbours.now (50 * p.stop + p.rank) 0) where
+    its_neighbour : (s : TablesOf t) → j ≡ get_or (neighbours s.day t.k p.stop) p.rank 0
+    its_neighbour s = ej ∙ s.table_is.rows p.stop p.rank stop_first (its_stop s) rank_few
 
-  -- a pair, by the vehicles of its stops
-  same_pair : (s : PairsOf layout K table vehicles) (i j : ℕ) → 1 ≤ i → i ≤ stops s.day → 1 ≤ j → j ≤ stops s.day
-      → pair_on i j (get_or vehicles i 0) (get_or vehicles j 0) ≡ pair_trials s.rounds i j
-  unfolding pair_on pair_trials
-  same_pair s i j a b c d = rw (s.routed i a b, s.routed j c d) refl
+    pub neighbours_over : j ≡ 0 → r.trial ≡ None → r.next ≡ next_stop p → PairStep t p r
+    neighbours_over z = stop_over (λ s. rank_beyond s.day t.k p.stop p.rank (sym (its_neighbour s) ∙ z))
 
-  pub pair_steps : (j one two : ℕ) → 1 ≤ p.stop → p.stop ≤ layout.stops → p.rank < K → j ≡ get_or table (50 * p.stop + p.rank) 0 → (j ≡ 0 → ⊥)
-      → one ≡ get_or vehicles p.stop 0 → two ≡ get_or vehicles j 0 → PairTells (pair_on p.stop j one two) p r → PairStep layout K table vehicles p r
-  pair_steps j one two a h l ej n eo et tells =
-      record {
-        goes = λ s.
-            let b : p.stop ≤ stops s.day = omega (arith, s.layout_is.stops_are) in
-            let e : j ≡ get_or (neighbours s.day K p.stop) p.rank 0 = ej ∙ s.table_is.rows p.stop p.rank a b l in
-            let inside = rank_within s.day K p.stop p.rank (λ x. n (e ∙ x)) in
-            let stop = every_at (λ j. (1 ≤ j) × (j ≤ stops s.day)) (neighbours s.day K p.stop) p.rank 0 (neighbours_are s.day K p.stop).known inside in
-            let same = same_pair s p.stop (get_or (neighbours s.day K p.stop) p.rank 0) a b stop.0 stop.1 in
-            pair_goes s.day K s.rounds p r b inside (rw (eo, et, e, same) at tells);
-        first = rw (tells_next r tells).0 a;
-        falls = λ f. rw ((tells_next r tells).1 f) (omega arith);
-      }
+    -- a pair, by the vehicles of its stops
+    same_pair : (s : TablesOf t) (i j : ℕ) → 1 ≤ i → i ≤ stops s.day → 1 ≤ j → j ≤ stops s.day
+        → pair_on i j (get_or t.vehicles.now i 0) (get_or t.vehicles.now j 0) ≡ pair_trials s.rounds i j
+    unfolding pair_on pair_trials
+    same_pair s i j a b c d = rw (s.surveyed.routed i a b, s.surveyed.routed j c d) refl
+
+    pub pair_steps : (one two : ℕ) → 0 < j → one ≡ get_or t.vehicles.now p.stop 0 → two ≡ get_or t.vehicles.now j 0 → PairTells (pair_on p.stop j one two) p r → PairStep t p r
+    pair_steps one two n eo et tells =
+        record {
+          goes = λ s.
+              let e = its_neighbour s in
+              let inside = rank_within s.day t.k p.stop p.rank (λ x. omega (arith, e, x)) in
+              let stop = every_at (λ j. (1 ≤ j) × (j ≤ stops s.day)) (neighbours s.day t.k p.stop) p.rank 0 (neighbours_are s.day t.k p.stop).known inside in
+              let same = same_pair s p.stop (get_or (neighbours s.day t.k p.stop) p.rank 0) stop_first (its_stop s) stop.0 stop.1 in
+              pair_goes s.day t.k s.rounds p r (its_stop s) inside (rw (eo, et, e, same) at tells);
+          first = rw (tells_next r tells).0 stop_first;
+          falls = λ f. rw ((tells_next r tells).1 f) (omega (arith, h.close));
+        }
+
+    -- a pair of which one stop is on no vehicle
+    module _ (n : 0 < j) {o : Option ℕ} (e : o ≡ None) (f : r.trial ≡ None) (next : r.next ≡ next_rank p) where
+      pub one_loose : NumberAt (get_or t.vehicles.now p.stop 0) o → PairStep t p r
+      one_loose a = pair_steps 0 (get_or t.vehicles.now j 0) n (number_none a e) refl (loose_one p.stop j 0 (get_or t.vehicles.now j 0) p r refl f next)
+
+      pub two_loose : NumberAt (get_or t.vehicles.now j 0) o → PairStep t p r
+      two_loose a = elim (known (eqb (get_or t.vehicles.now p.stop 0) 0)) [
+        | inl z ↦ pair_steps (get_or t.vehicles.now p.stop 0) 0 n refl (number_none a e) (loose_one p.stop j (get_or t.vehicles.now p.stop 0) 0 p r (eqb-true _ _ z) f next)
+        | inr z ↦ pair_steps (get_or t.vehicles.now p.stop 0) 0 n refl (number_none a e) (loose_two p.stop j (get_or t.vehicles.now p.stop 0) 0 p r (eqb-false _ _ z) refl f next)
+      ]
 
 -- so many places are passed over, whatever the tables are, up to one with a trial or to the end
 module _ {S P : Type 0} (rest : S → P → List Trial) (first : P) where
   abbrev pub Passed : P → Type 0
   Passed at = (s : S) → rest s first ≡ rest s at
 
-  module _ {at next : P} {found : Bool} {m : Code.Trial} (h : Passed at) where
-    pub pass_on : ((s : S) → Goes (rest s) at found m next) → found ≡ false → Passed next
+  module _ {at : P} {r : Listed P} (h : Passed at) where
+    pub pass_on : ((s : S) → Goes (rest s) at r) → r.trial ≡ None → Passed r.next
     pass_on step f = λ s. h s ∙ (step s).none f
 
-    pub next_found : ((s : S) → Goes (rest s) at found m next) → found ≡ true → (s : S) → Tells (rest s) first found m next
-    next_found step f = λ s. record { some = λ t. h s ∙ (step s).some t; none = λ t. absurd (true≢false (sym f ∙ t)) }
+    pub next_found : ((s : S) → Goes (rest s) at r) → (r.trial ≡ None → ⊥) → (s : S) → Tells (rest s) first r
+    next_found step f = λ s. record { some = λ m t. h s ∙ (step s).some m t; none = λ t. absurd (f t) }
 
-    pub next_none : ((s : S) → rest s at ≡ []) → (found ≡ false) × (next ≡ at) → (s : S) → Tells (rest s) first found m next
-    next_none over e = λ s. record { some = λ t. absurd (true≢false (sym t ∙ e.0)); none = λ t. (h s ∙ over s, ap (rest s) e.1 ∙ over s) }
+    pub next_none : ((s : S) → rest s at ≡ []) → r.trial ≡ None → r.next ≡ at → (s : S) → Tells (rest s) first r
+    next_none over f n = λ s. record { some = λ m t. absurd (none_some f t); none = λ t. (h s ∙ over s, ap (rest s) n ∙ over s) }

@@ -1,10 +1,9 @@
 -- The tips of the trial list, one after the other: one law for each way through the functions that look for the next. The day may be any
 -- list of words.
 -- Assumes nothing.
-use Rattle.std.specs.Prelude.{if◌then◌else◌}
-use Prim.Native.Nat.{ℕ, zero, suc, ◌+◌, ◌-◌, ◌≤◌, ◌<◌}
+use Rattle.std.specs.Prelude.{if◌then◌else◌, Option, Some, None}
+use Prim.Native.Nat.{ℕ, suc, ◌+◌, ◌-◌, ◌≤◌, ◌<◌}
 use mathlib.Core.Path.{◌≡◌, refl, sym, ap, ◌∙◌}
-use mathlib.Core.Bool.{true, false, true≢false}
 use mathlib.Core.List.{List, [], ◌∷◌, ◌++◌, append_assoc}
 use mathlib.Core.Logic.{inl, inr}
 use native.Mathlib.Numerals.{add-one}
@@ -19,76 +18,80 @@ use Rattle.rules.specs.PlanWords.{rest_word, tip_word}
 use Rattle.rules.specs.Plan.{Task, serve, empty, lunch, Round, task_word, Known}
 use Rattle.rules.specs.Edits.{remove, replace, on_one}
 use Rattle.rules.specs.TrialList.{rising, other_tip, task_trials, round_trials, tip_trials}
-use Rattle.day.specs.declared.fields.Layout.{Layout}
+use Rattle.trial_list.specs.declared.listing.Trial as Code
+use Rattle.trial_list.specs.declared.tables.Tables.{Tables}
 use Rattle.laws.proofs.Decided.{known}
 use Rattle.laws.proofs.Lists.{every_at}
-use Rattle.trial_list.specs.Listing.{Goes, at_tip, next_task, next_vehicle, TipTells, tells_no_tip, tells_tip, TipFits, TipsOf, tips_left, TipSteps}
+use Rattle.trial_list.specs.Listing.{Goes, at_tip, next_task, next_vehicle, TipTells, tells_no_tip, tells_tip, TipFits, TablesOf, SomeTip, tips_left, TipStep}
+use Rattle.trial_list.specs.Survey.{Laid, VehicleIn}
 use Rattle.trial_list.specs.TrialRest.{listed_trial, tip_from, task_from, tasks_from, tip_rest}
-use Rattle.trial_list.specs.declared.listing.TipListed.{TipListed}
+use Rattle.trial_list.specs.declared.listing.Listed.{Listed}
 use Rattle.trial_list.specs.declared.listing.TipPlace.{TipPlace}
-use Rattle.trial_list.proofs.LaidLaws.{start_next, vehicle_inside, task_word_lem}
-use Rattle.trial_list.proofs.PairRests.{goes_past, goes_with}
+use Rattle.trial_list.proofs.LaidLaws.{start_next, vehicle_in, vehicle_inside, task_word_lem}
+use Rattle.trial_list.proofs.PairRests.{none_some, goes_past, goes_with}
 
 -- the trials of one tip
 module _ (most number t y : ℕ) where
-  from_removal : tip_from most number t y 0 ≡ on_one (remove t) number ∷ tip_from most number t y 1
+  from_removal : tip_from most number t y None ≡ on_one (remove t) number ∷ tip_from most number t y (Some 1)
   unfolding tip_from
-  from_removal = let e : most - 0 ≡ most = omega arith in rw e refl
+  from_removal = let e : suc most - 1 ≡ most = omega arith in rw e refl
 
-  from_over : (x : ℕ) → 0 < x → most < x → tip_from most number t y x ≡ []
+  from_over : (x : ℕ) → most < x → tip_from most number t y (Some x) ≡ []
   unfolding tip_from rising
-  from_over zero a h = absurd (omega arith)
-  from_over (suc x) a h = let e : most - x ≡ 0 = omega arith in rw e refl
+  from_over x h = let e : suc most - x ≡ 0 = omega arith in rw e refl
 
-  from_here : (x : ℕ) → 0 < x → x ≤ most → tip_from most number t y x ≡ other_tip number t y x ++ tip_from most number t y (x + 1)
+  from_here : (x : ℕ) → x ≤ most → tip_from most number t y (Some x) ≡ other_tip number t y x ++ tip_from most number t y (Some (x + 1))
   unfolding tip_from rising
-  from_here zero a h = absurd (omega arith)
-  from_here (suc x) a h = let e : most - x ≡ suc (most - suc x) = omega arith in rw (add-one, e) refl
+  from_here x h =
+      let e : suc most - x ≡ suc (most - x) = omega arith in
+      let f : suc most - (x + 1) ≡ most - x = omega arith in
+      rw (e, f, add-one x) refl
 
-  from_same : (x : ℕ) → 0 < x → x ≡ y → tip_from most number t y x ≡ tip_from most number t y (x + 1)
+  from_same : (x : ℕ) → x ≡ y → tip_from most number t y (Some x) ≡ tip_from most number t y (Some (x + 1))
   unfolding other_tip
-  from_same x a e = elim (known (ltb most x)) [
-    | inl l ↦ from_over x a (ltb-true most x l) ∙ sym (from_over (x + 1) (omega arith) (omega (arith, ltb-true most x l)))
-    | inr l ↦ from_here x a (ltb-false most x l) ∙ rw (eq-eqb x y e) refl
+  from_same x e = elim (known (ltb most x)) [
+    | inl l ↦ from_over x (ltb-true most x l) ∙ sym (from_over (x + 1) (omega (arith, ltb-true most x l)))
+    | inr l ↦ from_here x (ltb-false most x l) ∙ rw (eq-eqb x y e) refl
   ]
 
-  from_other : (x : ℕ) → 0 < x → x ≤ most → (x ≡ y → ⊥) → tip_from most number t y x ≡ on_one (replace t x) number ∷ tip_from most number t y (x + 1)
+  from_other : (x : ℕ) → x ≤ most → (x ≡ y → ⊥) → tip_from most number t y (Some x) ≡ on_one (replace t x) number ∷ tip_from most number t y (Some (x + 1))
   unfolding other_tip
-  from_other x a h n = from_here x a h ∙ rw (ne_eqb x y n) refl
+  from_other x h n = from_here x h ∙ rw (ne_eqb x y n) refl
 
   -- the tip itself is passed over
-  from_next : (x k : ℕ) → 0 < x → k ≡ (if eqb x y then x + 1 else x) → (0 < k) × (k ≡ y → ⊥) × (tip_from most number t y x ≡ tip_from most number t y k)
-  from_next x k a e = elim (known (eqb x y)) [
-    | inl b ↦ let f : k ≡ x + 1 = rw b at e in let same = eqb-true x y b in (omega arith, λ z. omega arith, rw f (from_same x a same))
-    | inr b ↦ let f : k ≡ x = rw b at e in (omega arith, rw f (eqb-false x y b), rw f refl)
+  from_next : (x k : ℕ) → k ≡ (if eqb x y then x + 1 else x) → (k ≡ y → ⊥) × (tip_from most number t y (Some x) ≡ tip_from most number t y (Some k))
+  from_next x k e = elim (known (eqb x y)) [
+    | inl b ↦ let f : k ≡ x + 1 = rw b at e in let same = eqb-true x y b in (λ z. omega arith, rw f (from_same x same))
+    | inr b ↦ let f : k ≡ x = rw b at e in (rw f (eqb-false x y b), rw f refl)
   ]
 
 -- what is said of a tip
-module _ (most y : ℕ) (q : TipPlace) (r : TipListed) where
-  pub tells_removal : q.tip ≡ 0 → r.found ≡ true → listed_trial r.trial ≡ on_one (remove q.task) (q.vehicle + 1) → r.next ≡ at_tip q 1 → TipTells most y q r
-  tells_removal e f m n = tells_tip r 1 f (rw (e, m, add-one q.vehicle) (from_removal most (suc q.vehicle) q.task y)) n
+module _ (most y : ℕ) (q : TipPlace) (r : Listed TipPlace) where
+  pub tells_removal : {m : Code.Trial} → q.tip ≡ None → r.trial ≡ Some m → listed_trial m ≡ on_one (remove q.task) (q.vehicle + 1) → r.next ≡ at_tip q 1
+      → TipTells most y q r
+  tells_removal {m} e f t n = tells_tip r m 1 f (rw (e, t, add-one q.vehicle) (from_removal most (suc q.vehicle) q.task y)) n
 
-  module _ (k : ℕ) (z : q.tip ≡ 0 → ⊥) (e : k ≡ (if eqb q.tip y then q.tip + 1 else q.tip)) where
-    pub tells_other : k ≤ most → r.found ≡ true
-        → listed_trial r.trial ≡ on_one (replace q.task k) (q.vehicle + 1) → r.next ≡ at_tip q (k + 1) → TipTells most y q r
-    tells_other h f m n =
-        let s = from_next most (suc q.vehicle) q.task y q.tip k (omega arith) e in
-        tells_tip r (k + 1) f (s.2 ∙ rw (m, add-one q.vehicle) (from_other most (suc q.vehicle) q.task y k s.0 h s.1)) n
+  module _ {x k : ℕ} (e : q.tip ≡ Some x) (g : k ≡ (if eqb x y then x + 1 else x)) where
+    pub tells_other : {m : Code.Trial} → k ≤ most → r.trial ≡ Some m → listed_trial m ≡ on_one (replace q.task k) (q.vehicle + 1) → r.next ≡ at_tip q (k + 1)
+        → TipTells most y q r
+    tells_other {m} h f t n =
+        let s = from_next most (suc q.vehicle) q.task y x k g in
+        tells_tip r m (k + 1) f (rw e (s.1 ∙ rw (t, add-one q.vehicle) (from_other most (suc q.vehicle) q.task y k h s.0))) n
 
-    pub tells_none : {next : TipPlace} → most < k → next ≡ next_task q → (r.found ≡ false) × (r.next ≡ next) → TipTells most y q r
-    tells_none h n f =
-        let s = from_next most (suc q.vehicle) q.task y q.tip k (omega arith) e in
-        tells_no_tip r f.0 (s.2 ∙ from_over most (suc q.vehicle) q.task y k s.0 h) (f.1 ∙ n)
+    pub tells_none : most < k → r.trial ≡ None → r.next ≡ next_task q → TipTells most y q r
+    tells_none h f n =
+        let s = from_next most (suc q.vehicle) q.task y x k g in
+        tells_no_tip r f (rw e (s.1 ∙ from_over most (suc q.vehicle) q.task y k h)) n
 
 -- the tips of a plan
 module _ (day : List ℕ) (rounds : List Round) where
-  all_trials : (number t : ℕ) (task : Task) → task_from (tips day) number t 0 task ≡ task_trials day number t task
+  all_trials : (number t : ℕ) (task : Task) → task_from (tips day) number t None task ≡ task_trials day number t task
   unfolding task_from tip_from task_trials
   all_trials number t (serve k) = refl
   all_trials number t (empty y) = refl
   all_trials number t lunch = refl
 
-  all_tasks : (number t : ℕ) (tasks : Round) → tasks_from day number t 0 tasks ≡ round_trials day number t tasks
+  all_tasks : (number t : ℕ) (tasks : Round) → tasks_from day number t None tasks ≡ round_trials day number t tasks
   unfolding tasks_from round_trials
   all_tasks number t [] = refl
   all_tasks number t (task ∷ tasks) = rw (all_trials number t task) refl
@@ -98,11 +101,11 @@ module _ (day : List ℕ) (rounds : List Round) where
   unfolding tip_rest tasks_from tip_trials
   tips_over q h = rw (get_or-eq_default rounds [] h, drop_of_length-le rounds {i = suc q.vehicle} (omega arith), drop_of_length-le {A = Task} [] {i = q.task} (omega arith)) refl
 
-  pub all_vehicles : (v : ℕ) → tip_rest day rounds (record { vehicle = v; task = 0; tip = 0 }) ≡ tip_trials day v (drop v rounds)
+  pub all_vehicles : (v : ℕ) → tip_rest day rounds (record { vehicle = v; task = 0; tip = None }) ≡ tip_trials day v (drop v rounds)
   unfolding tip_rest tip_trials
   all_vehicles v = elim (known (ltb v (length rounds))) [
     | inl e ↦ rw (drop-cons rounds v [] (ltb-true _ _ e), all_tasks (suc v) 0 (get_or rounds v [])) refl
-    | inr e ↦ tips_over (record { vehicle = v; task = 0; tip = 0 }) (ltb-false _ _ e) ∙ rw (drop_of_length-le rounds (ltb-false _ _ e)) refl
+    | inr e ↦ tips_over (record { vehicle = v; task = 0; tip = None }) (ltb-false _ _ e) ∙ rw (drop_of_length-le rounds (ltb-false _ _ e)) refl
   ]
 
   module _ (q : TipPlace) where
@@ -121,14 +124,14 @@ module _ (day : List ℕ) (rounds : List Round) where
     task_at h = rw (drop-cons its q.task lunch h, append_assoc, add-one q.task, all_tasks (suc q.vehicle) (suc q.task)) refl
 
 -- a word that is no tip's has no trials, and a tip's word has its own
-idle_word : (day : List ℕ) (w number t x : ℕ) (task : Task) → Known day task → ((tip_word 0) ≤ w → w < rest_word → ⊥) → w ≡ task_word task
+idle_word : (day : List ℕ) (w number t : ℕ) (x : Option ℕ) (task : Task) → Known day task → ((tip_word 0) ≤ w → w < rest_word → ⊥) → w ≡ task_word task
     → task_from (tips day) number t x task ≡ []
 unfolding task_from task_word Known
 idle_word day w number t x (serve k) n o e = refl
 idle_word day w number t x (empty y) n o e = absurd (o (omega arith) (omega (arith, n.1)))
 idle_word day w number t x lunch n o e = refl
 
-tip_word_lem : (day : List ℕ) (w number t x : ℕ) (task : Task) → stops day ≤ 240 → Known day task → (tip_word 0) ≤ w → w < rest_word → w ≡ task_word task
+tip_word_lem : (day : List ℕ) (w number t : ℕ) (x : Option ℕ) (task : Task) → stops day ≤ 240 → Known day task → (tip_word 0) ≤ w → w < rest_word → w ≡ task_word task
     → task_from (tips day) number t x task ≡ tip_from (tips day) number t (w - tip_word 0) x
 unfolding task_from task_word Known
 tip_word_lem day w number t x (serve k) m n h l e = absurd (omega arith)
@@ -138,18 +141,24 @@ tip_word_lem day w number t x (empty y) m n h l e =
 tip_word_lem day w number t x lunch m n h l e = absurd (omega arith)
 
 -- by the tables
-module _ {layout : Layout} {starts plan : List ℕ} {count : ℕ} (s : TipsOf layout starts plan count) where
-  among : {v : ℕ} → v < count → v < length s.rounds
-  among h = omega (arith, s.counted)
+module _ (t : Tables) (s : TablesOf t) where
+  among : {v : ℕ} → v < t.count → v < length s.rounds
+  among h = omega (arith, s.surveyed.counted)
+
+  laid : Laid t.plan.now t.starts.now s.rounds s.lefts
+  laid = record { text = s.text; starting = s.surveyed.starting }
 
   -- where a vehicle's words end, and that they stand within the plan
-  end_at : {v : ℕ} → v < count → get_or starts (v + 1) 0 ≡ get_or starts v 0 + length (get_or s.rounds v []) + 2
-  end_at h = start_next s.laid (among h)
+  end_at : {v : ℕ} → v < t.count → get_or t.starts.now (v + 1) 0 ≡ get_or t.starts.now v 0 + length (get_or s.rounds v []) + 2
+  end_at h = start_next laid (among h)
 
-  end_within : {v : ℕ} → v < count → get_or starts (v + 1) 0 ≤ length plan
-  end_within h = vehicle_inside s.laid (among h)
+  end_within : {v : ℕ} → v < t.count → get_or t.starts.now (v + 1) 0 ≤ length t.plan.now
+  end_within h = vehicle_inside laid (among h)
 
-  module _ (q : TipPlace) (h : q.vehicle < count) (l : q.task < length (get_or s.rounds q.vehicle [])) where
+  pub its_vehicle : {v : ℕ} → v < t.count → VehicleIn t.plan.now t.starts.now v
+  its_vehicle h = vehicle_in laid (among h) (omega (arith, s.surveyed.counted, s.few))
+
+  module _ (q : TipPlace) (h : q.vehicle < t.count) (l : q.task < length (get_or s.rounds q.vehicle [])) where
     abbrev task : Task
     task = get_or (get_or s.rounds q.vehicle []) q.task lunch
 
@@ -159,77 +168,67 @@ module _ {layout : Layout} {starts plan : List ℕ} {count : ℕ} (s : TipsOf la
         (every_at (Every (Known s.day)) s.rounds q.vehicle [] s.known (among h)) l
 
     -- a task without trials
-    passes : (r : TipListed) → task_from (tips s.day) (suc q.vehicle) q.task q.tip task ≡ [] → r.found ≡ false → r.next ≡ next_task q
-        → Goes (tip_rest s.day s.rounds) q r.found r.trial r.next
+    passes : (r : Listed TipPlace) → task_from (tips s.day) (suc q.vehicle) q.task q.tip task ≡ [] → r.trial ≡ None → r.next ≡ next_task q
+        → Goes (tip_rest s.day s.rounds) q r
     passes r e f n = goes_past f (rw (task_at s.day s.rounds q l, e, n) refl)
 
     -- a tip
-    tip_goes : (y : ℕ) (r : TipListed) → ((x : ℕ) → task_from (tips s.day) (suc q.vehicle) q.task x task ≡ tip_from (tips s.day) (suc q.vehicle) q.task y x)
-        → TipTells (tips s.day) y q r → Goes (tip_rest s.day s.rounds) q r.found r.trial r.next
+    tip_goes : (y : ℕ) (r : Listed TipPlace) → ((x : Option ℕ) → task_from (tips s.day) (suc q.vehicle) q.task x task ≡ tip_from (tips s.day) (suc q.vehicle) q.task y x)
+        → TipTells (tips s.day) y q r → Goes (tip_rest s.day s.rounds) q r
     tip_goes y r same (tells_no_tip _ f e n) = passes r (same q.tip ∙ e) f n
-    tip_goes y r same (tells_tip _ x f e n) =
-        goes_with f (rw (task_at s.day s.rounds q l, same q.tip, e, n, task_at s.day s.rounds (at_tip q x) l, same x) refl)
+    tip_goes y r same (tells_tip _ m x f e n) =
+        goes_with f (rw (task_at s.day s.rounds q l, same q.tip, e, n, task_at s.day s.rounds (at_tip q x) l, same (Some x)) refl)
 
 -- one step over the tips
-module _ (layout : Layout) (starts plan : List ℕ) (q : TipPlace) (r : TipListed) (a b : ℕ) (ea : a ≡ get_or starts q.vehicle 0) (eb : b ≡ get_or starts (q.vehicle + 1) 0) where
-  pub vehicle_ends : a + 1 + q.task + 1 ≡ b → (r.found ≡ false) × (r.next ≡ next_vehicle q) → TipSteps layout starts plan q r
-  vehicle_ends e n = λ count s h f.
+module _ (t : Tables) (q : TipPlace) (r : Listed TipPlace) (some : SomeTip t q) (a b : ℕ) (ea : a ≡ get_or t.starts.now q.vehicle 0) (eb : b ≡ get_or t.starts.now (q.vehicle + 1) 0) where
+  pub vehicle_ends : a + 1 + q.task + 1 ≡ b → r.trial ≡ None → r.next ≡ next_vehicle q → TipStep t q r
+  vehicle_ends e f n =
       record {
-        goes = λ s. goes_past n.0 (rw (tasks_over s.day s.rounds q (omega (arith, end_at s h)), n.1) refl);
-        fits = rw n.1 (λ l. omega (arith, end_at s l));
-        falls = λ t. rw n.1 (omega (arith, end_within s h));
+        goes = λ s. goes_past f (rw (tasks_over s.day s.rounds q (omega (arith, end_at t s some.within)), n) refl);
+        fits = rw n (λ l. omega (arith, end_at t some.tables l));
+        falls = λ _. rw n (omega (arith, end_within t some.tables some.within));
       }
 
   -- at a task
-  module _ (w : ℕ) (more : a + 1 + q.task + 1 ≡ b → ⊥) (ew : w ≡ get_or plan (a + 1 + q.task) 0) where
-    module _ {count : ℕ} (h : q.vehicle < count) (f : TipFits starts count q) where
-      inside : (s : TipsOf layout starts plan count) → q.task < length (get_or s.rounds q.vehicle [])
-      inside s = omega (arith, f h, end_at s h)
+  module _ (w : ℕ) (more : a + 1 + q.task + 1 ≡ b → ⊥) (ew : w ≡ get_or t.plan.now (a + 1 + q.task) 0) where
+    inside : (s : TablesOf t) → q.task < length (get_or s.rounds q.vehicle [])
+    inside s = omega (arith, some.fits, end_at t s some.within)
 
-      its_word : (s : TipsOf layout starts plan count) → w ≡ task_word (task s q h (inside s))
-      its_word s = ew ∙ ap (λ (k : ℕ). get_or plan (k + 1 + q.task) 0) ea ∙ task_word_lem s.laid (among s h) q.task (inside s)
+    its_word : (s : TablesOf t) → w ≡ task_word (task t s q some.within (inside s))
+    its_word s = ew ∙ ap (λ (k : ℕ). get_or t.plan.now (k + 1 + q.task) 0) ea ∙ task_word_lem (laid t s) (among t s some.within) q.task (inside s)
 
-      -- the next task fits, and there are fewer words behind it
-      next_fits : r.next ≡ next_task q → TipFits starts count r.next
-      next_fits n = rw n (λ l. omega (arith, f l))
+    -- the next task fits, and there are fewer words behind it
+    next_fits : r.next ≡ next_task q → TipFits t.starts.now t.count r.next
+    next_fits n = rw n (λ l. omega (arith, some.fits))
 
-      next_falls : TipsOf layout starts plan count → r.next ≡ next_task q → tips_left starts plan r.next < tips_left starts plan q
-      next_falls s n = rw n (omega (arith, f h, end_within s h))
+    next_falls : r.next ≡ next_task q → tips_left t r.next < tips_left t q
+    next_falls n = rw n (omega (arith, some.fits, end_within t some.tables some.within))
 
     -- it is no tip
-    idle_passes : ((tip_word 0) ≤ w → w < rest_word → ⊥) → (r.found ≡ false) × (r.next ≡ next_task q) → TipSteps layout starts plan q r
-    idle_passes idle n = λ count s h f.
+    pub idle_passes : ((tip_word 0) ≤ w → w < rest_word → ⊥) → r.trial ≡ None → r.next ≡ next_task q → TipStep t q r
+    idle_passes idle f n =
         record {
-          goes = λ s.
-              let l = inside h f s in
-              passes s q h l r (idle_word s.day w (suc q.vehicle) q.task q.tip (task s q h l) (is_known s q h l) idle (its_word h f s)) n.0 n.1;
-          fits = next_fits h f n.1;
-          falls = λ t. next_falls h f s n.1;
+          goes = λ s. passes t s q some.within (inside s) r (idle_word s.day w (suc q.vehicle) q.task q.tip (task t s q some.within (inside s)) (is_known t s q some.within (inside s)) idle (its_word s)) f n;
+          fits = next_fits n;
+          falls = λ _. next_falls n;
         }
 
-    pub idle_below : {next : TipPlace} → w < tip_word 0 → next ≡ next_task q → (r.found ≡ false) × (r.next ≡ next) → TipSteps layout starts plan q r
-    idle_below l e n = idle_passes (λ a b. omega arith) (n.0, n.1 ∙ e)
-
-    pub idle_above : {next : TipPlace} → rest_word ≤ w → next ≡ next_task q → (r.found ≡ false) × (r.next ≡ next) → TipSteps layout starts plan q r
-    idle_above l e n = idle_passes (λ a b. omega arith) (n.0, n.1 ∙ e)
-
     -- it is one
-    tells_fits : {count : ℕ} (y : ℕ) → q.vehicle < count → TipFits starts count q → TipTells layout.tips y q r → TipFits starts count r.next
-    tells_fits y h f (tells_no_tip _ e n m) = next_fits h f m
-    tells_fits y h f (tells_tip _ x e n m) = rw m (λ l. f l)
+    tells_fits : (y : ℕ) → TipTells t.layout.tips y q r → TipFits t.starts.now t.count r.next
+    tells_fits y (tells_no_tip _ e n m) = next_fits m
+    tells_fits y (tells_tip _ m x e n f) = rw f (λ l. some.fits)
 
-    tells_next : (y : ℕ) → TipTells layout.tips y q r → r.found ≡ false → r.next ≡ next_task q
-    tells_next y (tells_no_tip _ e n m) t = m
-    tells_next y (tells_tip _ x e n m) t = absurd (true≢false (sym e ∙ t))
+    tells_next : (y : ℕ) → TipTells t.layout.tips y q r → r.trial ≡ None → r.next ≡ next_task q
+    tells_next y (tells_no_tip _ e n m) f = m
+    tells_next y (tells_tip _ m x e n g) f = absurd (none_some f e)
 
-    pub tip_steps : (tip_word 0) ≤ w → w < rest_word → TipTells layout.tips (w - tip_word 0) q r → TipSteps layout starts plan q r
-    tip_steps low high tells = λ count s h f.
+    pub tip_steps : (tip_word 0) ≤ w → w < rest_word → TipTells t.layout.tips (w - tip_word 0) q r → TipStep t q r
+    tip_steps low high tells =
         record {
           goes = λ s.
-              let l = inside h f s in
-              tip_goes s q h l (w - tip_word 0) r
-              (λ x. tip_word_lem s.day w (suc q.vehicle) q.task x (task s q h l) s.most (is_known s q h l) low high (its_word h f s))
+              tip_goes t s q some.within (inside s) (w - tip_word 0) r
+              (λ x. tip_word_lem s.day w (suc q.vehicle) q.task x (task t s q some.within (inside s)) s.most (is_known t s q some.within (inside s)) low high (its_word s))
               (rw s.layout_is.tips_are at tells);
-          fits = tells_fits (w - tip_word 0) h f tells;
-          falls = λ t. next_falls h f s (tells_next (w - tip_word 0) tells t);
+          fits = tells_fits (w - tip_word 0) tells;
+          falls = λ f. next_falls (tells_next (w - tip_word 0) tells f);
         }

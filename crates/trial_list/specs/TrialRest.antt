@@ -1,5 +1,5 @@
 -- The trial list of a plan from a place on. Assumes nothing.
-use Rattle.std.specs.Prelude.{ℕ, zero, suc, ◌-◌, Bool, false, ◌||◌, List, [], ◌∷◌, ◌++◌, eqb, get_or, drop, if◌then◌else◌}
+use Rattle.std.specs.Prelude.{ℕ, zero, suc, ◌-◌, Bool, false, ◌||◌, List, [], ◌∷◌, ◌++◌, eqb, Option, Some, None, get_or, drop, if◌then◌else◌}
 use Rattle.rules.specs.Fields.{stops, tips}
 use Rattle.rules.specs.Plan.{Task, serve, empty, lunch, Round}
 use Rattle.rules.specs.Neighbours.{neighbours}
@@ -42,18 +42,18 @@ stops_from day K rounds i rank second (suc more) =
 unfoldable pub pair_rest : List ℕ → ℕ → List Round → PairPlace → List Trial
 pair_rest day K rounds p = stops_from day K rounds p.stop p.rank p.second (suc (stops day) - p.stop)
 
--- of tip y, the task number t of a vehicle: at 0 its removal and every other tip, else the other tips from x on
-unfoldable pub tip_from : ℕ → ℕ → ℕ → ℕ → ℕ → List Trial
-tip_from most number t y zero = on_one (remove t) number ∷ rising (other_tip number t y) 1 most
-tip_from most number t y (suc x) = rising (other_tip number t y) (suc x) (most - x)
+-- of tip y, the task number t of a vehicle: its removal and every other tip, or the other tips from x on
+unfoldable pub tip_from : ℕ → ℕ → ℕ → ℕ → Option ℕ → List Trial
+tip_from most number t y None = on_one (remove t) number ∷ rising (other_tip number t y) 1 most
+tip_from most number t y (Some x) = rising (other_tip number t y) x (suc most - x)
 
-unfoldable pub task_from : ℕ → ℕ → ℕ → ℕ → Task → List Trial
+unfoldable pub task_from : ℕ → ℕ → ℕ → Option ℕ → Task → List Trial
 task_from most number t x (empty y) = tip_from most number t y x
 task_from most number t x (serve k) = []
 task_from most number t x lunch = []
 
 -- a vehicle's tasks from number t on
-unfoldable pub tasks_from : List ℕ → ℕ → ℕ → ℕ → Round → List Trial
+unfoldable pub tasks_from : List ℕ → ℕ → ℕ → Option ℕ → Round → List Trial
 tasks_from day number t x [] = []
 tasks_from day number t x (task ∷ tasks) = task_from (tips day) number t x task ++ round_trials day number (suc t) tasks
 
@@ -68,4 +68,4 @@ rest_of day K rounds c = pair_rest day K rounds c.pairs ++ tip_rest day rounds c
 
 -- where the list begins
 abbrev pub list_start : Cursor
-list_start = record { pairs = record { stop = 1; rank = 0; second = false }; tips = record { vehicle = 0; task = 0; tip = 0 } }
+list_start = record { pairs = record { stop = 1; rank = 0; second = false }; tips = record { vehicle = 0; task = 0; tip = None } }

@@ -3,3 +3,4 @@
 
 pub mod listing;
 pub mod survey;
+pub mod tables;

@@ -1,11 +1,9 @@
 // The trial list of the present plan, trial by trial: a cursor says where the list goes on, and the list is never written down.
-ghost use Rattle.std.specs.Prelude.{◌≡◌, true, false, ◌+◌, ◌<◌, ◌≤◌, eqb, get_or, length, if◌then◌else◌};
-ghost use Rattle.rules.specs.Edits.{on_one, on_two};
-ghost use Rattle.edits.specs.EditWords.{edit_of};
-ghost use Rattle.trial_list.specs.TrialRest.{listed_trial, pair_on, list_start};
-ghost use Rattle.trial_list.specs.Listing.{next_task, PairTells, TipTells, TipFits, PairsOf, PairStep, PairAnswer, TipsOf, SomeTip, TipSteps, TipAnswer, PlanTables, CursorFits, ListAnswer};
+ghost use Rattle.std.specs.Prelude.{◌≡◌, ◌+◌, ◌<◌, ◌≤◌, eqb, get_or, length, Some, None, if◌then◌else◌};
+ghost use Rattle.trial_list.specs.TrialRest.{pair_on, list_start};
+ghost use Rattle.trial_list.specs.Listing.{TablesOf, NumberAt, PairTells, TipTells, TipFits, PairStep, PairAnswer, SomeTip, TipStep, TipAnswer, next_rank, halfway, next_stop, at_tip, next_task, next_vehicle, CursorFits, Answers};
 
-use day::fields::Layout;
+use crate::tables::Tables;
 use edits::Edit;
 use plan_words::{REST, TIP};
 
@@ -25,12 +23,12 @@ pub struct PairPlace {
     pub second: bool,
 }
 
-// A vehicle and a task of it, both counted from 0, and the next tip to try, 0 for the removal.
+// A vehicle and a task of it, both counted from 0, and the next tip to try in its place, or none for its removal.
 #[derive(Clone, Copy)]
 pub struct TipPlace {
     pub vehicle: usize,
     pub task: usize,
-    pub tip: usize,
+    pub tip: Option<usize>,
 }
 
 // Where the list goes on: first the pairs, then the tips.
@@ -40,188 +38,167 @@ pub struct Cursor {
     pub tips: TipPlace,
 }
 
-// A trial of a pair, and the place behind it; or none.
+// The trial at a place, where there is one, and the place behind it.
 #[derive(Clone, Copy)]
-pub struct PairListed {
-    pub found: bool,
-    pub trial: Trial,
-    pub next: PairPlace,
+pub struct Listed<P> {
+    pub trial: Option<Trial>,
+    pub next: P,
 }
 
-// A trial of a tip, and the place behind it; or none.
-#[derive(Clone, Copy)]
-pub struct TipListed {
-    pub found: bool,
-    pub trial: Trial,
-    pub next: TipPlace,
-}
-
-// The next trial, and the cursor behind it; or none where the list is at its end.
-#[derive(Clone, Copy)]
-pub struct Listed {
-    pub found: bool,
-    pub trial: Trial,
-    pub next: Cursor,
-}
-
-// Stands where there is no trial.
-fn no_trial() -> Trial {
-    Trial {
-        edit: Edit::Remove { at: 0 },
-        one: 0,
-        other: 0,
-    }
-}
-
-// No trial of pairs here.
-fn no_pair(next: PairPlace) -> PairListed
-    ensures { (result.found ≡ false) × (result.next ≡ next) }
-{
-    PairListed {
-        found: false,
-        trial: no_trial(),
-        next,
-    }
-}
-
-// No trial of tips here.
-fn no_tip(next: TipPlace) -> TipListed
-    ensures { (result.found ≡ false) × (result.next ≡ next) }
-{
-    TipListed {
-        found: false,
-        trial: no_trial(),
-        next,
-    }
-}
-
-// A trial of a pair.
-fn found_pair(edit: Edit, one: usize, other: usize, next: PairPlace) -> PairListed
-    ensures { (result.found ≡ true) × (listed_trial result.trial ≡ on_two (edit_of edit) one other) × (result.next ≡ next) }
-{
-    PairListed {
-        found: true,
-        trial: Trial { edit, one, other },
-        next,
-    }
-}
-
-// A trial of a tip of the vehicle with this number.
-fn found_tip(edit: Edit, number: usize, next: TipPlace) -> TipListed
-    ensures { (result.found ≡ true) × (listed_trial result.trial ≡ on_one (edit_of edit) number) × (result.next ≡ next) }
-{
-    TipListed {
-        found: true,
-        trial: Trial {
-            edit,
-            one: number,
-            other: number,
-        },
-        next,
-    }
-}
-
-// A number of a table of bytes.
-fn byte_at(table: &[u8], i: usize) -> usize
-    requires { i < length table.now }
-    ensures { (result ≡ get_or table.now i 0) × (result < 256) }
-{
-    table[i] as usize
-}
-
-// The next trial of a pair, by the vehicles that its stops are on, 0 for none.
-fn pair_trial(p: PairPlace, stop: u32, other: u32, one: usize, two: usize) -> PairListed
-    requires { p.rank < 50 }
-    ensures { PairTells (pair_on stop other one two) p result }
-{
-    let second = p.second;
-    let next = PairPlace {
-        stop: p.stop,
-        rank: p.rank + 1,
-        second: false,
-    };
-    if one == 0 {
-        return no_pair(next);
-    }
-    if two == 0 {
-        return no_pair(next);
-    }
-    if one != two {
-        if second {
-            return no_pair(next);
+impl PairPlace {
+    fn next_rank(self) -> PairPlace
+        requires { self.rank < 50 }
+        ensures { result ≡ next_rank self }
+    {
+        PairPlace {
+            stop: self.stop,
+            rank: self.rank + 1,
+            second: false,
         }
-        return found_pair(Edit::Swap { stop, other }, one, two, next);
     }
-    if second {
-        return found_pair(Edit::After { stop, moved: other }, one, one, next);
+
+    fn halfway(self) -> PairPlace
+        ensures { result ≡ halfway self }
+    {
+        PairPlace {
+            second: true,
+            ..self
+        }
     }
-    let half = PairPlace {
-        stop: p.stop,
-        rank: p.rank,
-        second: true,
-    };
-    found_pair(Edit::Before { stop, moved: other }, one, one, half)
+
+    fn next_stop(self) -> PairPlace
+        requires { self.stop < 256 }
+        ensures { result ≡ next_stop self }
+    {
+        PairPlace {
+            stop: self.stop + 1,
+            rank: 0,
+            second: false,
+        }
+    }
+}
+
+impl TipPlace {
+    fn at_tip(self, tip: usize) -> TipPlace
+        ensures { result ≡ at_tip self tip }
+    {
+        TipPlace {
+            tip: Some(tip),
+            ..self
+        }
+    }
+
+    fn next_task(self) -> TipPlace
+        requires { self.task < 4294967296 }
+        ensures { result ≡ next_task self }
+    {
+        TipPlace {
+            vehicle: self.vehicle,
+            task: self.task + 1,
+            tip: None,
+        }
+    }
+
+    fn next_vehicle(self) -> TipPlace
+        requires { self.vehicle < 256 }
+        ensures { result ≡ next_vehicle self }
+    {
+        TipPlace {
+            vehicle: self.vehicle + 1,
+            task: 0,
+            tip: None,
+        }
+    }
+}
+
+// A number from 1 on at a place of a table, where 0 stands for none.
+fn number_at(table: &[u8], at: usize) -> Option<usize>
+    requires { at < length table.now }
+    ensures { NumberAt (get_or table.now at 0) result }
+{
+    match table[at] {
+        0 => None,
+        number => Some(number as usize),
+    }
+}
+
+// A trial, and the place behind it.
+fn found<P>(edit: Edit, one: usize, other: usize, next: P) -> Listed<P>
+    ensures trial { result.trial ≡ Some (record { edit = edit; one = one; other = other }) }
+    ensures next { result.next ≡ next }
+{
+    Listed {
+        trial: Some(Trial { edit, one, other }),
+        next,
+    }
+}
+
+// No trial, and the place behind.
+fn passed<P>(next: P) -> Listed<P>
+    ensures trial { result.trial ≡ None }
+    ensures next { result.next ≡ next }
+{
+    Listed { trial: None, next }
+}
+
+// The trial of a pair at a place, by the vehicles that its stops are on.
+fn pair_trial(place: PairPlace, stop: u32, other: u32, one: usize, two: usize) -> Listed<PairPlace>
+    requires { (place.rank < 50) × (0 < one) × (0 < two) }
+    ensures { PairTells (pair_on stop other one two) place result }
+{
+    match (one == two, place.second) {
+        (true, false) => found(
+            Edit::Before { stop, moved: other },
+            one,
+            one,
+            place.halfway(),
+        ),
+        (true, true) => found(
+            Edit::After { stop, moved: other },
+            one,
+            one,
+            place.next_rank(),
+        ),
+        (false, false) => found(Edit::Swap { stop, other }, one, two, place.next_rank()),
+        (false, true) => passed(place.next_rank()),
+    }
 }
 
 // The trial at a place, if there is one; else the place behind it.
-fn pair_at(layout: Layout, k: usize, table: &[u8], vehicles: &[u8], p: PairPlace) -> PairListed
-    requires { PairsOf layout k table.now vehicles.now × (1 ≤ p.stop) × (p.stop ≤ layout.stops) }
-    ensures { PairStep layout k table.now vehicles.now p result }
+fn pair_at(tables: &Tables, place: PairPlace) -> Listed<PairPlace>
+    requires { TablesOf tables.now × (1 ≤ place.stop) × (place.stop ≤ tables.now.layout.stops) }
+    ensures { PairStep tables.now place result }
 {
-    let stop = p.stop;
-    let rank = p.rank;
-    let next = PairPlace {
-        stop: stop + 1,
-        rank: 0,
-        second: false,
+    let stop = place.stop;
+    if tables.k <= place.rank {
+        return passed(place.next_stop());
+    }
+    let Some(other) = number_at(tables.neighbours, 50 * stop + place.rank) else {
+        return passed(place.next_stop());
     };
-    if k <= rank {
-        return no_pair(next);
+    let one = number_at(tables.vehicles, stop);
+    let two = number_at(tables.vehicles, other);
+    match (one, two) {
+        (Some(one), Some(two)) => pair_trial(place, stop as u32, other as u32, one, two),
+        _ => passed(place.next_rank()),
     }
-    let other = byte_at(table, 50 * stop + rank);
-    if other == 0 {
-        return no_pair(next);
-    }
-    let one = byte_at(vehicles, stop);
-    let two = byte_at(vehicles, other);
-    pair_trial(p, stop as u32, other as u32, one, two)
 }
 
-// The next trial of a pair, passing over those that have none.
-fn next_pair(layout: Layout, k: usize, table: &[u8], vehicles: &[u8], p: PairPlace) -> PairListed
-    requires { PairsOf layout k table.now vehicles.now × (1 ≤ p.stop) }
-    ensures { PairAnswer layout k table.now vehicles.now p result }
+// The next trial of a pair, passing over those that have none. It has a twin over the tips: one function of both would take its places by a
+// trait with a measure, an invariant and three laws, which is longer than the two loops.
+fn next_pair(tables: &Tables, first: PairPlace) -> Listed<PairPlace>
+    requires { TablesOf tables.now × (1 ≤ first.stop) }
+    ensures { PairAnswer tables.now first result }
 {
-    let stops = layout.stops;
-    let mut q = p;
-    while q.stop <= stops {
-        let r = pair_at(layout, k, table, vehicles, q);
-        if r.found {
-            return r;
+    let mut place = first;
+    while place.stop <= tables.layout.stops {
+        let listed = pair_at(tables, place);
+        if listed.trial.is_some() {
+            return listed;
         }
-        q = r.next;
+        place = listed.next;
     }
-    no_pair(q)
-}
-
-// The task behind a place.
-fn next_task(q: TipPlace) -> TipPlace
-    requires { q.task < 4294967296 }
-    ensures { result ≡ next_task q }
-{
-    TipPlace {
-        vehicle: q.vehicle,
-        task: q.task + 1,
-        tip: 0,
-    }
-}
-
-// A number of a table of words.
-fn number_at(table: &[u32], i: usize) -> usize
-    requires { i < length table.now }
-    ensures { (result ≡ get_or table.now i 0) × (result < 4294967296) }
-{
-    table[i] as usize
+    passed(place)
 }
 
 // The tip x, or the next where x is the tip y itself.
@@ -229,87 +206,61 @@ fn other_tip(x: usize, y: usize) -> usize
     requires { y < 268435456 }
     ensures { result ≡ (if eqb x y then x + 1 else x) }
 {
-    if x == y {
-        return x + 1;
-    }
-    x
+    if x == y { x + 1 } else { x }
 }
 
 // The next trial of the tip y.
-fn tip_trial(most: usize, q: TipPlace, y: usize) -> TipListed
-    requires { (most < 256) × (y < 268435456) × (q.vehicle < 256) × (q.task < 4294967296) }
-    ensures { TipTells most y q result }
+fn tip_trial(tips: usize, place: TipPlace, y: usize) -> Listed<TipPlace>
+    requires { (tips < 256) × (y < 268435456) × (place.vehicle < 256) × (place.task < 4294967296) }
+    ensures { TipTells tips y place result }
 {
-    let vehicle = q.vehicle;
-    let task = q.task;
-    let number = vehicle + 1;
-    if q.tip == 0 {
-        let next = TipPlace {
-            vehicle,
-            task,
-            tip: 1,
-        };
-        return found_tip(Edit::Remove { at: task }, number, next);
+    let number = place.vehicle + 1;
+    let at = place.task;
+    let Some(tip) = place.tip else {
+        return found(Edit::Remove { at }, number, number, place.at_tip(1));
+    };
+    let x = other_tip(tip, y);
+    if x <= tips {
+        let edit = Edit::Replace { at, tip: x as u32 };
+        found(edit, number, number, place.at_tip(x + 1))
+    } else {
+        passed(place.next_task())
     }
-    let x = other_tip(q.tip, y);
-    if x <= most {
-        let next = TipPlace {
-            vehicle,
-            task,
-            tip: x + 1,
-        };
-        return found_tip(
-            Edit::Replace {
-                at: task,
-                tip: x as u32,
-            },
-            number,
-            next,
-        );
-    }
-    no_tip(next_task(q))
 }
 
 // The trial at a place, if there is one; else the place behind it. A vehicle's last word is its E.
-fn tip_at(layout: Layout, starts: &[u32], plan: &[u32], q: TipPlace) -> TipListed
-    requires { SomeTip layout starts.now plan.now q }
-    ensures { TipSteps layout starts.now plan.now q result }
+fn tip_at(tables: &Tables, place: TipPlace) -> Listed<TipPlace>
+    requires { SomeTip tables.now place }
+    ensures { TipStep tables.now place result }
 {
-    let vehicle = q.vehicle;
-    let start = number_at(starts, vehicle);
-    let end = number_at(starts, vehicle + 1);
-    let at = start + 1 + q.task;
+    let start = tables.starts[place.vehicle] as usize;
+    let end = tables.starts[place.vehicle + 1] as usize;
+    let at = start + 1 + place.task;
     if at + 1 == end {
-        return no_tip(TipPlace {
-            vehicle: vehicle + 1,
-            task: 0,
-            tip: 0,
-        });
+        return passed(place.next_vehicle());
     }
-    let w = number_at(plan, at);
-    if w < (TIP as usize) {
-        return no_tip(next_task(q));
+    let word = tables.plan[at];
+    if (TIP..REST).contains(&word) {
+        tip_trial(tables.layout.tips, place, (word - TIP) as usize)
+    } else {
+        passed(place.next_task())
     }
-    if (REST as usize) <= w {
-        return no_tip(next_task(q));
-    }
-    tip_trial(layout.tips, q, w - (TIP as usize))
 }
 
 // The next trial of a tip, passing over the tasks that have none.
-fn next_tip(layout: Layout, starts: &[u32], count: usize, plan: &[u32], q: TipPlace) -> TipListed
-    requires { TipsOf layout starts.now plan.now count × TipFits starts.now count q }
-    ensures { TipAnswer layout starts.now plan.now count q result }
+fn next_tip(tables: &Tables, first: TipPlace) -> Listed<TipPlace>
+    requires { TablesOf tables.now × TipFits tables.now.starts.now tables.now.count first }
+    ensures { TipAnswer tables.now first result }
 {
-    let mut p = q;
-    while p.vehicle < count {
-        let r = tip_at(layout, starts, plan, p);
-        if r.found {
-            return r;
+    let mut place = first;
+    while place.vehicle < tables.count {
+        let listed = tip_at(tables, place);
+        if listed.trial.is_some() {
+            return listed;
         }
-        p = r.next;
+        place = listed.next;
     }
-    no_tip(p)
+    passed(place)
 }
 
 // Where the list begins.
@@ -325,43 +276,30 @@ pub fn first_trial() -> Cursor
         tips: TipPlace {
             vehicle: 0,
             task: 0,
-            tip: 0,
+            tip: None,
         },
     }
 }
 
-// The next trial of the present plan's list, of neighbourhood k, and the cursor behind it.
-pub fn next_trial(
-    layout: Layout,
-    k: usize,
-    table: &[u8],
-    starts: &[u32],
-    vehicles: &[u8],
-    count: usize,
-    plan: &[u32],
-    c: Cursor,
-) -> Listed
-    requires { PlanTables layout k table.now starts.now vehicles.now plan.now count × CursorFits starts.now count c }
-    ensures { ListAnswer layout k table.now starts.now vehicles.now plan.now count c result }
+// The next trial of the present plan's list, and the cursor behind it.
+pub fn next_trial(tables: &Tables, cursor: Cursor) -> Listed<Cursor>
+    requires { TablesOf tables.now × CursorFits tables.now.starts.now tables.now.count cursor }
+    ensures { Answers tables.now cursor result }
 {
-    let p = c.pairs;
-    let q = c.tips;
-    let pair = next_pair(layout, k, table, vehicles, p);
+    let pair = next_pair(tables, cursor.pairs);
     let pairs = pair.next;
-    if pair.found {
-        let trial = pair.trial;
+    if pair.trial.is_some() {
         return Listed {
-            found: true,
-            trial,
-            next: Cursor { pairs, tips: q },
+            trial: pair.trial,
+            next: Cursor { pairs, ..cursor },
         };
     }
-    let tip = next_tip(layout, starts, count, plan, q);
-    let trial = tip.trial;
-    let tips = tip.next;
+    let tip = next_tip(tables, cursor.tips);
     Listed {
-        found: tip.found,
-        trial,
-        next: Cursor { pairs, tips },
+        trial: tip.trial,
+        next: Cursor {
+            pairs,
+            tips: tip.next,
+        },
     }
 }

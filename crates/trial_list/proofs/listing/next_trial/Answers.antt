@@ -1,9 +1,11 @@
 -- `trial_list::listing::next_trial` meets its contract.
+use mathlib.Core.Path.{refl}
+use Rattle.trial_list.proofs.PairRests.{some_tested, none_tested}
 use Rattle.trial_list.proofs.ListRests.{lists_pair, lists_tip}
 use Rattle.trial_list.proofs.listing.next_trial.Goals as goal
 
-pub returns-then-pair : goal.returns-then-pair
-returns-then-pair c = search lists_pair
+pub returns-then-is_some : goal.returns-then-is_some
+returns-then-is_some c = lists_pair _ _ _ _ c.requires.1 c.next_pair-pair.ensures (some_tested _ c.is_some.ensures c.if-is_some.true) refl refl
 
 pub returns : goal.returns
-returns c = search lists_tip
+returns c = lists_tip _ _ _ _ c.requires.1 c.next_pair-pair.ensures _ (none_tested _ c.is_some.ensures c.if-is_some.false) c.next_tip-tip.ensures refl refl

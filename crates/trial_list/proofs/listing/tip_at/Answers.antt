@@ -1,15 +1,18 @@
 -- `trial_list::listing::tip_at` meets its contract.
-use Rattle.trial_list.proofs.TipRests.{vehicle_ends, idle_below, idle_above, tip_steps}
+use borrow.Author.Rules.{rules}
+use mathlib.Core.Path.{refl, ◌∙◌}
+use Rattle.trial_list.proofs.TipRests.{vehicle_ends, idle_passes, tip_steps}
 use Rattle.trial_list.proofs.listing.tip_at.Goals as goal
 
 pub returns-then-at-end : goal.returns-then-at-end
-returns-then-at-end c = search vehicle_ends
+returns-then-at-end c =
+    let r = c.passed.ensures in
+    vehicle_ends _ _ _ c.requires _ _ refl refl c.if-at-end.true r.trial (r.next ∙ c.next_vehicle.ensures)
 
-pub returns-then-w : goal.returns-then-w
-returns-then-w c = search idle_below
+pub returns-then-contains : goal.returns-then-contains
+returns-then-contains c = tip_steps _ _ _ c.requires _ _ refl refl _ c.if-at-end.false refl (search rules) (search rules) c.tip_trial.ensures
 
-pub returns-then-w-2 : goal.returns-then-w-2
-returns-then-w-2 c = search idle_above
-
-pub returns : goal.returns
-returns c = search tip_steps
+pub returns-else-contains : goal.returns-else-contains
+returns-else-contains c =
+    let r = c.passed-else-contains.ensures in
+    idle_passes _ _ _ c.requires _ _ refl refl _ c.if-at-end.false refl (λ low high. search rules) r.trial (r.next ∙ c.next_task.ensures)

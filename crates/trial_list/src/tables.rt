@@ -1,0 +1,15 @@
+// The present plan and its tables, of which a trial list is read.
+use day::fields::Layout;
+
+// How many stops and tips the day has, how many neighbours a stop has in the list, and the table of them; the plan, where its vehicles start,
+// the vehicle of each stop, and how many vehicles there are.
+#[derive(Clone, Copy)]
+pub struct Tables<'a> {
+    pub layout: Layout,
+    pub k: usize,
+    pub neighbours: &'a [u8],
+    pub starts: &'a [u32],
+    pub vehicles: &'a [u8],
+    pub count: usize,
+    pub plan: &'a [u32],
+}
