@@ -1,4 +1,5 @@
 -- One step of the search, but for the making of a trial: a list is at its end, the budget is gone, or a trial is listed. Assumes nothing.
+use Rattle.std.specs.Prelude.{Some, None}
 use Prim.Native.Nat.{ℕ, ◌+◌, ◌-◌, ◌≤◌, ◌<◌}
 use mathlib.Core.Path.{◌≡◌, sym, ◌∙◌}
 use mathlib.Core.Bool.{Bool, true, false, true≢false, not}
@@ -22,7 +23,9 @@ use Rattle.laws.proofs.Decided.{known}
 use Rattle.trial_list.specs.Listing.{PlanTables, ListAnswer}
 use Rattle.trial_list.specs.Shapes.{Valid}
 use Rattle.trial_list.specs.TrialRest.{rest_of, listed_trial}
+use Rattle.trial_list.specs.declared.listing.Cursor.{Cursor}
 use Rattle.trial_list.specs.declared.listing.Listed.{Listed}
+use Rattle.trial_list.specs.declared.listing.Trial as Code
 use Rattle.trial_list.proofs.ListRests.{plan_tables, start_fits, start_valid, next_valid, valid_names, Names}
 use Rattle.search_laws.proofs.Searching.{run_nil, run_next, loop_spent}
 use Rattle.tracks.specs.declared.plan_tables.Tables.{Tables}
@@ -58,9 +61,9 @@ module _ {day : List ℕ} {layout : Layout} {set : Setting} {budget : ℕ} {tabl
   ends settled e =
       record { rounds = h.rounds; held = h.held; drives = h.drives; within = h.within; going = λ n. absurd (true≢false n); done = λ _. e }
 
-  module _ {l : Listed} (a : ListAnswer layout K table tables.starts tables.vehicles (take (s.words - 0) (drop 0 plan)) s.count s.cursor l) where
+  module _ {l : Listed Cursor} (a : ListAnswer layout K table tables.starts tables.vehicles (take (s.words - 0) (drop 0 plan)) s.count s.cursor l) where
     -- the list at hand is at its end
-    module _ (f : l.found ≡ false) where
+    module _ (f : l.trial ≡ None) where
       behind : run (trial_lists day (sets_of set)) (attempt day (greedy_lefts day)) (budget - s.made) h.rounds (trial_lists day (drop (s.stage + 1) (sets_of set)) h.rounds) s.made
           ≡ searched day (sets_of set) budget
       unfolding plan_tables held_tables
@@ -107,24 +110,24 @@ module _ {day : List ℕ} {layout : Layout} {set : Setting} {budget : ℕ} {tabl
       list_ends e = rw e (next_searching, next_fewer)
 
     -- a trial is listed
-    module _ (f : l.found ≡ true) where
-      next_is_lem : rest_of day K h.rounds s.cursor ≡ listed_trial l.trial ∷ rest_of day K h.rounds l.next
+    module _ {m : Code.Trial} (f : l.trial ≡ Some m) where
+      next_is_lem : rest_of day K h.rounds s.cursor ≡ listed_trial m ∷ rest_of day K h.rounds l.next
       unfolding plan_tables held_tables
-      next_is_lem = (a.tells held_tables).some f
+      next_is_lem = (a.tells held_tables).some m f
 
       -- but the budget is gone
       pub ends_spent : {r : Search} → s.made ≡ budget → r ≡ ended_by s false
           → Searching day (sets_of set) budget plan tables r × (steps_left budget r < steps_left budget s)
       ends_spent b e =
           let same = (h.going g).same in
-          let spent = loop_spent (trial_lists day (sets_of set)) (attempt day (greedy_lefts day)) budget h.rounds (listed_trial l.trial) (rest_of day K h.rounds l.next) _ s.made b in
+          let spent = loop_spent (trial_lists day (sets_of set)) (attempt day (greedy_lefts day)) budget h.rounds (listed_trial m) (rest_of day K h.rounds l.next) _ s.made b in
           rw (e, g) (ends false (sym spent ∙ rw next_is_lem at same), omega (arith, at_hand, sets_few set))
 
       -- it may be made
-      next_may : Valid day h.rounds (listed_trial l.trial) × Every (Valid day h.rounds) (rest_of day K h.rounds l.next)
-      next_may = next_valid day h.rounds K s.cursor l.next l.trial next_is_lem (h.going g).valid
+      next_may : Valid day h.rounds (listed_trial m) × Every (Valid day h.rounds) (rest_of day K h.rounds l.next)
+      next_may = next_valid day h.rounds K s.cursor l.next m next_is_lem (h.going g).valid
 
-      pub next_trial : (s.made ≡ budget → ⊥) → NextTrial day (sets_of set) budget plan tables s l
+      pub next_trial : (s.made ≡ budget → ⊥) → NextTrial day (sets_of set) budget plan tables s m l.next
       next_trial b =
           record {
             rounds = h.rounds;
@@ -141,10 +144,10 @@ module _ {day : List ℕ} {layout : Layout} {set : Setting} {budget : ℕ} {tabl
           }
 
 -- the stops and tips that a listed trial names
-module _ {day Ks : List ℕ} {budget : ℕ} {plan : List ℕ} {tables : Tables} {s : Search} (l : Listed) (ok : IsAccepted day)
-    (h : NextTrial day Ks budget plan tables s l) where
-  pub trial_names : Names day l.trial
-  trial_names = valid_names day h.rounds l.trial (accepted_ranges day ok).stops_most h.may_be
+module _ {day Ks : List ℕ} {budget : ℕ} {plan : List ℕ} {tables : Tables} {s : Search} {m : Code.Trial} {next : Cursor} (ok : IsAccepted day)
+    (h : NextTrial day Ks budget plan tables s m next) where
+  pub trial_names : Names day m
+  trial_names = valid_names day h.rounds m (accepted_ranges day ok).stops_most h.may_be
 
 -- whether the search goes on
 pub is_on : {ended going : Bool} → going ≡ not ended → going ≡ true → ended ≡ false

@@ -49,7 +49,7 @@ module _ {layout : Layout} {K k : ℕ} {table starts vehicles plan : List ℕ} {
   pub tables_for : PlanTables layout K table starts vehicles plan count → PlanTables layout k table starts vehicles plan count
   tables_for h = rw e h
 
-  pub answer_for : {cursor : Cursor} {l : Listed} → ListAnswer layout k table starts vehicles plan count cursor l
+  pub answer_for : {cursor : Cursor} {l : Listed Cursor} → ListAnswer layout k table starts vehicles plan count cursor l
       → ListAnswer layout K table starts vehicles plan count cursor l
   answer_for h = rw (← e) h
 

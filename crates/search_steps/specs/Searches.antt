@@ -11,7 +11,7 @@ use Rattle.trial_list.specs.Shapes.{Shaped, Valid}
 use Rattle.trial_list.specs.Survey.{Surveyed}
 use Rattle.trial_list.specs.TrialRest.{rest_of, list_start, listed_trial}
 use Rattle.trial_list.specs.declared.listing.Cursor.{Cursor}
-use Rattle.trial_list.specs.declared.listing.Listed.{Listed}
+use Rattle.trial_list.specs.declared.listing.Trial as Code
 use Rattle.tracks.specs.Tables.{TrackedIn}
 use Rattle.tracks.specs.declared.plan_tables.Tables.{Tables}
 use Rattle.search_steps.specs.declared.steps.Search.{Search}
@@ -128,8 +128,8 @@ pub record Ahead (day Ks : List ℕ) (budget : ℕ) (plan : List ℕ) (tables : 
   pub fits : CursorFits tables.starts s.count next
   pub same : GoesOn day Ks budget rounds s.made s.stage s.cursor
 
-abbrev pub NextTrial : List ℕ → List ℕ → ℕ → List ℕ → Tables → Search → Listed → Type 0
-NextTrial day Ks budget plan tables s l = Ahead day Ks budget plan tables s (listed_trial l.trial) l.next
+abbrev pub NextTrial : List ℕ → List ℕ → ℕ → List ℕ → Tables → Search → Code.Trial → Cursor → Type 0
+NextTrial day Ks budget plan tables s m next = Ahead day Ks budget plan tables s (listed_trial m) next
 
 -- the greedy plan is held, and no trial is made yet
 abbrev pub BeginsAll : List ℕ → List ℕ → Tables → Search → Type 0

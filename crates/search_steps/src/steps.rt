@@ -155,23 +155,20 @@ pub fn list_next(
     tables: &Tables,
     plan: &[u32],
     s: Search,
-) -> Listed
+) -> Listed<Cursor>
     requires { (s.stage < length (sets_of set)) × PlanTables layout (k_at (sets_of set) s.stage) table.now tables.now.starts tables.now.vehicles (take (s.words - 0) (drop 0 plan.now)) s.count × CursorFits tables.now.starts s.count s.cursor × (s.words ≤ length plan.now) }
     ensures { ListAnswer layout (k_at (sets_of set) s.stage) table.now tables.now.starts tables.now.vehicles (take (s.words - 0) (drop 0 plan.now)) s.count s.cursor result }
 {
-    let words = s.words;
-    let cursor = s.cursor;
-    let held = &plan[0..words];
-    next_trial(
+    let listing = trial_list::tables::Tables {
         layout,
-        k_at(set, s.stage),
-        table,
-        &tables.starts,
-        &tables.vehicles,
-        s.count,
-        held,
-        cursor,
-    )
+        k: k_at(set, s.stage),
+        neighbours: table,
+        starts: &tables.starts,
+        vehicles: &tables.vehicles,
+        count: s.count,
+        plan: &plan[0..s.words],
+    };
+    next_trial(&listing, s.cursor)
 }
 
 // Whether trials are still to be made.

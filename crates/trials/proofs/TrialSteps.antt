@@ -14,7 +14,7 @@ use Rattle.rules.specs.Attempts.{attempt}
 use Rattle.rules.specs.Search.{trial_lists}
 use Rattle.trial_list.specs.TrialRest.{rest_of, list_start, listed_trial}
 use Rattle.trial_list.specs.declared.listing.Cursor.{Cursor}
-use Rattle.trial_list.specs.declared.listing.Listed.{Listed}
+use Rattle.trial_list.specs.declared.listing.Trial as Code
 use Rattle.trial_list.proofs.ListRests.{start_fits, start_valid}
 use Rattle.candidates.proofs.ShapeKept.{valid_shaped}
 use Rattle.tracks.specs.declared.plan_tables.Held.{Held}
@@ -29,9 +29,9 @@ use Rattle.search_steps.proofs.TakeOverLaws.{slice_is}
 use Rattle.trials.specs.Improvements.{AfterTrial}
 
 -- a trial that is listed, and what comes of it
-module _ {day Ks : List ℕ} {budget : ℕ} {plan : List ℕ} {tables : Tables} {s : Search} (l : Listed) (ok : IsAccepted day)
-    (h : NextTrial day Ks budget plan tables s l) where
-  trial_made : Made day (take (s.words - 0) (drop 0 plan)) tables (listed_trial l.trial) s.count s.distance h.rounds
+module _ {day Ks : List ℕ} {budget : ℕ} {plan : List ℕ} {tables : Tables} {s : Search} (m : Code.Trial) {next : Cursor} (ok : IsAccepted day)
+    (h : NextTrial day Ks budget plan tables s m next) where
+  trial_made : Made day (take (s.words - 0) (drop 0 plan)) tables (listed_trial m) s.count s.distance h.rounds
   trial_made =
       let v = h.held.surveyed in
       record {
@@ -44,14 +44,14 @@ module _ {day Ks : List ℕ} {budget : ℕ} {plan : List ℕ} {tables : Tables} 
         drives = h.drives;
       }
 
-  pub some_made : SomeMade day (take (s.words - 0) (drop 0 plan)) tables (listed_trial l.trial) s.count s.distance
+  pub some_made : SomeMade day (take (s.words - 0) (drop 0 plan)) tables (listed_trial m) s.count s.distance
   some_made = record { rounds = h.rounds; made = trial_made }
 
   pub after_made : {work : List ℕ} (r : Option Held)
-      → ((rounds : List Round) → Made day (take (s.words - 0) (drop 0 plan)) tables (listed_trial l.trial) s.count s.distance rounds
-      → TriedAs day (listed_trial l.trial) rounds work r)
-      → AfterTrial day Ks budget work plan tables s l.next r
-  after_made r y = record { m = listed_trial l.trial; ahead = h; tried_as = y h.rounds trial_made }
+      → ((rounds : List Round) → Made day (take (s.words - 0) (drop 0 plan)) tables (listed_trial m) s.count s.distance rounds
+      → TriedAs day (listed_trial m) rounds work r)
+      → AfterTrial day Ks budget work plan tables s next r
+  after_made r y = record { m = listed_trial m; ahead = h; tried_as = y h.rounds trial_made }
 
 -- a trial was made
 module _ {day Ks : List ℕ} {budget : ℕ} {work plan : List ℕ} {tables : Tables} {s : Search} {next : Cursor} {tried : Option Held}

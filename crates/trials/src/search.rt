@@ -18,7 +18,7 @@ use search_steps::steps::{
     Search, Setting, begin, end, going, is_going, list_next, next_list, take_over,
 };
 use tracks::plan_tables::{Held, Tables};
-use trial_list::listing::{Cursor, Listed, Trial, first_trial};
+use trial_list::listing::{Cursor, Trial, first_trial};
 
 // A trial was made: its plan is taken over where it is kept, and else the list goes on.
 fn after_trial(
@@ -80,14 +80,13 @@ fn step_on(
     plan: &mut [u32],
     tables: &mut Tables,
     s: Search,
-    listed: Listed,
+    trial: Trial,
+    next: Cursor,
 ) -> Search
-    requires { LayoutOf day.now layout × IsAccepted day.now × (5 * layout.stops ≤ length work.old) × (5 * layout.stops ≤ length plan.old) × NextTrial day.now (sets_of set) set.budget plan.old tables.old s listed }
+    requires { LayoutOf day.now layout × IsAccepted day.now × (5 * layout.stops ≤ length work.old) × (5 * layout.stops ≤ length plan.old) × NextTrial day.now (sets_of set) set.budget plan.old tables.old s trial next }
     ensures { Searching day.now (sets_of set) set.budget plan.new tables.new result × (steps_left set.budget result < steps_left set.budget s) }
 {
-    let t = listed.trial;
-    let next = listed.next;
-    let tried = try_next(day, layout, t, plan, tables, s, work);
+    let tried = try_next(day, layout, trial, plan, tables, s, work);
     after_trial(day, layout, set, work, plan, tables, s, next, tried)
 }
 
@@ -108,13 +107,23 @@ fn next_step(
     ensures { Searching day.now (sets_of set) set.budget plan.new tables.new result × (steps_left set.budget result < steps_left set.budget s) }
 {
     let listed = list_next(layout, set, table, tables, plan, s);
-    if listed.found {
-        if s.made == set.budget {
-            return end(s, false);
-        }
-        return step_on(day, layout, set, work, plan, tables, s, listed);
+    let Some(trial) = listed.trial else {
+        return next_list(set, s);
+    };
+    if s.made == set.budget {
+        return end(s, false);
     }
-    next_list(set, s)
+    step_on(
+        day,
+        layout,
+        set,
+        work,
+        plan,
+        tables,
+        s,
+        trial,
+        listed.next,
+    )
 }
 
 // Trials of the greedy plan, and of the plans that come of it, are made until the search ends.

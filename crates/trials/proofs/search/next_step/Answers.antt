@@ -8,17 +8,17 @@ list_next-listed-requires c = let p = c.requires.layout_of in
     let g = c.requires.searching.1 in
     (at_hand p.0 p.1 p.2 p.3 h g, held_tables p.0 p.1 p.2 p.3 h g, (h.going g).fits, h.held.plan_at.fits)
 
+pub returns-in_default : goal.returns-in_default
+returns-in_default c = let p = c.requires.layout_of in
+    list_ends p.0 p.1 p.2 p.3 c.requires.searching.0 c.requires.searching.1 c.list_next-listed.ensures c.in_default.is c.next_list.ensures
+
 pub returns-then-s-set : goal.returns-then-s-set
 returns-then-s-set c =
     let p = c.requires.layout_of in
-    ends_spent p.0 p.1 p.2 p.3 c.requires.searching.0 c.requires.searching.1 c.list_next-listed.ensures c.if-listed.true c.if-s-set.true c.end.ensures
+    ends_spent p.0 p.1 p.2 p.3 c.requires.searching.0 c.requires.searching.1 c.list_next-listed.ensures c.in-Some.is c.if-s-set.true c.end.ensures
 
 pub step_on-requires : goal.step_on-requires
 step_on-requires c =
     let p = c.requires.layout_of in
-    let trial = next_trial p.0 p.1 p.2 p.3 c.requires.searching.0 c.requires.searching.1 c.list_next-listed.ensures c.if-listed.true c.if-s-set.false in
+    let trial = next_trial p.0 p.1 p.2 p.3 c.requires.searching.0 c.requires.searching.1 c.list_next-listed.ensures c.in-Some.is c.if-s-set.false in
     (p.0, p.1, p.4, p.5, trial)
-
-pub returns : goal.returns
-returns c = let p = c.requires.layout_of in
-    list_ends p.0 p.1 p.2 p.3 c.requires.searching.0 c.requires.searching.1 c.list_next-listed.ensures c.if-listed.false c.next_list.ensures
