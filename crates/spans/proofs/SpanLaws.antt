@@ -1,5 +1,5 @@
 -- Outside of the span of an edit stands no task that it changes. Assumes nothing.
-use Rattle.std.specs.Prelude.{if◌then◌else◌}
+use Rattle.std.specs.Prelude.{if◌then◌else◌, Option, Some}
 use Prim.Native.Nat.{ℕ, zero, suc, ◌+◌, ◌-◌, ◌≤◌, ◌<◌}
 use mathlib.Core.Path.{◌≡◌, refl, sym, ap, ◌∙◌}
 use mathlib.Core.Bool.{Bool, true, false}
@@ -169,5 +169,6 @@ module _ (at : ℕ) (tasks : Round) {words : List ℕ} {first last : ℕ} (w : w
   replace_span x = tip_outside (replace at x) at (λ k. refl) (λ n y h. rw (ne_eqb n at h) refl) tasks w c
 
 -- a place that was found lies in the span
-pub place_held : {words : List ℕ} {k place first last : ℕ} → PlaceOf words k place → place < length words → first ≤ place → place ≤ last → Holds words k first last
-place_held {place = place} p l a b = stands place l (p.stands l) a b
+pub place_held : {words : List ℕ} {k place first last : ℕ} {choice : Option ℕ} → PlaceOf words k choice → choice ≡ Some place → first ≤ place → place ≤ last
+    → Holds words k first last
+place_held {words} {k} {place} p e a b = let found : PlaceOf words k (Some place) = rw e at p in stands place found.0 found.1 a b

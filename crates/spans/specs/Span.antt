@@ -1,6 +1,6 @@
 -- The span of an edit: the tasks of a vehicle from the first that it changes to the last. It serves the contracts of this crate's own
 -- functions. Assumes nothing.
-use Rattle.std.specs.Prelude.{ℕ, ◌≤◌, ◌<◌, ◌≡◌, Bool, true, false, List, length, get_or, take, drop}
+use Rattle.std.specs.Prelude.{ℕ, ◌≤◌, ◌<◌, ◌≡◌, Bool, true, false, List, Option, IfSome, length, get_or, take, drop}
 use Rattle.rules.specs.Lists.{times}
 use Rattle.rules.specs.PlanWords.{stop_word}
 use Rattle.rules.specs.Plan.{Round, stops_on}
@@ -23,10 +23,9 @@ Single (swap i j) false tasks = (times j (stops_on tasks) ≤ 1) × (times i (st
 Single (remove at) here tasks = Unit {0}
 Single (replace at x) here tasks = Unit {0}
 
--- the place of a stop's word, or how many words there are
-pub record PlaceOf (words : List ℕ) (k place : ℕ) : Type 0 where
-  pub within : place ≤ length words
-  pub stands : place < length words → get_or words place 0 ≡ stop_word k
+-- the place of a stop's word, where it is found
+abbrev pub PlaceOf : (words : List ℕ) (k : ℕ) → Option ℕ → Type 0
+PlaceOf words k choice = IfSome choice (λ place. (place < length words) × (get_or words place 0 ≡ stop_word k))
 
 -- a span has a stop's word, or it has all words
 pub data Holds (words : List ℕ) (k first last : ℕ) : Type 0 where

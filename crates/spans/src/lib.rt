@@ -16,13 +16,6 @@ pub struct Span {
     pub last: usize,
 }
 
-// A number of a table as a place.
-pub fn as_place(spot: u32) -> usize
-    ensures { result ≡ spot }
-{
-    spot as usize
-}
-
 // The span of a whole vehicle.
 fn whole_span(words: &[u32]) -> Span
     ensures { (result.first ≡ 0) × (result.last ≡ length words.now) }
@@ -34,23 +27,17 @@ fn whole_span(words: &[u32]) -> Span
 }
 
 // Where the word of stop k stands among the words, of which the first stands at `from` in the plan. `spots` may be wrong of the stop's place
-// in the plan: then the answer is how many words there are.
-fn place_of_stop(spots: &[u32], from: usize, words: &[u32], k: u32) -> usize
+// in the plan: then it is not found.
+fn place_of_stop(spots: &[u32], from: usize, words: &[u32], k: u32) -> Option<usize>
     requires { (length spots.now ≡ 256) × (k < 256) }
     ensures { PlaceOf words.now k result }
 {
-    let spot = as_place(spots[k as usize]);
-    if spot < from {
-        return words.len();
+    let place = (spots[k as usize] as usize).checked_sub(from)?;
+    if place < words.len() && words[place] == STOP + k {
+        Some(place)
+    } else {
+        None
     }
-    let place = spot - from;
-    if words.len() <= place {
-        return words.len();
-    }
-    if words[place] == STOP + k {
-        return place;
-    }
-    words.len()
 }
 
 // The span of one stop.
@@ -58,14 +45,13 @@ fn span_of_stop(spots: &[u32], from: usize, words: &[u32], k: u32) -> Span
     requires { (length spots.now ≡ 256) × (k < 256) }
     ensures { Holds words.now k result.first result.last }
 {
-    let place = place_of_stop(spots, from, words, k);
-    if place < words.len() {
-        return Span {
+    match place_of_stop(spots, from, words, k) {
+        Some(place) => Span {
             first: place,
             last: place,
-        };
+        },
+        None => whole_span(words),
     }
-    whole_span(words)
 }
 
 // The span from one stop to another, whichever comes first.
@@ -75,21 +61,12 @@ fn span_of_two(spots: &[u32], from: usize, words: &[u32], i: u32, j: u32) -> Spa
 {
     let one = place_of_stop(spots, from, words, i);
     let two = place_of_stop(spots, from, words, j);
-    if words.len() <= one {
-        return whole_span(words);
-    }
-    if words.len() <= two {
-        return whole_span(words);
-    }
-    if one < two {
-        return Span {
-            first: one,
-            last: two,
-        };
-    }
-    Span {
-        first: two,
-        last: one,
+    match (one, two) {
+        (Some(one), Some(two)) => Span {
+            first: one.min(two),
+            last: one.max(two),
+        },
+        _ => whole_span(words),
     }
 }
 
@@ -99,9 +76,10 @@ fn span_of_swap(here: bool, spots: &[u32], from: usize, words: &[u32], i: u32, j
     ensures { Holds words.now (if here then i else j) result.first result.last }
 {
     if here {
-        return span_of_stop(spots, from, words, i);
+        span_of_stop(spots, from, words, i)
+    } else {
+        span_of_stop(spots, from, words, j)
     }
-    span_of_stop(spots, from, words, j)
 }
 
 // The span of the word at a place.
@@ -109,12 +87,13 @@ fn span_of_word(words: &[u32], at: usize) -> Span
     ensures { Covers words.now at result.first result.last }
 {
     if at < words.len() {
-        return Span {
+        Span {
             first: at,
             last: at,
-        };
+        }
+    } else {
+        whole_span(words)
     }
-    whole_span(words)
 }
 
 // The span of an edit; `here` tells whether this is the vehicle of a swap's first stop.

@@ -8,7 +8,6 @@ ghost use Rattle.tracks.specs.Before.{cab_at, RowHolds, RowsKept, SomeWalks, Tas
 use day::fields::Layout;
 use plan_words::{REST, VEHICLE};
 use rules::walk::Trip;
-use spans::as_place;
 use walks::cabs::Cab;
 use walks::vehicle::{fresh_cab, walk_word};
 
@@ -47,7 +46,7 @@ pub(crate) fn cab_at(before: &[u32], at: usize) -> Cab
     Cab {
         trip: Trip {
             minute: before[row],
-            place: as_place(before[row + 1]),
+            place: before[row + 1] as usize,
             rested: before[row + 2] == 1,
             distance: before[row + 3],
         },
