@@ -1,8 +1,5 @@
 -- Laws of the walk over a plan's parts: between the words of a vehicle that is out only cargo and trip change. Assumes nothing.
 use Rattle.std.specs.Prelude.{Option, Some, None, Result, Ok, Err, IfSome}
-use Rattle.std.specs.Result.{result_ok}
-use Rattle.std.proofs.lemmas.Option.{none-some, same_Some}
-use Rattle.rules.specs.declared.faults.PlanFault.{PlanFault}
 use Prim.Native.Nat.{ℕ, ◌+◌, ◌-◌, ◌<◌, ◌≤◌}
 use mathlib.Core.Path.{◌≡◌, refl, sym, ap, ◌∙◌}
 use mathlib.Core.Bool.{Bool, true, false, not, false≢true}
@@ -24,11 +21,6 @@ use Rattle.word_steps.specs.declared.steps.State.{State}
 use Rattle.plan_parts.specs.Walked.{out_with, end_of, Reached, PartTo, ToldAll}
 use Rattle.plan_parts.specs.declared.parts.Part.{Part}
 use Rattle.plan_parts.proofs.Reaching.{reached_next, reached_passed, reached_small, reached_tally, reached_end}
-
--- a result that has a value
-pub ok_is : {r : Result State PlanFault} {o : Option State} {x : State} → o ≡ result_ok r → o ≡ Some x → r ≡ Ok x
-ok_is {r = Ok y} e g = ap Ok (same_Some _ _ (sym e ∙ g))
-ok_is {r = Err f} e g = absurd (none-some _ (sym e ∙ g))
 
 -- a tally with so many stops served
 abbrev served_to : Tally → ℕ → Tally

@@ -5,8 +5,8 @@ ghost use Rattle.plan_parts.specs.Walked.{out_with, Leaves, PartTo, Reached, Tol
 
 use crate::start::{first_state, no_stops};
 use rules::walk::{Cargo, Tally, Trip};
-use trips::cargo::nothing;
-use trips::drives::leave;
+use trips::cargo::{nothing, same_cargo};
+use trips::drives::{leave, same_trip};
 use trips::limits::LimitedDay;
 use word_steps::steps::State;
 use word_steps::words::{left_word, task_step, vehicle_word};
@@ -26,11 +26,14 @@ fn out_with(y: Tally, cargo: Cargo, trip: Trip) -> State
     State {
         tally: Tally {
             inside: true,
+            vehicles: y.vehicles,
             served: y.served + cargo.visits,
-            ..y
+            left: y.left,
+            last: y.last,
+            distance: y.distance,
         },
-        cargo,
-        trip,
+        cargo: same_cargo(cargo),
+        trip: same_trip(trip),
     }
 }
 
@@ -49,7 +52,9 @@ fn round(
     let mut trip = leave(limited.day);
     for i in from..plan.len() {
         let s = out_with(y, cargo, trip);
-        let state = task_step(limited, s, met, plan[i]).ok()?;
+        let Ok(state) = task_step(limited, s, met, plan[i]) else {
+            return None;
+        };
         if !state.tally.inside {
             return Some(Part { end: i + 1, state });
         }
@@ -73,11 +78,15 @@ fn next_part(
     let w = plan[i];
     let k = plan_words::number(w);
     if plan_words::is_vehicle(w) {
-        let out = vehicle_word(limited.day, s, k).ok()?;
+        let Ok(out) = vehicle_word(limited.day, s, k) else {
+            return None;
+        };
         return round(limited, out.tally, met, plan, i + 1);
     }
     if plan_words::is_left(w) {
-        let state = left_word(limited.day, s, met, k).ok()?;
+        let Ok(state) = left_word(limited.day, s, met, k) else {
+            return None;
+        };
         return Some(Part { end: i + 1, state });
     }
     None

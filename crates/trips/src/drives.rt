@@ -24,6 +24,18 @@ pub fn leave(day: &Day) -> Trip
     }
 }
 
+// The same trip.
+pub fn same_trip(trip: Trip) -> Trip
+    ensures { result ≡ trip }
+{
+    Trip {
+        minute: trip.minute,
+        place: trip.place,
+        rested: trip.rested,
+        distance: trip.distance,
+    }
+}
+
 // The trip behind a visit, whether it is in time or not.
 pub fn visited_trip(day: &Day, trip: Trip, visit: Visit) -> Trip
     requires trip { (trip.place < places day.now) × (trip.minute < 268435456) × (trip.distance < 4294901760) }

@@ -63,22 +63,24 @@ module _ (day : List ℕ) (s : State) where
   unfolding formed_fault cargo_fault
   tip_missed k {f} d = step_fault day s (tip k) f d.fault_is
 
-  pub tip_emptied : (k : ℕ) {trip : Trip} (cargo : Cargo) → DrivesTo (visit_fault day s.trip k) (visited day s.trip k) (Ok trip)
-      → cargo ≡ emptied s.cargo
-      → StepOf (formed_fault day s (tip k)) day s (tip k) (Ok (state_of s.tally cargo trip))
+  pub tip_emptied : (k : ℕ) {trip : Trip} (tally : Tally) (cargo : Cargo) → DrivesTo (visit_fault day s.trip k) (visited day s.trip k) (Ok trip)
+      → tally ≡ s.tally → cargo ≡ emptied s.cargo
+      → StepOf (formed_fault day s (tip k)) day s (tip k) (Ok (state_of tally cargo trip))
   unfolding formed_fault cargo_fault cargo_after tally_after
-  tip_emptied k cargo d c =
-      record { fault_is = d.fault_is; next_is = record { tally_is = refl; cargo_is = c; trip_is = drives_on d } }
+  tip_emptied k tally cargo d y c =
+      record { fault_is = d.fault_is; next_is = record { tally_is = y; cargo_is = c; trip_is = drives_on d } }
 
   -- D: a rest taken
   pub rest_missed : {f : PlanFault} → DrivesTo (rest_fault day s.trip) (rested_at day s.trip) (Err f) → StepOf (formed_fault day s rest) day s rest (Err f)
   unfolding formed_fault cargo_fault
   rest_missed {f} d = step_fault day s rest f d.fault_is
 
-  pub rest_taken : {trip : Trip} → DrivesTo (rest_fault day s.trip) (rested_at day s.trip) (Ok trip)
-      → StepOf (formed_fault day s rest) day s rest (Ok (state_of s.tally s.cargo trip))
+  pub rest_taken : {trip : Trip} (tally : Tally) (cargo : Cargo) → DrivesTo (rest_fault day s.trip) (rested_at day s.trip) (Ok trip)
+      → tally ≡ s.tally → cargo ≡ s.cargo
+      → StepOf (formed_fault day s rest) day s rest (Ok (state_of tally cargo trip))
   unfolding formed_fault cargo_fault cargo_after tally_after
-  rest_taken d = record { fault_is = d.fault_is; next_is = record { tally_is = refl; cargo_is = refl; trip_is = drives_on d } }
+  rest_taken tally cargo d y c =
+      record { fault_is = d.fault_is; next_is = record { tally_is = y; cargo_is = c; trip_is = drives_on d } }
 
   -- E: back with load, at fault by the minute, or back
   pub back_loaded : 0 < s.cargo.load → StepOf (formed_fault day s back) day s back (Err Faults.Load)
@@ -92,13 +94,13 @@ module _ (day : List ℕ) (s : State) where
     back_missed {f} d = step_fault day s back f (rw (le-ltb _ _ unladen) d.fault_is)
 
     module _ {trip : Trip} (d : DrivesTo (back_fault day s.trip) (driven day s.trip 0 (arrival day s.trip 0)) (Ok trip)) where
-      pub back_home : (tally : Tally) → tally ≡ one_back s.tally trip.distance
-          → StepOf (formed_fault day s back) day s back (Ok (state_of tally s.cargo trip))
+      pub back_home : (tally : Tally) (cargo : Cargo) → tally ≡ one_back s.tally trip.distance → cargo ≡ s.cargo
+          → StepOf (formed_fault day s back) day s back (Ok (state_of tally cargo trip))
       unfolding formed_fault cargo_fault cargo_after tally_after
-      back_home tally y =
+      back_home tally cargo y c =
           record {
             fault_is = rw (le-ltb _ _ unladen) d.fault_is;
-            next_is = record { tally_is = y ∙ rw (drives_on d); cargo_is = refl; trip_is = drives_on d };
+            next_is = record { tally_is = y ∙ rw (drives_on d); cargo_is = c; trip_is = drives_on d };
           }
 
       -- the distance of all vehicles fits
@@ -120,6 +122,7 @@ module _ (day : List ℕ) (s : State) where
   unfolding formed_fault cargo_fault
   left_over k r n = record { fault_is = refl; next_is = n day }
 
-pub stop_left : (s : State) (k : ℕ) (tally : Tally) → tally ≡ one_left s.tally k → (day : List ℕ) → Next day s (left k) (state_of tally s.cargo s.trip)
+pub stop_left : (s : State) (k : ℕ) (tally : Tally) (cargo : Cargo) (trip : Trip) → tally ≡ one_left s.tally k → cargo ≡ s.cargo → trip ≡ s.trip
+    → (day : List ℕ) → Next day s (left k) (state_of tally cargo trip)
 unfolding cargo_after tally_after
-stop_left s k tally y day = record { tally_is = y; cargo_is = refl; trip_is = refl }
+stop_left s k tally cargo trip y c t day = record { tally_is = y; cargo_is = c; trip_is = t }

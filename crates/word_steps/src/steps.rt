@@ -3,17 +3,18 @@ ghost use Rattle.std.specs.Prelude.{◌≡◌, true, ◌<◌, ◌≤◌, List, �
 ghost use Rattle.rules.specs.Fields.{tips, stops};
 ghost use Rattle.rules.specs.PlanWords.{vehicle, stop, tip, rest, back, left};
 ghost use Rattle.trips.specs.Trips.{TallyWithin};
-ghost use Rattle.word_steps.specs.Steps.{formed_fault, Next, StepOf, Within};
+ghost use Rattle.word_steps.specs.Steps.{formed_fault, met_behind, Next, StepOf, Within};
 
 use day::days::Day;
 use rules::faults::PlanFault;
 use rules::walk::{Cargo, Tally, Trip};
-use trips::cargo::{load_on, nothing, tip_out};
-use trips::drives::{back, leave, rest, visit_stop, visit_tip};
+use trips::cargo::{load_on, nothing, same_cargo, tip_out};
+use trips::drives::{back, leave, rest, same_trip, visit_stop, visit_tip};
 use trips::limits::LimitedDay;
-use trips::tally::{one_back, one_left, one_out, one_served};
+use trips::tally::{one_back, one_left, one_out, one_served, same_tally};
 
-// The walk between two words, but for the stops met.
+// The walk between two words, but for the stops met. Its parts are copied field by field, as by `same_tally`: copied as a block, or by
+// `..s`, the check took half as long again a word.
 #[derive(Clone, Copy)]
 pub struct State {
     pub tally: Tally,
@@ -21,10 +22,16 @@ pub struct State {
     pub trip: Trip,
 }
 
-// B, a stop is served.
-pub(crate) fn serve(limited: &LimitedDay, s: State, number: usize) -> Result<State, PlanFault>
+// B, a stop is served, and marked.
+pub(crate) fn serve(
+    limited: &LimitedDay,
+    s: State,
+    met: &mut [bool; 256],
+    number: usize,
+) -> Result<State, PlanFault>
     requires { Within limited.now.day.now 4096 s × (0 < number) × (number ≤ stops limited.now.day.now) }
-    ensures { StepOf (formed_fault limited.now.day.now s (stop number)) limited.now.day.now s (stop number) result }
+    ensures step { StepOf (formed_fault limited.now.day.now s (stop number)) limited.now.day.now s (stop number) result }
+    ensures met { met.new ≡ met_behind met.old (stop number) result }
 {
     let cargo = load_on(s.cargo, limited.day.stop_quantity(number));
     if limited.is_over(cargo) {
@@ -32,6 +39,7 @@ pub(crate) fn serve(limited: &LimitedDay, s: State, number: usize) -> Result<Sta
     }
     let trip = visit_stop(limited.day, s.trip, number)?;
     let tally = one_served(s.tally);
+    met[number] = true;
     Ok(State { tally, cargo, trip })
 }
 
@@ -41,8 +49,9 @@ pub(crate) fn empty_out(day: &Day, s: State, number: usize) -> Result<State, Pla
     ensures { StepOf (formed_fault day.now s (tip number)) day.now s (tip number) result }
 {
     let trip = visit_tip(day, s.trip, number)?;
+    let tally = same_tally(s.tally);
     let cargo = tip_out(s.cargo);
-    Ok(State { cargo, trip, ..s })
+    Ok(State { tally, cargo, trip })
 }
 
 // D, the vehicle rests.
@@ -51,7 +60,9 @@ pub(crate) fn take_rest(day: &Day, s: State) -> Result<State, PlanFault>
     ensures { StepOf (formed_fault day.now s rest) day.now s rest result }
 {
     let trip = rest(day, s.trip)?;
-    Ok(State { trip, ..s })
+    let tally = same_tally(s.tally);
+    let cargo = same_cargo(s.cargo);
+    Ok(State { tally, cargo, trip })
 }
 
 // E, the vehicle is back.
@@ -64,7 +75,8 @@ pub(crate) fn come_back(day: &Day, s: State) -> Result<State, PlanFault>
     }
     let trip = back(day, s.trip)?;
     let tally = one_back(s.tally, trip.distance);
-    Ok(State { tally, trip, ..s })
+    let cargo = same_cargo(s.cargo);
+    Ok(State { tally, cargo, trip })
 }
 
 // A, a vehicle leaves.
@@ -86,6 +98,7 @@ pub(crate) fn leave_out(s: State, number: u32) -> State
 {
     State {
         tally: one_left(s.tally, number),
-        ..s
+        cargo: same_cargo(s.cargo),
+        trip: same_trip(s.trip),
     }
 }

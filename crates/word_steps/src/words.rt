@@ -32,9 +32,7 @@ fn stop_word(
     if met[number] {
         return Err(PlanFault::Stop);
     }
-    let state = serve(limited, s, number)?;
-    met[number] = true;
-    Ok(state)
+    serve(limited, s, met, number)
 }
 
 fn tip_word(day: &Day, s: State, number: usize) -> Result<State, PlanFault>
@@ -100,7 +98,7 @@ pub fn left_word(
     Ok(leave_out(s, number))
 }
 
-// The step of a word, the frequent kinds first.
+// The step of a word, the frequent kinds first. An enum of words would be made by the same chain of tests, and matched behind it.
 pub fn word_step(
     limited: &LimitedDay,
     s: State,
@@ -133,7 +131,8 @@ pub fn word_step(
     Err(PlanFault::Form)
 }
 
-// The step of a word of a vehicle that is out, the frequent kinds first. Another word's step is at fault here, whatever it is.
+// The step of a word of a vehicle that is out, the frequent kinds first. Another word's step is at fault here, whatever it is. No word is
+// decoded: kind and number are one range of words, so that one test tells both.
 pub fn task_step(
     limited: &LimitedDay,
     s: State,

@@ -1,6 +1,6 @@
 -- `plan_parts::parts::round` meets its contract: a vehicle is out, with no word at fault so far.
 use native.Mathlib.Omega.{arith}
-use Rattle.plan_parts.proofs.GoingThrough.{ok_is, out_start, out_few, out_small, out_next, out_again}
+use Rattle.plan_parts.proofs.GoingThrough.{out_start, out_few, out_small, out_next, out_again}
 use Rattle.plan_parts.proofs.parts.round.Goals as goal
 
 pub loop-i-init : goal.loop-i-init
@@ -14,17 +14,15 @@ task_step-requires c = search out_small
 
 pub returns-then-not-state : goal.returns-then-not-state
 returns-then-not-state c =
-    let g = ok_is c.ok.ensures.value c.in_ok-state.was in
     record {
       more = omega arith;
       most = omega arith;
       reached =
-          out_next _ _ _ c.args.y c.loop-i.cargo c.loop-i.trip _ c.loop-i.invariant _ c.out_with-s.ensures c.loop-i-test.true (rw g at c.task_step.ensures.step)
-          (rw g at c.task_step.ensures.met);
+          out_next _ _ _ c.args.y c.loop-i.cargo c.loop-i.trip _ c.loop-i.invariant _ c.out_with-s.ensures c.loop-i-test.true
+          c.in-Ok.ensures.step c.in-Ok.ensures.met;
     }
 
 pub loop-i-preserved : goal.loop-i-preserved
 loop-i-preserved c =
-    let g = ok_is c.ok.ensures.value c.in_ok-state.was in
-    out_again _ _ _ c.args.y c.loop-i.cargo c.loop-i.trip _ c.loop-i.invariant _ c.out_with-s.ensures c.loop-i-test.true (rw g at c.task_step.ensures.step)
-    (rw g at c.task_step.ensures.met) c.if-not-state.false
+    out_again _ _ _ c.args.y c.loop-i.cargo c.loop-i.trip _ c.loop-i.invariant _ c.out_with-s.ensures c.loop-i-test.true
+    c.in-Ok.ensures.step c.in-Ok.ensures.met c.if-not-state.false

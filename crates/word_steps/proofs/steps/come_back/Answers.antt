@@ -13,4 +13,4 @@ pub one_back-tally-requires : goal.one_back-tally-requires
 one_back-tally-requires c = home_fits _ _ c.if-s-gt0.false c.in_ok-trip.ensures c.requires.0 c.requires.1
 
 pub returns : goal.returns
-returns c = back_home _ _ c.if-s-gt0.false c.in_ok-trip.ensures _ c.one_back-tally.ensures
+returns c = back_home _ _ c.if-s-gt0.false c.in_ok-trip.ensures _ _ c.one_back-tally.ensures c.same_cargo-cargo.ensures

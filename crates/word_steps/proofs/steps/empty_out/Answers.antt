@@ -7,4 +7,4 @@ pub returns-in_err-trip : goal.returns-in_err-trip
 returns-in_err-trip c = let p = err_from_is_err_and c.from_residual.result c.from_residual.ensures.1 in rw (p.1, p.2) (tip_missed _ _ _ c.in_err-trip.ensures)
 
 pub returns : goal.returns
-returns c = tip_emptied _ _ _ _ c.in_ok-trip.ensures c.tip_out-cargo.ensures
+returns c = tip_emptied _ _ _ _ _ c.in_ok-trip.ensures c.same_tally-tally.ensures c.tip_out-cargo.ensures
