@@ -1,51 +1,41 @@
 -- A task in front of what is left of a vehicle, word by word as the code does it.
 -- Assumes nothing.
-use Prim.Native.Nat.{ℕ, ◌+◌, ◌-◌, ◌≤◌, ◌<◌}
+use Prim.Native.Nat.{ℕ, ◌-◌, ◌≤◌, ◌<◌}
 use mathlib.Core.Path.{◌≡◌, refl, ap, ◌∙◌}
-use mathlib.Core.Bool.{false, ◌&&◌}
 use mathlib.Core.List.{List}
 use native.Mathlib.Omega.{arith}
-use lib.Dec.{leb}
 use borrow.Author.Tests.{le-leb, lt-leb, eq-eqb, ne_eqb}
 use Rattle.rules.specs.Fields.{tips, stops, stop_place, load_limit, quantity}
 use Rattle.rules.specs.PlanWords.{rest_word, stop_word, tip_word}
 use Rattle.rules.specs.Plan.{Task, serve, empty, lunch, task_word, Known}
-use Rattle.day.specs.Layout.{LayoutOf}
-use Rattle.day.specs.declared.fields.Layout.{Layout}
 use Rattle.onward.specs.Behind.{distance_onward, stop_first, tip_first, SomeTask, PutsFirst}
 use Rattle.onward.specs.declared.Onward.{Onward}
-
--- a load below the least, and one that is not
-pub load_below : (o : Onward) (load : ℕ) → load < o.least → false ≡ (leb o.least load && leb load o.most)
-load_below o load h = rw (lt-leb o.least load h) refl
-
-pub load_from : (o : Onward) (load : ℕ) → o.least ≤ load → leb load o.most ≡ (leb o.least load && leb load o.most)
-load_from o load h = rw (le-leb o.least load h) refl
 
 -- what is left, by its four parts
 abbrev onward : ℕ → ℕ → ℕ → ℕ → Onward
 onward least most next distance = record { least = least; most = most; next = next; distance = distance }
 
 -- a stop that fits on top, and one that does not
-module _ (day : List ℕ) (layout : Layout) (o : Onward) (k : ℕ) {q distance : ℕ} (lay : LayoutOf day layout) (kg : q ≡ quantity day (stop_place day k))
-    (far : distance ≡ distance_onward day (layout.tips + k) o) where
-  pub stop_fits : {least : ℕ} → least ≡ o.least - q → q ≤ o.most → onward least (o.most - q) (layout.tips + k) distance ≡ stop_first day k o
+module _ (day : List ℕ) (o : Onward) (k : ℕ) {q place distance : ℕ} (kg : q ≡ quantity day (stop_place day k)) (at : place ≡ stop_place day k)
+    (far : distance ≡ distance_onward day place o) where
+  pub stop_fits : {least : ℕ} → least ≡ o.least - q → q ≤ o.most → onward least (o.most - q) place distance ≡ stop_first day k o
   unfolding stop_first
-  stop_fits e h = rw (e, far, kg, lay.tips_are, le-leb (quantity day (stop_place day k)) o.most (rw kg at h)) refl
+  stop_fits e h = rw (e, far, kg, at, le-leb (quantity day (stop_place day k)) o.most (rw kg at h)) refl
 
-  pub stop_over : o.most < q → onward 1 0 (layout.tips + k) distance ≡ stop_first day k o
+  pub stop_over : {r : Onward} → o.most < q → r ≡ onward 1 0 place distance → r ≡ stop_first day k o
   unfolding stop_first
-  stop_over h = rw (far, lay.tips_are, lt-leb (quantity day (stop_place day k)) o.most (rw kg at h)) refl
+  stop_over h e = e ∙ rw (far, at, lt-leb (quantity day (stop_place day k)) o.most (rw kg at h)) refl
 
 -- a tip behind which no load is asked for, and one behind which there is
 module _ (day : List ℕ) (o : Onward) (x : ℕ) {distance : ℕ} (far : distance ≡ distance_onward day x o) where
-  pub tip_empties : {limit : ℕ} → limit ≡ load_limit day → o.least ≡ 0 → onward 1 limit x distance ≡ tip_first day x o
+  pub tip_empties : {r : Onward} {limit : ℕ} → limit ≡ load_limit day → o.least ≡ 0 → r ≡ onward 1 0 x distance
+      → onward r.least limit r.next r.distance ≡ tip_first day x o
   unfolding tip_first
-  tip_empties e h = rw (e, far, eq-eqb o.least 0 h) refl
+  tip_empties e h f = rw (f, e, far, eq-eqb o.least 0 h) refl
 
-  pub tip_over : (o.least ≡ 0 → ⊥) → onward 1 0 x distance ≡ tip_first day x o
+  pub tip_over : {r : Onward} → (o.least ≡ 0 → ⊥) → r ≡ onward 1 0 x distance → r ≡ tip_first day x o
   unfolding tip_first
-  tip_over h = rw (far, ne_eqb o.least 0 h) refl
+  tip_over h e = e ∙ rw (far, ne_eqb o.least 0 h) refl
 
 -- the number of a known stop's word, and of a known tip's
 stop_of : (day : List ℕ) (w : ℕ) (task : Task) → Known day task → w ≡ task_word task → w < tip_word 0

@@ -1,10 +1,13 @@
-// What is left of a vehicle from each word of the plan on, in a table that is lent: four words for each word of the plan.
+// What is left of a vehicle from each word of the plan on, in a table that is lent: four words for each word of the plan. The table is of
+// words, and not of rows, until the crate that keeps it holds it as an array of its own.
 #![tactic(auto)]
 
 ghost use Rattle.std.specs.Prelude.{◌≡◌, ◌&&◌, ◌+◌, ◌-◌, ◌*◌, ◌<◌, ◌≤◌, leb, length};
+ghost use Rattle.rules.specs.Fields.{stops, tips, places};
 ghost use Rattle.day.specs.Layout.{LayoutOf};
 ghost use Rattle.onward.specs.Behind.{behind_words, distance_onward, stop_first, tip_first, row_at, RowPut, SomeTask, PutsFirst, SomeRoundTo, FillsBehind};
 
+use day::days::Day;
 use day::fields::Layout;
 use plan_words::{REST, STOP, TIP};
 
@@ -45,47 +48,30 @@ fn put_row(behind: &mut [u32], at: usize, o: Onward)
 pub fn is_smooth(o: Onward, load: u32) -> bool
     ensures { result ≡ (leb o.least load && leb load o.most) }
 {
-    if load < o.least {
-        return false;
-    }
-    load <= o.most
+    (o.least <= load) & (load <= o.most)
 }
 
 // The distance that is left from a place on.
+pub fn distance_from(day: &Day, o: Onward, place: usize) -> u32
+    requires { (place < places day.now) × (o.next < places day.now) × (o.distance < 2147483648) }
+    ensures { result ≡ distance_onward day.now place o }
+{
+    day.leg(place, o.next as usize).distance + o.distance
+}
+
+// The same by the day's words and layout, until its callers use the day's type.
 pub fn onward_distance(day: &[u32], layout: Layout, o: Onward, place: usize) -> u32
     requires { LayoutOf day.now layout × (place < layout.places) × (o.next < layout.places) × (o.distance < 2147483648) }
     ensures { result ≡ distance_onward day.now place o }
 {
-    let leg = day::fields::leg_between(day, layout, place, o.next as usize);
-    leg.distance + o.distance
+    distance_from(&Day::with(day, layout), o, place)
 }
 
-// What is left of a number when another is taken from it, and 0 where it is less.
-fn less(x: u32, y: u32) -> u32
-    ensures { result ≡ x - y }
+// A place behind which no vehicle drives on as it stands: from 1 to 0 there is no load.
+fn no_load(place: usize, distance: u32) -> Onward
+    requires { place < 4294967296 }
+    ensures { result ≡ record { least = 1; most = 0; next = place; distance = distance } }
 {
-    if x < y {
-        return 0;
-    }
-    x - y
-}
-
-// Stop k in front of what is left.
-fn stop_first(day: &[u32], layout: Layout, o: Onward, k: usize) -> Onward
-    requires { LayoutOf day.now layout × (0 < k) × (k ≤ layout.stops) × (o.next < layout.places) × (o.distance < 2147483648) }
-    ensures { result ≡ stop_first day.now k o }
-{
-    let q = day::fields::stop_quantity(day, layout, k);
-    let place = layout.tips + k;
-    let distance = onward_distance(day, layout, o, place);
-    if q <= o.most {
-        return Onward {
-            least: less(o.least, q),
-            most: o.most - q,
-            next: place as u32,
-            distance,
-        };
-    }
     Onward {
         least: 1,
         most: 0,
@@ -94,43 +80,75 @@ fn stop_first(day: &[u32], layout: Layout, o: Onward, k: usize) -> Onward
     }
 }
 
+// Stop k in front of what is left.
+fn stop_first(day: &Day, o: Onward, k: usize) -> Onward
+    requires { (0 < k) × (k ≤ stops day.now) × (o.next < places day.now) × (o.distance < 2147483648) }
+    ensures { result ≡ stop_first day.now k o }
+{
+    let q = day.stop_quantity(k);
+    let place = day.stop_place(k);
+    let distance = distance_from(day, o, place);
+    if q <= o.most {
+        Onward {
+            least: o.least.saturating_sub(q),
+            most: o.most - q,
+            next: place as u32,
+            distance,
+        }
+    } else {
+        no_load(place, distance)
+    }
+}
+
 // Tip x in front of what is left.
-fn tip_first(day: &[u32], layout: Layout, o: Onward, x: usize) -> Onward
-    requires { LayoutOf day.now layout × (x ≤ layout.tips) × (o.next < layout.places) × (o.distance < 2147483648) }
+fn tip_first(day: &Day, o: Onward, x: usize) -> Onward
+    requires { (x ≤ tips day.now) × (o.next < places day.now) × (o.distance < 2147483648) }
     ensures { result ≡ tip_first day.now x o }
 {
-    let distance = onward_distance(day, layout, o, x);
+    let distance = distance_from(day, o, x);
     if o.least == 0 {
-        return Onward {
-            least: 1,
-            most: day::fields::load_limit(day, layout),
-            next: x as u32,
-            distance,
-        };
-    }
-    Onward {
-        least: 1,
-        most: 0,
-        next: x as u32,
-        distance,
+        Onward {
+            most: day.load_limit(),
+            ..no_load(x, distance)
+        }
+    } else {
+        no_load(x, distance)
     }
 }
 
 // One word more in front of what is left.
-fn onward_before(day: &[u32], layout: Layout, o: Onward, w: u32) -> Onward
-    requires { LayoutOf day.now layout × SomeTask day.now w × (o.next < layout.places) × (o.distance < 2147483648) }
+fn onward_before(day: &Day, o: Onward, w: u32) -> Onward
+    requires { SomeTask day.now w × (o.next < places day.now) × (o.distance < 2147483648) }
     ensures { PutsFirst day.now w o result }
 {
     if w < TIP {
-        return stop_first(day, layout, o, (w - STOP) as usize);
+        stop_first(day, o, (w - STOP) as usize)
+    } else if w < REST {
+        tip_first(day, o, (w - TIP) as usize)
+    } else {
+        o
     }
-    if w < REST {
-        return tip_first(day, layout, o, (w - TIP) as usize);
-    }
-    o
 }
 
 // The rows of the vehicle whose tasks stand from a place to another, where its E word is.
+pub fn fill_rows(day: &Day, plan: &[u32], from: usize, end: usize, behind: &mut [u32])
+    requires { (length plan.now ≤ 1200) × SomeRoundTo day.now plan.now from end × (length behind.old ≡ behind_words) }
+    ensures { FillsBehind day.now plan.now from end behind.old behind.new }
+{
+    let mut o = Onward {
+        least: 0,
+        most: 0,
+        next: 0,
+        distance: 0,
+    };
+    put_row(behind, end, o);
+    for at in (from..end).rev() {
+        o = onward_before(day, o, plan[at]);
+        put_row(behind, at, o);
+    }
+}
+
+// The same by the day's words and layout, until its callers use the day's type.
 pub fn fill_behind(
     day: &[u32],
     layout: Layout,
@@ -142,17 +160,5 @@ pub fn fill_behind(
     requires { LayoutOf day.now layout × (length plan.now ≤ 1200) × SomeRoundTo day.now plan.now from end × (length behind.old ≡ behind_words) }
     ensures { FillsBehind day.now plan.now from end behind.old behind.new }
 {
-    let mut o = Onward {
-        least: 0,
-        most: 0,
-        next: 0,
-        distance: 0,
-    };
-    put_row(behind, end, o);
-    let mut at = end;
-    while from < at {
-        at -= 1;
-        o = onward_before(day, layout, o, plan[at]);
-        put_row(behind, at, o);
-    }
+    fill_rows(&Day::with(day, layout), plan, from, end, behind);
 }

@@ -5,5 +5,5 @@ use Rattle.onward.proofs.stop_first.Goals as goal
 pub returns-then-q-o : goal.returns-then-q-o
 returns-then-q-o c = search stop_fits
 
-pub returns : goal.returns
-returns c = search stop_over
+pub returns-else-q-o : goal.returns-else-q-o
+returns-else-q-o c = search stop_over

@@ -1,9 +1,6 @@
--- `onward::fill_behind` meets its contract.
+-- `onward::fill_rows` meets its contract.
 use Rattle.onward.proofs.FillLaws.{Filling}
-use Rattle.onward.proofs.fill_behind.Given as goal
+use Rattle.onward.proofs.fill_rows.Given as goal
 
 abbrev pub invariant-loop-at : goal.invariant-loop-at
 invariant-loop-at l = Filling l.day l.plan l.from l.end l.initial.behind l.behind l.at l.o
-
-abbrev pub decreases-loop-at : goal.decreases-loop-at
-decreases-loop-at l = l.at
