@@ -20,8 +20,7 @@ use Rattle.rules.specs.Lawful.{distance_from}
 use Rattle.laws.proofs.Decided.{known}
 use Rattle.laws.proofs.Lists.{mem_same, mem_other}
 use Rattle.laws.specs.Plan.{RoundAt}
-use Rattle.day.specs.Layout.{LayoutOf, LegOf}
-use Rattle.day.specs.declared.fields.Layout.{Layout}
+use Rattle.day.specs.Layout.{LegOf}
 use Rattle.day.specs.declared.fields.Leg.{Leg}
 use Rattle.trial_list.specs.Survey.{SomeRound, EndsAll, first_of, vehicle_then, Ended, place_of, place_then, distance_then, vehicles_then, TaskWord}
 use Rattle.trial_list.specs.declared.survey.Driven.{Driven}
@@ -98,13 +97,12 @@ pub vehicles_other : (vehicles : List ℕ) (number w : ℕ) → (tip_word 0) ≤
 unfolding vehicles_then
 vehicles_other vehicles number w h = rw (le-ltb w (tip_word 0) h) refl
 
--- the same by a day's layout
-module _ (day : List ℕ) (layout : Layout) (next w : ℕ) (lay : LayoutOf day layout) (named : next ≡ place_of layout.tips w) (h : w < rest_word) where
+module _ (day : List ℕ) (count next w : ℕ) (counted : count ≡ tips day) (named : next ≡ place_of count w) (h : w < rest_word) where
   named_place : next ≡ place_of (tips day) w
-  named_place = named ∙ ap (λ (d : ℕ). place_of d w) lay.tips_are
+  named_place = named ∙ ap (λ (d : ℕ). place_of d w) counted
 
-  pub ride_inside : TaskWord day w → next < layout.places
-  ride_inside k = omega (arith, k.place h, named_place, lay.places_are)
+  pub ride_inside : TaskWord day w → next < places day
+  ride_inside k = omega (arith, k.place h, named_place)
 
   pub ride_place : (place : ℕ) → next ≡ place_then day place w
   unfolding place_then

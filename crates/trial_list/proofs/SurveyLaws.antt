@@ -1,6 +1,7 @@
 -- The tables of a plan while its vehicles are read one behind the other.
 -- Assumes nothing.
-use Rattle.std.specs.Prelude.{if◌then◌else◌}
+use Rattle.std.specs.Prelude.{if◌then◌else◌, replicate}
+use Rattle.std.proofs.lemmas.List.{get_or-replicate, length-replicate}
 use Prim.Native.Nat.{ℕ, suc, ◌+◌, ◌-◌, ◌≤◌, ◌<◌}
 use mathlib.Core.Path.{◌≡◌, refl, sym, ap, ◌∙◌}
 use mathlib.Core.Bool.{Bool, true, false, true≢false}
@@ -27,21 +28,18 @@ use Rattle.trial_list.specs.declared.survey.Driven.{Driven}
 use Rattle.trial_list.proofs.LaidLaws.{starts_next, others, placed_words, placed_inside, placed_tasks}
 use Rattle.trial_list.proofs.RideLaws.{word_at, first_some, first_none, first_zero}
 
--- the first entries are cleared
-pub record Cleared (n : ℕ) (vehicles : List ℕ) : Type 0 where
-  pub size : length vehicles ≡ 256
-  pub zeros : (k : ℕ) → k < n → get_or vehicles k 0 ≡ 0
+-- zeros alone
+abbrev zeros : ℕ → List ℕ
+zeros n = replicate n 0
 
-pub cleared_next : (n : ℕ) (vehicles : List ℕ) → Cleared n vehicles → n < 256 → Cleared (n + 1) (set vehicles n 0)
-cleared_next n vehicles h few =
-    record { size = length-set vehicles n 0 ∙ h.size; zeros = entries_next (λ k x. x ≡ 0) vehicles n 0 (omega (arith, h.size)) refl h.zeros }
-
-pub cleared_all : (n : ℕ) (vehicles : List ℕ) → Cleared n vehicles → 256 ≤ n → (k : ℕ) → get_or vehicles k 0 ≡ 0
-cleared_all n vehicles h all k = go (dec_lt k 256)
+pub all_zeros : (n : ℕ) {vehicles : List ℕ} → vehicles ≡ zeros n → (k : ℕ) → get_or vehicles k 0 ≡ 0
+all_zeros n e k = ap (λ (xs : List ℕ). get_or xs k 0) e ∙ go (dec_lt k n)
   where
-    go : Dec (k < 256) → get_or vehicles k 0 ≡ 0
-    go (yes l) = h.zeros k (omega arith)
-    go (no g) = get_or-eq_default vehicles 0 (omega (arith, h.size, g))
+    go : Dec (k < n) → get_or (zeros n) k 0 ≡ 0
+    go (yes l) = get_or-replicate n k 0 0 l
+    go (no g) =
+        let size : length (zeros n) ≡ n = length-replicate n 0 in
+        get_or-eq_default (zeros n) 0 (omega (arith, size, g))
 
 -- an A word is there, or not
 vehicle_yes : (plan : List ℕ) (at : ℕ) → is_vehicle plan at ≡ true → (at < length plan) × (get_or plan at 0 < stop_word 0)

@@ -1,23 +1,13 @@
 // The present plan in tables, so that a trial finds its vehicles without a walk over the plan.
-ghost use Rattle.std.specs.Prelude.{◌≡◌, ℕ, ◌+◌, ◌<◌, ◌≤◌, length, get_or};
+ghost use Rattle.std.specs.Prelude.{◌≡◌, ◌<◌, ◌≤◌, length};
 ghost use Rattle.rules.specs.PlanWords.{stop_word, tip_word};
+ghost use Rattle.rules.specs.Fields.{places};
 ghost use Rattle.day.specs.Layout.{LayoutOf};
 ghost use Rattle.trial_list.specs.Survey.{SomePlan, SurveysAll, SomeRound, EndsAll, place_of, place_then, distance_then, vehicles_then, TaskWord, is_vehicle};
 
+use day::days::Day;
 use day::fields::Layout;
 use plan_words::{BACK, REST, STOP, TIP};
-
-// No stop has a vehicle.
-fn clear(vehicles: &mut [u8])
-    requires { length vehicles.old ≡ 256 }
-    ensures { (k : ℕ) → get_or vehicles.new k 0 ≡ 0 }
-{
-    let mut k: usize = 0;
-    while k < 256 {
-        vehicles[k] = 0;
-        k += 1;
-    }
-}
 
 // The place that a B or C word names.
 fn place_of(tips: usize, w: u32) -> usize
@@ -25,9 +15,10 @@ fn place_of(tips: usize, w: u32) -> usize
     ensures { result ≡ place_of tips w }
 {
     if w < TIP {
-        return tips + ((w - STOP) as usize);
+        tips + ((w - STOP) as usize)
+    } else {
+        (w - TIP) as usize
     }
-    (w - TIP) as usize
 }
 
 // Where a vehicle is, and how far it drove.
@@ -38,19 +29,18 @@ pub struct Ride {
 }
 
 // A vehicle behind one more word.
-fn drive_on(day: &[u32], layout: Layout, place: usize, distance: u32, w: u32) -> Ride
-    requires { LayoutOf day.now layout × TaskWord day.now w × (place < layout.places) × (distance < 2147483648) }
-    ensures place { result.place ≡ place_then day.now place w }
-    ensures distance { result.distance ≡ distance_then day.now place distance w }
+fn drive_on(day: &Day, ride: Ride, w: u32) -> Ride
+    requires { TaskWord day.now w × (ride.place < places day.now) × (ride.distance < 2147483648) }
+    ensures place { result.place ≡ place_then day.now ride.place w }
+    ensures distance { result.distance ≡ distance_then day.now ride.place ride.distance w }
 {
     if REST <= w {
-        return Ride { place, distance };
+        return ride;
     }
-    let next = place_of(layout.tips, w);
-    let leg = day::fields::leg_between(day, layout, place, next);
+    let place = place_of(day.tips(), w);
     Ride {
-        place: next,
-        distance: distance + leg.distance,
+        place,
+        distance: ride.distance + day.leg(ride.place, place).distance,
     }
 }
 
@@ -75,32 +65,24 @@ pub struct Driven {
 }
 
 // The words of one vehicle, from the one behind its A word on.
-fn survey_vehicle(
-    day: &[u32],
-    layout: Layout,
-    plan: &[u32],
-    from: usize,
-    number: u8,
-    vehicles: &mut [u8],
-) -> Driven
-    requires { LayoutOf day.now layout × (length plan.now ≤ 1200) × SomeRound day.now plan.now from × (0 < number) × (length vehicles.old ≡ 256) }
+fn survey_vehicle(day: &Day, plan: &[u32], from: usize, number: u8, vehicles: &mut [u8]) -> Driven
+    requires { (length plan.now ≤ 1200) × SomeRound day.now plan.now from × (0 < number) × (length vehicles.old ≡ 256) }
     ensures { EndsAll day.now plan.now from number vehicles.old vehicles.new result }
 {
-    let mut place: usize = 0;
-    let mut distance: u32 = 0;
+    let mut ride = Ride {
+        place: 0,
+        distance: 0,
+    };
     let mut at = from;
     while plan[at] != BACK {
-        let w = plan[at];
-        mark_stop(vehicles, number, w);
-        let ride = drive_on(day, layout, place, distance, w);
-        place = ride.place;
-        distance = ride.distance;
+        mark_stop(vehicles, number, plan[at]);
+        ride = drive_on(day, ride, plan[at]);
         at += 1;
     }
-    let home = day::fields::leg_between(day, layout, place, 0);
+    let home = day.leg(ride.place, 0);
     Driven {
         end: at + 1,
-        distance: distance + home.distance,
+        distance: ride.distance + home.distance,
     }
 }
 
@@ -108,13 +90,36 @@ fn survey_vehicle(
 fn is_vehicle(plan: &[u32], at: usize) -> bool
     ensures { result ≡ is_vehicle plan.now at }
 {
-    if at < plan.len() {
-        return plan[at] < STOP;
-    }
-    false
+    at < plan.len() && plan[at] < STOP
 }
 
 // The tables of a plan, and how many vehicles it has.
+pub fn survey_plan(
+    day: &Day,
+    plan: &[u32],
+    starts: &mut [u32],
+    vehicles: &mut [u8],
+    distances: &mut [u32],
+) -> usize
+    requires plan { (length plan.now ≤ 1200) × SomePlan day.now plan.now }
+    requires tables { (length starts.old ≡ 256) × (length vehicles.old ≡ 256) × (length distances.old ≡ 256) }
+    ensures { SurveysAll day.now plan.now starts.new vehicles.new distances.new result }
+{
+    vehicles.fill(0);
+    let mut count: usize = 0;
+    let mut at: usize = 0;
+    while is_vehicle(plan, at) {
+        starts[count] = at as u32;
+        let driven = survey_vehicle(day, plan, at + 1, (count + 1) as u8, vehicles);
+        distances[count] = driven.distance;
+        at = driven.end;
+        count += 1;
+    }
+    starts[count] = at as u32;
+    count
+}
+
+// The same by the day's words and layout, until its caller uses the day's type.
 pub fn survey(
     day: &[u32],
     layout: Layout,
@@ -127,16 +132,5 @@ pub fn survey(
     requires starts_len { (length starts.old ≡ 256) × (length vehicles.old ≡ 256) × (length distances.old ≡ 256) }
     ensures { SurveysAll day.now plan.now starts.new vehicles.new distances.new result }
 {
-    clear(vehicles);
-    let mut count: usize = 0;
-    let mut at: usize = 0;
-    while is_vehicle(plan, at) {
-        starts[count] = at as u32;
-        let driven = survey_vehicle(day, layout, plan, at + 1, (count + 1) as u8, vehicles);
-        distances[count] = driven.distance;
-        at = driven.end;
-        count += 1;
-    }
-    starts[count] = at as u32;
-    count
+    survey_plan(&Day::with(day, layout), plan, starts, vehicles, distances)
 }

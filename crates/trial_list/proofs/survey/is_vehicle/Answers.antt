@@ -8,6 +8,6 @@ pub returns-then-at-plan : goal.returns-then-at-plan
 unfolding is_vehicle
 returns-then-at-plan c = rw (lt-ltb _ _ c.if-at-plan.true) refl
 
-pub returns : goal.returns
+pub returns-else-at-plan : goal.returns-else-at-plan
 unfolding is_vehicle
-returns c = rw (le-ltb _ _ c.if-at-plan.false) refl
+returns-else-at-plan c = rw (le-ltb _ _ c.if-at-plan.false) refl

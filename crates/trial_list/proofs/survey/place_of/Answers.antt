@@ -5,5 +5,5 @@ use Rattle.trial_list.proofs.survey.place_of.Goals as goal
 pub returns-then-w-lt-TIP : goal.returns-then-w-lt-TIP
 returns-then-w-lt-TIP c = search place_of_stop
 
-pub returns : goal.returns
-returns c = search place_of_tip
+pub returns-else-w-lt-TIP : goal.returns-else-w-lt-TIP
+returns-else-w-lt-TIP c = search place_of_tip
