@@ -1,25 +1,13 @@
 -- The places of the stops, word by word as the code tells them.
 -- Assumes nothing.
 use Prim.Native.Nat.{ℕ, suc, ◌+◌, ◌-◌, ◌≤◌, ◌<◌}
-use mathlib.Core.Path.{◌≡◌, refl}
-use mathlib.Core.Bool.{Bool, true, false}
+use mathlib.Core.Path.{◌≡◌}
 use mathlib.Core.List.{List, ◌∷◌}
 use native.Mathlib.Omega.{arith}
 use native.Mathlib.Numerals.{add-one}
-use lib.Dec.{eqb}
-use lib.ListN.{length, get_or, take, drop, set}
+use lib.ListN.{length, get_or, take, drop}
 use lib.Seq.{drop-cons}
-use Rattle.rules.specs.PlanWords.{kind_of, number_of, stop_kind}
 use Rattle.tracks.specs.Tables.{spot_after, spots_after}
-
--- a word that is a stop's, and one that is not
-pub spot_told : (w at : ℕ) (spots : List ℕ) {b : Bool} {n : ℕ} → b ≡ eqb (kind_of w) stop_kind → b ≡ true → n ≡ number_of w → set spots n at ≡ spot_after w at spots
-unfolding spot_after
-spot_told w at spots e y q = rw (← e, y, q) refl
-
-pub spot_kept : (w at : ℕ) (spots : List ℕ) {b : Bool} → b ≡ eqb (kind_of w) stop_kind → b ≡ false → spots ≡ spot_after w at spots
-unfolding spot_after
-spot_kept w at spots e y = rw (← e, y) refl
 
 -- one word more is looked at, and none is left
 module _ (plan : List ℕ) (end at : ℕ) (spots : List ℕ) {all : List ℕ} (so_far : spots_after (take (end - at) (drop at plan)) at spots ≡ all) where

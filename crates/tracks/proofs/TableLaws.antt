@@ -7,6 +7,7 @@ use mathlib.Core.Logic.{inl}
 use native.Mathlib.Decide.{ℕ_discrete}
 use native.Mathlib.Omega.{arith}
 use lib.ListN.{length, length-map, get_or, take, drop}
+use Rattle.std.specs.Prelude.{Option}
 use Rattle.rules.specs.Lists.{Every}
 use Rattle.rules.specs.Plan.{Round, task_word, Known}
 use Rattle.laws.proofs.Lists.{every_at}
@@ -15,6 +16,7 @@ use Rattle.trial_list.specs.Survey.{Laid}
 use Rattle.trial_list.proofs.LaidLaws.{behind, starts_rise, start_next, tasks_text, vehicle_in, vehicle_inside, words_are}
 use Rattle.tracks.specs.Before.{Walks, BeforeOf, FilledBefore}
 use Rattle.tracks.specs.Tables.{first_task, Trackable, SomeTrackable, TracksIn, SomeVehicle, TracksOne, TracksVehicle}
+use Rattle.tracks.specs.declared.before.Row.{Row}
 use Rattle.tracks.specs.declared.plan_tables.Tracks.{Tracks}
 
 -- the first task of vehicle v, counted from 0, stands behind its A word
@@ -58,7 +60,7 @@ module _ {day plan starts : List ℕ} {room : ℕ} {rounds : List Round} {lefts 
       )
 
   -- its rows are filled
-  pub vehicle_tracked : {before walks behind onwards part now : List ℕ} → room ≡ length part
+  pub vehicle_tracked : {before walks : List (Option Row)} {behind onwards part now : List ℕ} → room ≡ length part
       → FilledBefore day (take (get_or starts (v + 1) 0 - 1 - (get_or starts v 0 + 1)) (drop (get_or starts v 0 + 1) plan)) (get_or starts v 0 + 1) before walks part now
       → FillsBehind day plan (get_or starts v 0 + 1) (get_or starts (v + 1) 0 - 1) behind onwards → TracksOne day rounds v before walks behind onwards
   vehicle_tracked {walks = walks} {onwards = onwards} h f g =
@@ -72,12 +74,12 @@ module _ {day plan starts : List ℕ} {room : ℕ} {rounds : List Round} {lefts 
       }
 
 -- the first v vehicles have their rows
-pub record Tracking (day : List ℕ) (rounds : List Round) (v : ℕ) (before behind : List ℕ) : Type 0 where
+pub record Tracking (day : List ℕ) (rounds : List Round) (v : ℕ) (before : List (Option Row)) (behind : List ℕ) : Type 0 where
   pub walked : (u : ℕ) → u < v → BeforeOf day before (first_task rounds u) (get_or rounds u [])
   pub onward : (u : ℕ) → u < v → BehindOf day behind (first_task rounds u) (get_or rounds u [])
 
 -- one vehicle more
-tracking_next : (day : List ℕ) (rounds : List Round) (v : ℕ) (before walks behind onwards : List ℕ) → v < length rounds → Tracking day rounds v before behind
+tracking_next : (day : List ℕ) (rounds : List Round) (v : ℕ) (before walks : List (Option Row)) (behind onwards : List ℕ) → v < length rounds → Tracking day rounds v before behind
     → TracksOne day rounds v before walks behind onwards → Tracking day rounds (v + 1) walks onwards
 tracking_next day rounds v before walks behind onwards l t o =
     record {

@@ -1,26 +1,27 @@
 -- The tables of all vehicles of the present plan. They serve the contracts of this crate's own functions. Assumes nothing.
-use Rattle.std.specs.Prelude.{ℕ, ◌+◌, ◌*◌, ◌≤◌, ◌<◌, ◌≡◌, List, [], ◌∷◌, eqb, length, get_or, take, set, if◌then◌else◌}
+use Rattle.std.specs.Prelude.{ℕ, ◌+◌, ◌*◌, ◌≤◌, ◌<◌, ◌≡◌, List, [], ◌∷◌, Option, eqb, length, get_or, take, set, if◌then◌else◌}
 use Rattle.rules.specs.Lists.{Every}
 use Rattle.rules.specs.PlanWords.{kind_of, number_of, stop_kind}
 use Rattle.rules.specs.Plan.{Round, rounds_words, stops_on, Known}
 use Rattle.onward.specs.Behind.{BehindOf, row_at, behind_words}
 use Rattle.trial_list.specs.Survey.{Laid, VehicleIn}
 use Rattle.tracks.specs.Before.{BeforeOf, RowsKept}
+use Rattle.tracks.specs.declared.before.Row.{Row}
 use Rattle.tracks.specs.declared.plan_tables.Tracks.{Tracks}
 
 -- the place of the plan where the first task of vehicle v, counted from 0, stands
 abbrev pub first_task : List Round → ℕ → ℕ
 first_task rounds v = length (rounds_words 0 (take v rounds)) + 1
 
--- how long the table of the vehicles before their words is: six words for each place of a plan of at most 1200 words and the one behind it
-abbrev pub before_words : ℕ
-before_words = 7206
+-- how long the table of the vehicles before their words is: a row for each place of a plan of at most 1200 words and the one behind it
+abbrev pub before_rows : ℕ
+before_rows = 1201
 
 -- the tables of the present plan's vehicles; what `spots` says is tested where it is used
-pub record Tracked (day : List ℕ) (rounds : List Round) (before behind spots : List ℕ) : Type 0 where
+pub record Tracked (day : List ℕ) (rounds : List Round) (before : List (Option Row)) (behind spots : List ℕ) : Type 0 where
   pub walked : (v : ℕ) → v < length rounds → BeforeOf day before (first_task rounds v) (get_or rounds v [])
   pub onward : (v : ℕ) → v < length rounds → BehindOf day behind (first_task rounds v) (get_or rounds v [])
-  pub before_size : length before ≡ before_words
+  pub before_size : length before ≡ before_rows
   pub behind_size : length behind ≡ behind_words
   pub spots_size : length spots ≡ 256
 
@@ -63,7 +64,7 @@ pub record SomeVehicle (day plan starts : List ℕ) (room v : ℕ) : Type 0 wher
   pub short : length plan ≤ 1200
 
 -- the rows of vehicle v are filled, and those of the vehicles in front of it are as they were
-pub record TracksOne (day : List ℕ) (rounds : List Round) (v : ℕ) (before walks behind onwards : List ℕ) : Type 0 where
+pub record TracksOne (day : List ℕ) (rounds : List Round) (v : ℕ) (before walks : List (Option Row)) (behind onwards : List ℕ) : Type 0 where
   pub walked : BeforeOf day walks (first_task rounds v) (get_or rounds v [])
   pub onward : BehindOf day onwards (first_task rounds v) (get_or rounds v [])
   pub walked_kept : RowsKept (first_task rounds v) before walks
@@ -76,7 +77,7 @@ TracksVehicle day plan starts room v tracks after =
     → TracksOne day rounds v tracks.before after.before tracks.behind after.behind
 
 -- the places of the stops once the word at a place is looked at
-unfoldable pub spot_after : (w at : ℕ) → List ℕ → List ℕ
+abbrev pub spot_after : (w at : ℕ) → List ℕ → List ℕ
 spot_after w at spots = if eqb (kind_of w) stop_kind then set spots (number_of w) at else spots
 
 -- and once these words are, of which the first stands at a place: of a stop that stands there twice the last place is told

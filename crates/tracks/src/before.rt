@@ -1,91 +1,101 @@
 // The vehicles of the present plan before each of their words, so that a trial starts where it changes something.
-ghost use Rattle.std.specs.Prelude.{◌≡◌, false, ◌+◌, ◌<◌, ◌*◌, length, if◌then◌else◌};
+ghost use Rattle.std.specs.Prelude.{◌≡◌, ◌+◌, ◌<◌, length, IfSome};
 ghost use Rattle.rules.specs.Fields.{IsAccepted};
-ghost use Rattle.day.specs.Layout.{LayoutOf};
-ghost use Rattle.tracks.specs.Tables.{before_words};
-ghost use Rattle.tracks.specs.Before.{cab_at, RowHolds, RowsKept, SomeWalks, TaskAhead, WalksTask, FilledBefore};
+ghost use Rattle.tracks.specs.Tables.{before_rows};
+ghost use Rattle.tracks.specs.Before.{row_of, cab_of, cab_at, RowHolds, RowsKept, SomeWalks, TaskAhead, WalksTask, FilledBefore};
 
-use day::fields::Layout;
+use day::days::Day;
 use plan_words::{REST, VEHICLE};
 use rules::walk::Trip;
 use walks::cabs::Cab;
 use walks::vehicle::{fresh_cab, walk_word};
 
-// 1 for yes, 0 for no.
-fn flag(b: bool) -> u32
-    ensures { result ≡ (if b then 1 else 0) }
-{
-    if b { 1 } else { 0 }
+// A vehicle before one of its words. A row is as small as six words: the place is a u32, and how many words are written is left out.
+#[derive(Clone, Copy)]
+pub struct Row {
+    minute: u32,
+    place: u32,
+    distance: u32,
+    load: u32,
+    rested: bool,
 }
 
-// The row of a vehicle; of one that has failed nothing but that.
-fn put_cab(before: &mut [u32], at: usize, c: Cab)
-    requires { (length before.old ≡ before_words) × (at < 1201) × (c.stuck ≡ false → c.trip.place < 4294967296) }
-    ensures holds { RowHolds before.new at c }
+impl Row {
+    // The row of a vehicle.
+    fn of(cab: Cab) -> Row
+        requires { cab.trip.place < 4294967296 }
+        ensures { result ≡ row_of cab }
+    {
+        Row {
+            minute: cab.trip.minute,
+            place: cab.trip.place as u32,
+            distance: cab.trip.distance,
+            load: cab.load,
+            rested: cab.trip.rested,
+        }
+    }
+
+    // The vehicle of a row; it has written its A word.
+    fn cab(self) -> Cab
+        ensures { result ≡ cab_of self }
+    {
+        Cab {
+            trip: Trip {
+                minute: self.minute,
+                place: self.place as usize,
+                rested: self.rested,
+                distance: self.distance,
+            },
+            load: self.load,
+            at: 1,
+        }
+    }
+}
+
+// The row of a vehicle is written, or of one that has failed that there is none.
+fn put_cab(before: &mut [Option<Row>], at: usize, cab: Option<Cab>)
+    requires { (length before.old ≡ before_rows) × (at < before_rows) × IfSome cab (λ c. c.trip.place < 4294967296) }
+    ensures holds { RowHolds before.new at cab }
     ensures others { RowsKept at before.old before.new }
 {
-    let row = 6 * at;
-    before[row + 5] = flag(c.stuck);
-    if c.stuck {
-        return;
-    }
-    let t = c.trip;
-    before[row] = t.minute;
-    before[row + 1] = t.place as u32;
-    before[row + 2] = flag(t.rested);
-    before[row + 3] = t.distance;
-    before[row + 4] = c.load;
+    before[at] = cab.map(Row::of);
 }
 
-// The vehicle that a row holds; it has written its A word.
-pub(crate) fn cab_at(before: &[u32], at: usize) -> Cab
-    requires { (length before.now ≡ before_words) × (at < 1201) }
+// The vehicle that a row holds; none where it has failed.
+pub(crate) fn cab_at(before: &[Option<Row>], at: usize) -> Option<Cab>
+    requires { (length before.now ≡ before_rows) × (at < before_rows) }
     ensures { result ≡ cab_at before.now at }
 {
-    let row = 6 * at;
-    Cab {
-        trip: Trip {
-            minute: before[row],
-            place: before[row + 1] as usize,
-            rested: before[row + 2] == 1,
-            distance: before[row + 3],
-        },
-        load: before[row + 4],
-        at: 1,
-        stuck: before[row + 5] == 1,
-    }
+    before[at].map(Row::cab)
 }
 
 // One task is walked; a rest is passed over.
-fn walk_task(day: &[u32], layout: Layout, c: Cab, w: u32, part: &mut [u32]) -> Cab
-    requires { LayoutOf day.now layout × IsAccepted day.now × TaskAhead day.now part.old c w }
-    ensures { WalksTask day.now part.old c w part.new result }
+fn walk_task(day: &Day, cab: Option<Cab>, word: u32, part: &mut [u32]) -> Option<Cab>
+    requires { IsAccepted day.now × TaskAhead day.now part.old cab word }
+    ensures { WalksTask day.now part.old cab word part.new result }
 {
-    if w == REST {
-        return c;
+    if word == REST {
+        return cab;
     }
-    walk_word(day, layout, c, w, part)
+    walk_word(day, cab?, word, part)
 }
 
 // The rows of the vehicle whose tasks are these words, of which the first stands at a place of the plan. The part is worked in.
 pub(crate) fn fill_before(
-    day: &[u32],
-    layout: Layout,
+    day: &Day,
     words: &[u32],
     from: usize,
-    before: &mut [u32],
+    before: &mut [Option<Row>],
     part: &mut [u32],
 )
-    requires { LayoutOf day.now layout × IsAccepted day.now × SomeWalks day.now words.now part.old × (length before.old ≡ before_words) × (from + length words.now < 1201) }
+    requires { IsAccepted day.now × SomeWalks day.now words.now part.old × (length before.old ≡ before_rows) × (from + length words.now < before_rows) }
     ensures { FilledBefore day.now words.now from before.old before.new part.old part.new }
 {
     part[0] = VEHICLE;
-    let mut c = fresh_cab(day, layout);
-    put_cab(before, from, c);
-    let mut i: usize = 0;
-    while i < words.len() {
-        c = walk_task(day, layout, c, words[i], part);
-        i += 1;
-        put_cab(before, from + i, c);
+    let mut cab = Some(fresh_cab(day));
+    put_cab(before, from, cab);
+    for (i, word) in words.iter().enumerate() {
+        cab = walk_task(day, cab, *word, part);
+        put_cab(before, from + i + 1, cab);
     }
 }

@@ -1,14 +1,16 @@
 // The tables of the present plan, by which its trials are listed and measured.
 ghost use Rattle.std.specs.Prelude.{◌≡◌, length};
 
-// What its vehicles are before each word, six words for each of 1201 places of a plan; what is left of them from each word on, four words
-// for each place; and the place of each stop.
+use crate::before::Row;
+
+// What its vehicles are before each word, a row for each of 1201 places of a plan and none where the walk has failed; what is left of them
+// from each word on, four words for each place; and the place of each stop.
 #[derive(Drop)]
 pub struct Tracks {
-    pub before: [u32; 7206],
+    pub before: [Option<Row>; 1201],
     pub behind: [u32; 4804],
     pub spots: [u32; 256],
-    pub ghost before_size: { length before ≡ 7206 },
+    pub ghost before_size: { length before ≡ 1201 },
     pub ghost behind_size: { length behind ≡ 4804 },
     pub ghost spots_size: { length spots ≡ 256 },
 }
@@ -33,7 +35,7 @@ impl Tables {
             vehicles: [0; 256],
             distances: [0; 256],
             tracks: Tracks {
-                before: [0; 7206],
+                before: [None; 1201],
                 behind: [0; 4804],
                 spots: [0; 256],
             },

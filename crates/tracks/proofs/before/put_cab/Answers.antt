@@ -1,15 +1,13 @@
 -- `tracks::before::put_cab` meets its contract.
-use Rattle.tracks.proofs.CabRows.{failed_row, failed_others, written_row, written_others}
+use borrow.Author.Rules.{rules}
+use mathlib.Core.Path.{◌≡◌}
+use native.Mathlib.Omega.{arith}
+use Rattle.tracks.specs.Before.{row_if}
+use Rattle.tracks.proofs.CabRows.{row_written, row_kept}
 use Rattle.tracks.proofs.before.put_cab.Goals as goal
 
-pub returns-then-c-clause-holds : goal.returns-then-c-clause-holds
-returns-then-c-clause-holds c = search failed_row
-
-pub returns-then-c-clause-others : goal.returns-then-c-clause-others
-returns-then-c-clause-others c = search failed_others
-
 pub returns-clause-holds : goal.returns-clause-holds
-returns-clause-holds c = search written_row
+returns-clause-holds c = let r : c.map.result ≡ row_if c.args.cab = search rules in row_written c.args.before.now c.args.at c.args.cab (omega arith) r
 
 pub returns-clause-others : goal.returns-clause-others
-returns-clause-others c = search written_others
+returns-clause-others c = row_kept c.args.before.now c.args.at c.map.result

@@ -1,44 +1,50 @@
 -- `tracks::measure::walk_span` meets its contract.
 use native.Mathlib.Omega.{arith}
 use mathlib.Core.Path.{sym, ◌∙◌}
+use Rattle.walks.proofs.CabLaws.{some_standing}
 use Rattle.walks.proofs.HomeLaws.{again_back}
-use Rattle.walks.proofs.MidwayLaws.{midway_word, midway_step, midway_done}
-use Rattle.tracks.proofs.MeasureLaws.{midway_failed, left_drives, left_small}
+use Rattle.walks.proofs.MidwayLaws.{midway_task, midway_step, midway_fails, midway_done, midway_whole}
+use Rattle.tracks.proofs.MeasureLaws.{drives_none, left_drives, left_small}
 use Rattle.tracks.proofs.measure.walk_span.Goals as goal
-
-pub returns-then-c : goal.returns-then-c
-returns-then-c c = λ ts start p h m. midway_failed (c.loop-i.invariant.1 ts start p h m) c.if-c.true _ c.failed.ensures
 
 pub drive_onward-requires : goal.drive_onward-requires
 drive_onward-requires c =
-    let s = c.requires.6 in
-    let b = left_small s.cuttable (c.loop-i.invariant.1 s.tasks s.start s.p s.cuttable s.midway) c.loop-i-test.true c.onward_at-o.ensures (sym c.is_cut.ensures ∙ c.if-is_cut.true) c.if-c.false c.requires.5 in
-    (c.requires.0, omega (arith, b.0, c.requires.0.places_are), b.1, omega (arith, b.2, c.requires.0.places_are), b.3)
+    let s = c.requires.5 in
+    left_small s.cuttable (c.loop-task.invariant s.tasks s.start s.p s.cuttable s.midway) c.loop-task-test.true c.onward_at-onward.ensures (sym c.is_cut.ensures ∙ c.if-is_cut.true) c.requires.4
 
 pub returns-then-is_cut : goal.returns-then-is_cut
-returns-then-is_cut c = λ ts start p h m. left_drives h (c.loop-i.invariant.1 ts start p h m) c.loop-i-test.true c.onward_at-o.ensures (sym c.is_cut.ensures ∙ c.if-is_cut.true) c.if-c.false _ c.drive_onward.ensures.0 c.drive_onward.ensures.1
+returns-then-is_cut c = λ ts start p h m. left_drives h (c.loop-task.invariant ts start p h m) c.loop-task-test.true c.onward_at-onward.ensures (sym c.is_cut.ensures ∙ c.if-is_cut.true) c.drive_onward.ensures
 
-pub walk_word-c-requires : goal.walk_word-c-requires
-walk_word-c-requires c =
-    let s = c.requires.6 in (
+pub walk_task-requires : goal.walk_task-requires
+walk_task-requires c =
+    let s = c.requires.5 in (
       c.requires.0,
       c.requires.1,
-      midway_word c.args.e s.cuttable.walkable c.requires.3 c.loop-i-test.true 0 (c.loop-i.invariant.1 s.tasks s.start s.p s.cuttable s.midway) c.next_turn-turn.ensures.turn,
+      c.requires.2,
+      midway_task s.cuttable.walkable c.loop-task-test.true 0 (c.loop-task.invariant s.tasks s.start s.p s.cuttable s.midway),
     )
 
-pub loop-i-preserved : goal.loop-i-preserved
-loop-i-preserved c = (
-  omega (arith, c.loop-i-test.true, c.next_turn-turn.ensures.comes.1),
-  λ ts start p h m. midway_step c.args.e h.walkable c.requires.3 c.loop-i-test.true 0 (c.loop-i.invariant.1 ts start p h m) c.next_turn-turn.ensures.turn c.walk_word-c.ensures,
-)
+pub returns-in_err-cab : goal.returns-in_err-cab
+returns-in_err-cab c =
+    λ ts start p h m.
+    rw c.from_residual.ensures (drives_none _ _ ts (midway_fails h.walkable c.loop-task-test.true 0 (c.loop-task.invariant ts start p h m) c.in_err-cab.ensures))
+
+pub loop-task-preserved : goal.loop-task-preserved
+loop-task-preserved c = λ ts start p h m. midway_step h.walkable c.loop-task-test.true 0 (c.loop-task.invariant ts start p h m) c.in_ok-cab.ensures
 
 pub come_back-requires : goal.come_back-requires
 come_back-requires c =
-    let s = c.requires.6 in (
-      c.requires.0,
-      c.requires.1,
-      record { start = s.start; most = _; p = s.p; o = _; stands = midway_done s.cuttable.walkable c.loop-i-test.false (c.loop-i.invariant.1 s.tasks s.start s.p s.cuttable s.midway) },
-    )
+    let s = c.requires.5 in
+    (c.requires.0, some_standing (omega arith) (midway_done s.cuttable.walkable c.loop-task-test.false (c.loop-task.invariant s.tasks s.start s.p s.cuttable s.midway)))
+
+pub returns-in_err-back : goal.returns-in_err-back
+returns-in_err-back c =
+    λ ts start p h m.
+    let w = c.loop-task.invariant ts start p h m in
+    rw c.from_residual-in_err-back.ensures (again_back _ _ _ _ h.walkable.edited (midway_whole h.walkable c.loop-task-test.false w) (c.in_err-back.ensures start _ p _ (midway_done h.walkable c.loop-task-test.false w)))
 
 pub returns : goal.returns
-returns c = λ ts start p h m. again_back _ _ h.walkable.edited (c.come_back.ensures start _ p _ (midway_done h.walkable c.loop-i-test.false (c.loop-i.invariant.1 ts start p h m)))
+returns c =
+    λ ts start p h m.
+    let w = c.loop-task.invariant ts start p h m in
+    again_back _ _ _ _ h.walkable.edited (midway_whole h.walkable c.loop-task-test.false w) (c.in_ok-back.ensures start _ p _ (midway_done h.walkable c.loop-task-test.false w))

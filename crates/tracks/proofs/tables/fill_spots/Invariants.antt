@@ -7,6 +7,3 @@ use Rattle.tracks.proofs.tables.fill_spots.Given as goal
 
 abbrev pub invariant-loop-at : goal.invariant-loop-at
 invariant-loop-at l = (length l.spots ≡ 256) × (spots_after (take (l.end - l.at) (drop l.at l.plan)) l.at l.spots ≡ spots_after (take (l.end - l.from) (drop l.from l.plan)) l.from l.initial.spots)
-
-abbrev pub decreases-loop-at : goal.decreases-loop-at
-decreases-loop-at l = l.end - l.at
