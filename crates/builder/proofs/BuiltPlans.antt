@@ -25,8 +25,6 @@ use Rattle.rules.specs.declared.answers.DayAnswer.TheVariants as Days
 use Rattle.laws.specs.Buffer.{Wrote}
 use Rattle.laws.specs.Marks.{ones_of}
 use Rattle.laws.proofs.Buffer.{over_drop, over_front, over_rest, length_over}
-use Rattle.day.specs.Layout.{LayoutOf}
-use Rattle.day.specs.declared.fields.Layout.{Layout}
 use Rattle.day.proofs.Answered.{refused_not_given, refused_day, accepted_day}
 use Rattle.marks.specs.declared.Marks.{Marks}
 use Rattle.plan_words.specs.Said.{says}
@@ -99,29 +97,29 @@ planned_length day p l =
     length_over _ p (omega (arith, greedy_room day, length-append plan (replicate rest 0), length-replicate {A = ℕ} rest 0))
 
 -- the answer and the buffer where it is too short, and where it is long enough
-module _ (day plan : List ℕ) {layout : Layout} (i : LayoutOf day layout) where
-  module _ (l : length plan < 5 * layout.stops) where
+module _ (day plan : List ℕ) {n : ℕ} (i : n ≡ stops day) where
+  module _ (l : length plan < 5 * n) where
     short : ltb (length plan) (5 * stops day) ≡ true
-    short = lt-ltb (length plan) (5 * stops day) (omega (arith, i.stops_are))
+    short = lt-ltb (length plan) (5 * stops day) (omega (arith, i))
 
-    pub short_answer : refused 14 (5 * layout.stops) ≡ built_answer day (length plan)
+    pub short_answer : refused 14 (5 * n) ≡ built_answer day (length plan)
     unfolding built_answer
-    short_answer = rw short (ap (λ (n : ℕ). refused 14 (5 * n)) i.stops_are)
+    short_answer = rw short (ap (λ (k : ℕ). refused 14 (5 * k)) i)
 
     pub short_buffer : plan ≡ built_buffer day plan
     unfolding built_buffer
     short_buffer = rw short refl
 
-  module _ (l : 5 * layout.stops ≤ length plan) where
+  module _ (l : 5 * n ≤ length plan) where
     long : ltb (length plan) (5 * stops day) ≡ false
-    long = le-ltb (length plan) (5 * stops day) (omega (arith, i.stops_are))
+    long = le-ltb (length plan) (5 * stops day) (omega (arith, i))
 
     pub long_buffer : {now : List ℕ} → now ≡ planned day (greedy_plan day) plan → now ≡ built_buffer day plan
     unfolding built_buffer
     long_buffer x = x ∙ rw long refl
 
     pub plan_fits : {now : List ℕ} {words : ℕ} → words ≡ length (greedy_plan day) → now ≡ planned day (greedy_plan day) plan → words ≤ length now
-    plan_fits e x = omega (arith, greedy_room day, ap length x, planned_length day plan (omega (arith, i.stops_are)))
+    plan_fits e x = omega (arith, greedy_room day, ap length x, planned_length day plan (omega (arith, i)))
 
 -- the check of the plan as it stands in the buffer
 planned_front : (day p : List ℕ) (n : ℕ) → n ≡ length (greedy_plan day) → take n (planned day (greedy_plan day) p) ≡ greedy_plan day
@@ -144,10 +142,10 @@ module _ (day p : List ℕ) (a : IsAccepted day) {now : List ℕ} {words : ℕ} 
   plan_answer_lem = c ∙ ap (check_words day) (ap (take words) x ∙ planned_front day p words w) ∙ words_answer day a
 
   -- it is lawful, so it is answered with its distance
-  pub long_answer : {layout : Layout} {d v s lefts marks : ℕ} → LayoutOf day layout → 5 * layout.stops ≤ length p → answer ≡ Answers.Lawful d v s
+  pub long_answer : {n d v s lefts marks : ℕ} → n ≡ stops day → 5 * n ≤ length p → answer ≡ Answers.Lawful d v s
       → lefts ≡ marks → marks ≡ length (greedy_lefts day) → given (d ∷ 0 ∷ 0 ∷ lefts ∷ words ∷ []) ≡ built_answer day (length p)
   unfolding built_answer totals
-  long_answer {layout} {d} {v} {s} {lefts} {marks} i l e many m =
+  long_answer {n} {d} {v} {s} {lefts} {marks} i l e many m =
       let same : d ≡ total (distance_from day 0) (greedy_rounds day) = ap (λ (xs : List ℕ). get_or xs 1 0) (sym (ap answer_values e) ∙ plan_answer_lem) in
       rw (long day p i l, same, many, m, w) refl
 

@@ -5,12 +5,10 @@ ghost use Rattle.rules.specs.Build.{greedy_lefts, greedy_plan};
 ghost use Rattle.rules.specs.AnswerValues.{plan_values};
 ghost use Rattle.rules.specs.Planned.{planned, built_answer, built_buffer};
 ghost use Rattle.laws.specs.Marks.{ones_of};
-ghost use Rattle.day.specs.Layout.{LayoutOf};
 
 use crate::fleet::write_vehicles;
 use crate::lefts::{fill_zeros, write_lefts};
 use day::days::Day;
-use day::fields::Layout;
 use rules::answers::{Answer, PlanAnswer};
 use vehicle_writer::writer::Written;
 
@@ -26,30 +24,21 @@ fn write_plan(day: &Day, plan: &mut [u32]) -> Written
     Written { words, ..vehicles }
 }
 
-// The same by the words of the day and its layout, until the check takes the day's type.
-fn write_laid_out(day: &[u32], layout: Layout, plan: &mut [u32]) -> Written
-    requires { LayoutOf day.now layout × (stops day.now ≤ 240) × (5 * stops day.now ≤ length plan.old) }
-    ensures size { (result.words ≡ length (greedy_plan day.now)) × (ones_of result.left.words ≡ length (greedy_lefts day.now)) }
-    ensures text { plan.new ≡ planned day.now (greedy_plan day.now) plan.old }
-{
-    write_plan(&Day::with(day, layout), plan)
-}
-
 // The answer on an accepted day.
-pub fn build_accepted(day: &[u32], layout: Layout, plan: &mut [u32]) -> PlanAnswer
-    requires { LayoutOf day.now layout × IsAccepted day.now }
+pub fn build_accepted(day: &Day, plan: &mut [u32]) -> PlanAnswer
+    requires { IsAccepted day.now }
     ensures answer { plan_values result ≡ built_answer day.now (length plan.old) }
     ensures buffer { plan.new ≡ built_buffer day.now plan.old }
 {
-    let need = 5 * layout.stops;
+    let need = 5 * day.stops();
     if plan.len() < need {
         return PlanAnswer::Refused {
             number: 14,
             place: need,
         };
     }
-    let written = write_laid_out(day, layout, plan);
-    match checker::check_accepted(day, layout, &plan[..written.words]) {
+    let written = write_plan(day, plan);
+    match checker::check_laid_out(day, &plan[..written.words]) {
         Answer::Lawful { distance, .. } => PlanAnswer::Planned {
             distance,
             trials: 0,

@@ -2,11 +2,9 @@
 ghost use Rattle.std.specs.Prelude.{◌≡◌, ◌+◌, ◌*◌, ◌<◌, ◌≤◌, length, Some, None, if◌then◌else◌};
 ghost use Rattle.rules.specs.Fields.{stops};
 ghost use Rattle.rules.specs.Neighbours.{between, compatible, neighbour_key};
-ghost use Rattle.day.specs.Layout.{LayoutOf};
 ghost use Rattle.neighbours.specs.Tables.{TableOf, RowOf, RowBy, KeysOf, least_above, stop_of_key};
 
 use day::days::Day;
-use day::fields::Layout;
 
 // Above every key. In the pass over the keys it stands for none, so that one comparison does for both.
 const NO_KEY: u32 = u32::MAX;
@@ -87,19 +85,11 @@ fn fill_stop(day: &Day, i: usize, row: &mut [u8])
 }
 
 // The first k neighbours of every stop.
-pub fn fill_rows(day: &Day, k: usize, table: &mut [u8])
+pub fn fill_table(day: &Day, k: usize, table: &mut [u8])
     requires { (stops day.now ≤ 240) × (k ≤ 50) × (length table.old ≡ 12050) }
     ensures { TableOf day.now k table.new }
 {
     for i in 1..=day.stops() {
         fill_stop(day, i, &mut table[50 * i..50 * i + k]);
     }
-}
-
-// The same by the day's words and layout, until its caller uses the day's type.
-pub fn fill_table(day: &[u32], layout: Layout, k: usize, table: &mut [u8])
-    requires { LayoutOf day.now layout × (layout.stops ≤ 240) × (k ≤ 50) × (length table.old ≡ 12050) }
-    ensures { TableOf day.now k table.new }
-{
-    fill_rows(&Day::with(day, layout), k, table);
 }

@@ -4,11 +4,9 @@
 
 ghost use Rattle.std.specs.Prelude.{◌≡◌, ◌&&◌, ◌+◌, ◌-◌, ◌*◌, ◌<◌, ◌≤◌, leb, length};
 ghost use Rattle.rules.specs.Fields.{stops, tips, places};
-ghost use Rattle.day.specs.Layout.{LayoutOf};
 ghost use Rattle.onward.specs.Behind.{behind_words, distance_onward, stop_first, tip_first, row_at, RowPut, SomeTask, PutsFirst, SomeRoundTo, FillsBehind};
 
 use day::days::Day;
-use day::fields::Layout;
 use plan_words::{REST, STOP, TIP};
 
 // The loads that a vehicle may come with, so that all that is left is driven as it stands; the place that comes next; the distance behind it.
@@ -52,19 +50,11 @@ pub fn is_smooth(o: Onward, load: u32) -> bool
 }
 
 // The distance that is left from a place on.
-pub fn distance_from(day: &Day, o: Onward, place: usize) -> u32
+pub fn onward_distance(day: &Day, o: Onward, place: usize) -> u32
     requires { (place < places day.now) × (o.next < places day.now) × (o.distance < 2147483648) }
     ensures { result ≡ distance_onward day.now place o }
 {
     day.leg(place, o.next as usize).distance + o.distance
-}
-
-// The same by the day's words and layout, until its callers use the day's type.
-pub fn onward_distance(day: &[u32], layout: Layout, o: Onward, place: usize) -> u32
-    requires { LayoutOf day.now layout × (place < layout.places) × (o.next < layout.places) × (o.distance < 2147483648) }
-    ensures { result ≡ distance_onward day.now place o }
-{
-    distance_from(&Day::with(day, layout), o, place)
 }
 
 // A place behind which no vehicle drives on as it stands: from 1 to 0 there is no load.
@@ -87,7 +77,7 @@ fn stop_first(day: &Day, o: Onward, k: usize) -> Onward
 {
     let q = day.stop_quantity(k);
     let place = day.stop_place(k);
-    let distance = distance_from(day, o, place);
+    let distance = onward_distance(day, o, place);
     if q <= o.most {
         Onward {
             least: o.least.saturating_sub(q),
@@ -105,7 +95,7 @@ fn tip_first(day: &Day, o: Onward, x: usize) -> Onward
     requires { (x ≤ tips day.now) × (o.next < places day.now) × (o.distance < 2147483648) }
     ensures { result ≡ tip_first day.now x o }
 {
-    let distance = distance_from(day, o, x);
+    let distance = onward_distance(day, o, x);
     if o.least == 0 {
         Onward {
             most: day.load_limit(),
@@ -131,7 +121,7 @@ fn onward_before(day: &Day, o: Onward, w: u32) -> Onward
 }
 
 // The rows of the vehicle whose tasks stand from a place to another, where its E word is.
-pub fn fill_rows(day: &Day, plan: &[u32], from: usize, end: usize, behind: &mut [u32])
+pub fn fill_behind(day: &Day, plan: &[u32], from: usize, end: usize, behind: &mut [u32])
     requires { (length plan.now ≤ 1200) × SomeRoundTo day.now plan.now from end × (length behind.old ≡ behind_words) }
     ensures { FillsBehind day.now plan.now from end behind.old behind.new }
 {
@@ -146,19 +136,4 @@ pub fn fill_rows(day: &Day, plan: &[u32], from: usize, end: usize, behind: &mut 
         o = onward_before(day, o, plan[at]);
         put_row(behind, at, o);
     }
-}
-
-// The same by the day's words and layout, until its callers use the day's type.
-pub fn fill_behind(
-    day: &[u32],
-    layout: Layout,
-    plan: &[u32],
-    from: usize,
-    end: usize,
-    behind: &mut [u32],
-)
-    requires { LayoutOf day.now layout × (length plan.now ≤ 1200) × SomeRoundTo day.now plan.now from end × (length behind.old ≡ behind_words) }
-    ensures { FillsBehind day.now plan.now from end behind.old behind.new }
-{
-    fill_rows(&Day::with(day, layout), plan, from, end, behind);
 }

@@ -2,7 +2,7 @@
 use Rattle.std.specs.Prelude.{if◌then◌else◌}
 use Prim.Native.Nat.{ℕ, ◌-◌, ◌*◌, ◌≤◌, ◌<◌}
 use mathlib.Core.Path.{◌≡◌, refl, sym, ap, ◌∙◌}
-use mathlib.Core.Bool.{Bool, true, false, true≢false}
+use mathlib.Core.Bool.{Bool, true, false, true≢false, ◌&&◌}
 use mathlib.Core.List.{List, [], ◌∷◌, ◌++◌}
 use native.Mathlib.Omega.{arith}
 use borrow.Rule.Slice.PartMut.{put_mid}
@@ -29,8 +29,6 @@ use Rattle.laws.proofs.Buffer.{over_drop}
 use Rattle.laws.proofs.Tests.{both_true}
 use Rattle.day.proofs.Answered.{refused_not_given, refused_day}
 use Rattle.day.proofs.Ranges.{accepted_ranges}
-use Rattle.day.specs.Layout.{LayoutOf}
-use Rattle.day.specs.declared.fields.Layout.{Layout}
 use Rattle.greedy_laws.proofs.GreedyRoom.{greedy_room}
 use Rattle.trial_list.proofs.Shapes.{greedy_shaped}
 use Rattle.search_steps.specs.Searches.{PlanAt, SetsFit}
@@ -40,13 +38,9 @@ use Rattle.trials.specs.Improvements.{Improved}
 use Rattle.planner.specs.WorkedOver.{WorkedOver}
 
 -- K, and the lengths of the buffers
-pub few_none : (K : ℕ) → K < 1 → false ≡ few_neighbours K
+pub few_by : (K : ℕ) → (leb 1 K && leb K 50) ≡ few_neighbours K
 unfolding few_neighbours
-few_none K l = rw (lt-leb 1 K l) refl
-
-pub few_most : (K : ℕ) → 1 ≤ K → leb K 50 ≡ few_neighbours K
-unfolding few_neighbours
-few_most K l = rw (le-leb 1 K l) refl
+few_by K = refl
 
 few_is : (K : ℕ) {few : Bool} → few ≡ few_neighbours K → few ≡ true → K ≤ 50
 unfolding few_neighbours
@@ -59,34 +53,29 @@ one_fits K budget e y = record { most = few_is K e y; greatest = λ n. absurd (t
 pub sets_fit : (set : Setting) → set.k ≤ 50 → 25 ≤ set.k → SetsFit set
 sets_fit set most least = record { most = most; greatest = λ _. least }
 
-module _ {day : List ℕ} {layout : Layout} (h : LayoutOf day layout) where
-  pub few_stops : IsAccepted day → layout.stops ≤ 240
-  few_stops ok = omega (arith, h.stops_are, (accepted_ranges day ok).stops_most)
+module _ {day : List ℕ} {n : ℕ} (h : n ≡ stops day) where
+  pub few_stops : IsAccepted day → n ≤ 240
+  few_stops ok = omega (arith, h, (accepted_ranges day ok).stops_most)
 
-  pub long_not : (room spare : ℕ) → room < 5 * layout.stops → false ≡ long_enough day room spare
+  pub long_by : (room spare : ℕ) → (leb (5 * n) room && leb (5 * n) spare) ≡ long_enough day room spare
   unfolding long_enough
-  long_not room spare l = let e : leb (5 * stops day) room ≡ false = lt-leb (5 * stops day) room (omega (arith, h.stops_are)) in rw e refl
-
-  pub long_by : (room spare : ℕ) → 5 * layout.stops ≤ room → leb (5 * layout.stops) spare ≡ long_enough day room spare
-  unfolding long_enough
-  long_by room spare l =
-      let e : leb (5 * stops day) room ≡ true = le-leb (5 * stops day) room (omega (arith, h.stops_are)) in rw (h.stops_are, e) refl
+  long_by room spare = rw h
 
   module _ (room spare : ℕ) {long : Bool} (e : long ≡ long_enough day room spare) (y : long ≡ true) where
     both_long : (leb (5 * stops day) room ≡ true) × (leb (5 * stops day) spare ≡ true)
     unfolding long_enough
     both_long = both_true (leb (5 * stops day) room) (leb (5 * stops day) spare) (sym e ∙ y)
 
-    pub long_plan : 5 * layout.stops ≤ room
-    long_plan = omega (arith, h.stops_are, leb-true (5 * stops day) room both_long.0)
+    pub long_plan : 5 * n ≤ room
+    long_plan = omega (arith, h, leb-true (5 * stops day) room both_long.0)
 
-    pub long_spare : 5 * layout.stops ≤ spare
-    long_spare = omega (arith, h.stops_are, leb-true (5 * stops day) spare both_long.1)
+    pub long_spare : 5 * n ≤ spare
+    long_spare = omega (arith, h, leb-true (5 * stops day) spare both_long.1)
 
 -- the greedy plan that was built
-module _ (day plan : List ℕ) {layout : Layout} (h : LayoutOf day layout) (l : 5 * layout.stops ≤ length plan) where
+module _ (day plan : List ℕ) {n : ℕ} (h : n ≡ stops day) (l : 5 * n ≤ length plan) where
   long : ltb (length plan) (5 * stops day) ≡ false
-  long = le-ltb (length plan) (5 * stops day) (omega (arith, h.stops_are))
+  long = le-ltb (length plan) (5 * stops day) (omega (arith, h))
 
   pub not_refused : {r : PlanAnswer} {number place : ℕ} → plan_values r ≡ built_answer day (length plan) → r ≡ Plans.Refused number place → ⊥
   unfolding built_answer
@@ -98,25 +87,25 @@ module _ (day plan : List ℕ) {layout : Layout} (h : LayoutOf day layout) (l : 
   abbrev zeros : List ℕ
   zeros = replicate (5 * stops day - length (greedy_plan day)) 0
 
-  front_long : length (greedy_plan day ++ zeros) ≡ 5 * layout.stops
+  front_long : length (greedy_plan day ++ zeros) ≡ 5 * n
   front_long =
-      omega (arith, length-append (greedy_plan day) zeros, length-replicate {A = ℕ} (5 * stops day - length (greedy_plan day)) 0, greedy_room day, h.stops_are)
+      omega (arith, length-append (greedy_plan day) zeros, length-replicate {A = ℕ} (5 * stops day - length (greedy_plan day)) 0, greedy_room day, h)
 
   module _ {now : List ℕ} (b : now ≡ built_buffer day plan) where
-    built_is : now ≡ (greedy_plan day ++ zeros) ++ drop (5 * layout.stops) plan
+    built_is : now ≡ (greedy_plan day ++ zeros) ++ drop (5 * n) plan
     unfolding built_buffer planned
-    built_is = b ∙ rw long (over_drop (greedy_plan day ++ zeros) plan (5 * layout.stops) front_long)
+    built_is = b ∙ rw long (over_drop (greedy_plan day ++ zeros) plan (5 * n) front_long)
 
-    behind_is : drop (5 * layout.stops) now ≡ drop (5 * layout.stops) plan
-    behind_is = ap (drop (5 * layout.stops)) built_is ∙ drop_at (greedy_plan day ++ zeros) (drop (5 * layout.stops) plan) (5 * layout.stops) front_long
+    behind_is : drop (5 * n) now ≡ drop (5 * n) plan
+    behind_is = ap (drop (5 * n)) built_is ∙ drop_at (greedy_plan day ++ zeros) (drop (5 * n) plan) (5 * n) front_long
 
-    lent_is : take (5 * layout.stops - 0) (drop 0 now) ≡ greedy_plan day ++ zeros
+    lent_is : take (5 * n - 0) (drop 0 now) ≡ greedy_plan day ++ zeros
     lent_is =
-        let n : 5 * layout.stops - 0 ≡ 5 * layout.stops = omega arith in
-        ap (λ (k : ℕ). take k now) n ∙ ap (take (5 * layout.stops)) built_is
-        ∙ take_at (greedy_plan day ++ zeros) (drop (5 * layout.stops) plan) (5 * layout.stops) front_long
+        let n : 5 * n - 0 ≡ 5 * n = omega arith in
+        ap (λ (k : ℕ). take k now) n ∙ ap (take (5 * n)) built_is
+        ∙ take_at (greedy_plan day ++ zeros) (drop (5 * n) plan) (5 * n) front_long
 
-    pub lent_long : length (take (5 * layout.stops - 0) (drop 0 now)) ≡ 5 * layout.stops
+    pub lent_long : length (take (5 * n - 0) (drop 0 now)) ≡ 5 * n
     lent_long = ap length lent_is ∙ front_long
 
     -- what is said of it
@@ -138,19 +127,19 @@ module _ (day plan : List ℕ) {layout : Layout} (h : LayoutOf day layout) (l : 
       words_are : words ≡ length (greedy_plan day)
       words_are = ap (λ (xs : List ℕ). get_or xs 5 0) values_are
 
-      pub greedy_at : PlanAt day (take (5 * layout.stops - 0) (drop 0 now)) words (greedy_rounds day)
+      pub greedy_at : PlanAt day (take (5 * n - 0) (drop 0 now)) words (greedy_rounds day)
       unfolding greedy_plan
       greedy_at =
           record {
             shaped = greedy_shaped day;
-            fits = omega (arith, lent_long, words_are, greedy_room day, h.stops_are);
+            fits = omega (arith, lent_long, words_are, greedy_room day, h);
             text = ap (take words) lent_is ∙ take_at (greedy_plan day) zeros words (sym words_are);
           }
 
       -- the plan that was worked over
       module _ {buffer Ks : List ℕ} {budget : ℕ} {last : Search} (i : Improved day Ks budget buffer last)
-          (kept : length buffer ≡ length (take (5 * layout.stops - 0) (drop 0 now))) where
-        size : length buffer ≡ 5 * layout.stops
+          (kept : length buffer ≡ length (take (5 * n - 0) (drop 0 now))) where
+        size : length buffer ≡ 5 * n
         size = kept ∙ lent_long
 
         result_is : searched day Ks budget ≡ record { plan = i.rounds; trials = last.made; settled = last.settled }
@@ -161,17 +150,17 @@ module _ (day plan : List ℕ) {layout : Layout} (h : LayoutOf day layout) (l : 
 
         filled : buffer ≡ improved ++ replicate (5 * stops day - length improved) 0
         filled =
-            let left_over : length buffer - last.words ≡ 5 * stops day - length improved = omega (arith, size, i.count, h.stops_are) in
+            let left_over : length buffer - last.words ≡ 5 * stops day - length improved = omega (arith, size, i.count, h) in
             i.text ∙ ap (λ (k : ℕ). improved ++ replicate k 0) left_over
 
-        put_back : put_mid 0 (5 * layout.stops - 0) now buffer ≡ planned day improved plan
+        put_back : put_mid 0 (5 * n - 0) now buffer ≡ planned day improved plan
         unfolding planned
         put_back =
-            let n : 5 * layout.stops - 0 ≡ 5 * layout.stops = omega arith in
+            let n : 5 * n - 0 ≡ 5 * n = omega arith in
             ap (λ (k : ℕ). put_mid 0 k now buffer) n ∙ ap (λ (ws : List ℕ). buffer ++ ws) behind_is
-            ∙ sym (over_drop buffer plan (5 * layout.stops) size) ∙ ap (λ (ws : List ℕ). over ws plan) filled
+            ∙ sym (over_drop buffer plan (5 * n) size) ∙ ap (λ (ws : List ℕ). over ws plan) filled
 
-        pub worked_over : WorkedOver day Ks budget plan (put_mid 0 (5 * layout.stops - 0) now buffer)
+        pub worked_over : WorkedOver day Ks budget plan (put_mid 0 (5 * n - 0) now buffer)
             (given (last.distance ∷ last.made ∷ (if last.settled then 1 else 0) ∷ left ∷ last.words ∷ []))
         unfolding result_values
         worked_over =
@@ -182,9 +171,9 @@ module _ (day plan : List ℕ) {layout : Layout} (h : LayoutOf day layout) (l : 
 
 -- the answer and the buffers on an accepted day with these K, by the test of the buffers' lengths
 module _ (day Ks : List ℕ) (budget spare : ℕ) (plan : List ℕ) {long : Bool} (f : long ≡ long_enough day (length plan) spare) where
-  pub short_answer : {layout : Layout} → LayoutOf day layout → long ≡ false → refused 14 (5 * layout.stops) ≡ search_answer day Ks budget (length plan) spare
+  pub short_answer : {n : ℕ} → n ≡ stops day → long ≡ false → refused 14 (5 * n) ≡ search_answer day Ks budget (length plan) spare
   unfolding search_answer
-  short_answer h n = rw (← f, n, h.stops_are)
+  short_answer h n = rw (← f, n, h)
 
   pub short_buffer : long ≡ false → plan ≡ search_buffer day Ks budget spare plan
   unfolding search_buffer

@@ -1,40 +1,31 @@
 // Planning with trials on an accepted day.
 ghost use Rattle.std.specs.Prelude.{◌≡◌, ◌≤◌, ◌<◌, ◌*◌, length};
-ghost use Rattle.rules.specs.Fields.{IsAccepted};
+ghost use Rattle.rules.specs.Fields.{stops, IsAccepted};
 ghost use Rattle.rules.specs.AnswerValues.{plan_values};
 ghost use Rattle.rules.specs.Planned.{few_neighbours, long_enough, search_answer, search_buffer, plan_answer, plan_buffer, growing_answer, growing_buffer, SpareKept};
-ghost use Rattle.day.specs.Layout.{LayoutOf};
 ghost use Rattle.search_steps.specs.Searches.{sets_of, SetsFit};
 ghost use Rattle.planner.specs.WorkedOver.{WorkedOver};
 
 use builder::greedy::build_accepted;
-use day::fields::Layout;
+use day::days::Day;
 use rules::answers::PlanAnswer;
 use search_steps::steps::Setting;
 use trials::improve::improve;
 
 // The greedy plan, worked over in buffers that are long enough.
-fn work_over(
-    day: &[u32],
-    layout: Layout,
-    set: Setting,
-    plan: &mut [u32],
-    work: &mut [u32],
-) -> PlanAnswer
-    requires { LayoutOf day.now layout × IsAccepted day.now × SetsFit set × (5 * layout.stops ≤ length plan.old) × (5 * layout.stops ≤ length work.old) }
+fn work_over(day: &Day, set: Setting, plan: &mut [u32], work: &mut [u32]) -> PlanAnswer
+    requires { IsAccepted day.now × SetsFit set × (5 * stops day.now ≤ length plan.old) × (5 * stops day.now ≤ length work.old) }
     ensures { WorkedOver day.now (sets_of set) set.budget plan.old plan.new (plan_values result) }
 {
-    let answer = build_accepted(day, layout, plan);
-    match answer {
+    match build_accepted(day, plan) {
         PlanAnswer::Planned {
             distance,
-            trials: _,
-            settled: _,
             left_out,
             words,
+            ..
         } => {
-            let need = 5 * layout.stops;
-            let last = improve(day, layout, set, words, distance, &mut plan[0..need], work);
+            let need = 5 * day.stops();
+            let last = improve(day, set, words, distance, &mut plan[0..need], work);
             PlanAnswer::Planned {
                 distance: last.distance,
                 trials: last.made,
@@ -51,56 +42,43 @@ fn work_over(
 fn is_few(k: u64) -> bool
     ensures { result ≡ few_neighbours k }
 {
-    if k < 1 {
-        return false;
-    }
-    k <= 50
+    (1 <= k) & (k <= 50)
 }
 
 // Whether both buffers have the words that are needed.
-fn are_long(day: &[u32], layout: Layout, room: usize, spare: usize) -> bool
-    requires { LayoutOf day.now layout × (layout.stops ≤ 240) }
+fn are_long(day: &Day, room: usize, spare: usize) -> bool
+    requires { stops day.now ≤ 240 }
     ensures { result ≡ long_enough day.now room spare }
 {
-    let need = 5 * layout.stops;
-    if room < need {
-        return false;
-    }
-    need <= spare
+    let need = 5 * day.stops();
+    (need <= room) & (need <= spare)
 }
 
 // The answer on an accepted day, for the K that are asked for.
-fn plan_sets(
-    day: &[u32],
-    layout: Layout,
-    set: Setting,
-    plan: &mut [u32],
-    work: &mut [u32],
-) -> PlanAnswer
-    requires { LayoutOf day.now layout × IsAccepted day.now × SetsFit set }
+fn plan_sets(day: &Day, set: Setting, plan: &mut [u32], work: &mut [u32]) -> PlanAnswer
+    requires { IsAccepted day.now × SetsFit set }
     ensures answer { plan_values result ≡ search_answer day.now (sets_of set) set.budget (length plan.old) (length work.old) }
     ensures buffer { plan.new ≡ search_buffer day.now (sets_of set) set.budget (length work.old) plan.old }
     ensures spare { SpareKept (search_answer day.now (sets_of set) set.budget (length plan.old) (length work.old)) work.old work.new }
 {
-    if are_long(day, layout, plan.len(), work.len()) {
-        return work_over(day, layout, set, plan, work);
+    if are_long(day, plan.len(), work.len()) {
+        return work_over(day, set, plan, work);
     }
     PlanAnswer::Refused {
         number: 14,
-        place: 5 * layout.stops,
+        place: 5 * day.stops(),
     }
 }
 
 // The answer on an accepted day with one K.
 pub(crate) fn plan_accepted(
-    day: &[u32],
-    layout: Layout,
+    day: &Day,
     k: u64,
     budget: u64,
     plan: &mut [u32],
     work: &mut [u32],
 ) -> PlanAnswer
-    requires { LayoutOf day.now layout × IsAccepted day.now }
+    requires { IsAccepted day.now }
     ensures answer { plan_values result ≡ plan_answer day.now k budget (length plan.old) (length work.old) }
     ensures buffer { plan.new ≡ plan_buffer day.now k budget (length work.old) plan.old }
     ensures spare { SpareKept (plan_answer day.now k budget (length plan.old) (length work.old)) work.old work.new }
@@ -111,7 +89,7 @@ pub(crate) fn plan_accepted(
             growing: false,
             budget,
         };
-        return plan_sets(day, layout, one, plan, work);
+        return plan_sets(day, one, plan, work);
     }
     PlanAnswer::Refused {
         number: 13,
@@ -121,13 +99,12 @@ pub(crate) fn plan_accepted(
 
 // The answer on an accepted day with growing neighbour sets: 5, 10, 25, 50.
 pub(crate) fn grow_accepted(
-    day: &[u32],
-    layout: Layout,
+    day: &Day,
     budget: u64,
     plan: &mut [u32],
     work: &mut [u32],
 ) -> PlanAnswer
-    requires { LayoutOf day.now layout × IsAccepted day.now }
+    requires { IsAccepted day.now }
     ensures answer { plan_values result ≡ growing_answer day.now budget (length plan.old) (length work.old) }
     ensures buffer { plan.new ≡ growing_buffer day.now budget (length work.old) plan.old }
     ensures spare { SpareKept (growing_answer day.now budget (length plan.old) (length work.old)) work.old work.new }
@@ -137,5 +114,5 @@ pub(crate) fn grow_accepted(
         growing: true,
         budget,
     };
-    plan_sets(day, layout, four, plan, work)
+    plan_sets(day, four, plan, work)
 }

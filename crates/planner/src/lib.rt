@@ -9,6 +9,7 @@ ghost use Rattle.rules.specs.Planned.{build_answer, build_buffer, plan_answer, p
 
 use crate::accepted::{grow_accepted, plan_accepted};
 use builder::greedy::build_accepted;
+use day::days::Day;
 use rules::answers::{DayAnswer, PlanAnswer};
 
 // The greedy plan of any day, in a buffer of any length.
@@ -17,9 +18,7 @@ pub fn build(day: &[u32], plan: &mut [u32]) -> PlanAnswer
     ensures buffer { plan.new ≡ build_buffer day.now plan.old }
 {
     match judge::judge(day) {
-        DayAnswer::Accepted { stops: _, tips: _ } => {
-            build_accepted(day, day::fields::layout_of(day), plan)
-        }
+        DayAnswer::Accepted { .. } => { build_accepted(&Day::new(day), plan) }
         DayAnswer::Refused { number, place } => PlanAnswer::Refused { number, place },
     }
 }
@@ -31,9 +30,7 @@ pub fn plan(day: &[u32], k: u64, budget: u64, plan: &mut [u32], work: &mut [u32]
     ensures spare { SpareKept (plan_answer day.now k budget (length plan.old) (length work.old)) work.old work.new }
 {
     match judge::judge(day) {
-        DayAnswer::Accepted { stops: _, tips: _ } => {
-            plan_accepted(day, day::fields::layout_of(day), k, budget, plan, work)
-        }
+        DayAnswer::Accepted { .. } => { plan_accepted(&Day::new(day), k, budget, plan, work) }
         DayAnswer::Refused {
             number,
             place: word,
@@ -53,9 +50,7 @@ pub fn plan_growing(day: &[u32], budget: u64, plan: &mut [u32], work: &mut [u32]
     ensures spare { SpareKept (growing_answer day.now budget (length plan.old) (length work.old)) work.old work.new }
 {
     match judge::judge(day) {
-        DayAnswer::Accepted { stops: _, tips: _ } => {
-            grow_accepted(day, day::fields::layout_of(day), budget, plan, work)
-        }
+        DayAnswer::Accepted { .. } => { grow_accepted(&Day::new(day), budget, plan, work) }
         DayAnswer::Refused {
             number,
             place: word,

@@ -1,7 +1,7 @@
 -- One step of the search, but for the making of a trial: a list is at its end, the budget is gone, or a trial is listed. Assumes nothing.
 use Rattle.std.specs.Prelude.{Some, None}
 use Prim.Native.Nat.{ℕ, ◌+◌, ◌-◌, ◌≤◌, ◌<◌}
-use mathlib.Core.Path.{◌≡◌, sym, ◌∙◌}
+use mathlib.Core.Path.{◌≡◌, refl, sym, ◌∙◌}
 use mathlib.Core.Bool.{Bool, true, false, true≢false, not}
 use mathlib.Core.Logic.{inl, inr}
 use mathlib.Core.List.{List, ◌∷◌}
@@ -10,12 +10,10 @@ use lib.Dec.{eqb}
 use lib.ListN.{length, take, drop}
 use borrow.Author.Tests.{not-true, not-false, eqb-true, eqb-false}
 use Rattle.rules.specs.Lists.{Every}
-use Rattle.rules.specs.Fields.{IsAccepted}
+use Rattle.rules.specs.Fields.{stops, tips, IsAccepted}
 use Rattle.rules.specs.Build.{greedy_lefts}
 use Rattle.rules.specs.Attempts.{attempt}
 use Rattle.rules.specs.Search.{run, trial_lists, searched}
-use Rattle.day.specs.Layout.{LayoutOf}
-use Rattle.day.specs.declared.fields.Layout.{Layout}
 use Rattle.day.proofs.Ranges.{accepted_ranges}
 use Rattle.neighbours.specs.Tables.{TableOf}
 use Rattle.neighbours.proofs.NeighbourTable.{table_fewer}
@@ -36,8 +34,8 @@ use Rattle.search_steps.proofs.SetLaws.{sets_few, sets_within, lists_at, lists_p
 use Rattle.search_steps.proofs.TakeOverLaws.{slice_is}
 
 -- the search goes on with a plan held
-module _ {day : List ℕ} {layout : Layout} {set : Setting} {budget : ℕ} {table plan : List ℕ} {tables : Tables} {s : Search}
-    (laid : LayoutOf day layout) (ok : IsAccepted day) (fit : SetsFit set) (t : TableOf day set.k table)
+module _ {day : List ℕ} {set : Setting} {budget : ℕ} {table plan : List ℕ} {tables : Tables} {s : Search}
+    (ok : IsAccepted day) (fit : SetsFit set) (t : TableOf day set.k table)
     (h : Searching day (sets_of set) budget plan tables s) (g : s.ended ≡ false) where
   -- the K at hand
   abbrev K : ℕ
@@ -50,9 +48,9 @@ module _ {day : List ℕ} {layout : Layout} {set : Setting} {budget : ℕ} {tabl
   within = sets_within fit s.stage at_hand
 
   -- the tables of the plan held
-  pub held_tables : PlanTables layout K table tables.starts tables.vehicles (take (s.words - 0) (drop 0 plan)) s.count
+  pub held_tables : PlanTables (stops day) (tips day) K table tables.starts tables.vehicles (take (s.words - 0) (drop 0 plan)) s.count
   held_tables =
-      plan_tables layout K table tables.starts tables.vehicles (take (s.words - 0) (drop 0 plan)) s.count day h.rounds (greedy_lefts day) tables.distances laid ok
+      plan_tables (stops day) (tips day) K table tables.starts tables.vehicles (take (s.words - 0) (drop 0 plan)) s.count day h.rounds (greedy_lefts day) tables.distances refl refl ok
       (omega (arith, within, fit.most)) h.held.plan_at.shaped (table_fewer t K within) h.held.surveyed (slice_is h.held.plan_at)
 
   -- the search ends
@@ -61,7 +59,7 @@ module _ {day : List ℕ} {layout : Layout} {set : Setting} {budget : ℕ} {tabl
   ends settled e =
       record { rounds = h.rounds; held = h.held; drives = h.drives; within = h.within; going = λ n. absurd (true≢false n); done = λ _. e }
 
-  module _ {l : Listed Cursor} (a : ListAnswer layout K table tables.starts tables.vehicles (take (s.words - 0) (drop 0 plan)) s.count s.cursor l) where
+  module _ {l : Listed Cursor} (a : ListAnswer (stops day) (tips day) K table tables.starts tables.vehicles (take (s.words - 0) (drop 0 plan)) s.count s.cursor l) where
     -- the list at hand is at its end
     module _ (f : l.trial ≡ None) where
       behind : run (trial_lists day (sets_of set)) (attempt day (greedy_lefts day)) (budget - s.made) h.rounds (trial_lists day (drop (s.stage + 1) (sets_of set)) h.rounds) s.made

@@ -14,7 +14,6 @@ use Rattle.rules.specs.Search.{trial_lists}
 use Rattle.laws.proofs.Decided.{known}
 use Rattle.trial_list.specs.TrialRest.{list_start}
 use Rattle.trial_list.proofs.ListRests.{whole_list}
-use Rattle.day.specs.declared.fields.Layout.{Layout}
 use Rattle.trial_list.specs.Listing.{PlanTables, ListAnswer}
 use Rattle.trial_list.specs.declared.listing.Cursor.{Cursor}
 use Rattle.trial_list.specs.declared.listing.Listed.{Listed}
@@ -45,12 +44,12 @@ module _ (set : Setting) where
     k_last y a b c h = let e : stage ≡ 3 = omega (arith, a, b, c, h, sets_four y) in rw (y, e) refl
 
 -- the K that the code works out, in place of the K at hand
-module _ {layout : Layout} {K k : ℕ} {table starts vehicles plan : List ℕ} {count : ℕ} (e : k ≡ K) where
-  pub tables_for : PlanTables layout K table starts vehicles plan count → PlanTables layout k table starts vehicles plan count
+module _ {stop_count tip_count K k : ℕ} {table starts vehicles plan : List ℕ} {count : ℕ} (e : k ≡ K) where
+  pub tables_for : PlanTables stop_count tip_count K table starts vehicles plan count → PlanTables stop_count tip_count k table starts vehicles plan count
   tables_for h = rw e h
 
-  pub answer_for : {cursor : Cursor} {l : Listed Cursor} → ListAnswer layout k table starts vehicles plan count cursor l
-      → ListAnswer layout K table starts vehicles plan count cursor l
+  pub answer_for : {cursor : Cursor} {l : Listed Cursor} → ListAnswer stop_count tip_count k table starts vehicles plan count cursor l
+      → ListAnswer stop_count tip_count K table starts vehicles plan count cursor l
   answer_for h = rw (← e) h
 
 -- none is above the last

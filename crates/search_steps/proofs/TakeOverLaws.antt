@@ -5,13 +5,11 @@ use mathlib.Core.List.{List}
 use native.Mathlib.Omega.{arith}
 use lib.ListN.{length, take, drop}
 use lib.Seq.{length-take-le}
-use Rattle.rules.specs.Fields.{IsAccepted}
+use Rattle.rules.specs.Fields.{stops, IsAccepted}
 use Rattle.rules.specs.Plan.{Round, plan_words}
 use Rattle.rules.specs.Build.{greedy_lefts}
 use Rattle.laws.specs.Buffer.{Wrote}
 use Rattle.laws.proofs.Buffer.{over_front}
-use Rattle.day.specs.Layout.{LayoutOf}
-use Rattle.day.specs.declared.fields.Layout.{Layout}
 use Rattle.day.proofs.Ranges.{accepted_ranges}
 use Rattle.greedy_laws.proofs.GreedyRoom.{room_is}
 use Rattle.trial_list.specs.Shapes.{Shaped}
@@ -33,8 +31,8 @@ module _ {day buffer : List ℕ} {words : ℕ} {rounds : List Round} (h : PlanAt
   pub plan_words_lem : words ≡ length (plan_words rounds (greedy_lefts day))
   plan_words_lem = sym (length-take-le words buffer h.fits) ∙ ap length h.text
 
-  words_most : {layout : Layout} {room : ℕ} → LayoutOf day layout → 5 * layout.stops ≤ room → words ≤ room
-  words_most laid l = omega (arith, plan_words_lem, shaped_length day rounds h.shaped, laid.stops_are)
+  words_most : {room : ℕ} → 5 * stops day ≤ room → words ≤ room
+  words_most l = omega (arith, plan_words_lem, shaped_length day rounds h.shaped)
 
   pub slice_is : take (words - 0) (drop 0 buffer) ≡ plan_words rounds (greedy_lefts day)
   slice_is = front_part words buffer ∙ h.text
@@ -43,13 +41,13 @@ module _ {day buffer : List ℕ} {words : ℕ} {rounds : List Round} (h : PlanAt
   slice_size = ap length slice_is ∙ sym plan_words_lem
 
   -- copied, it stands at the front of the plan's buffer
-  copied : {layout : Layout} {p plan : List ℕ} → LayoutOf day layout → 5 * layout.stops ≤ length p
+  copied : {p plan : List ℕ} → 5 * stops day ≤ length p
       → Wrote (take (words - 0) (drop 0 buffer)) p plan (length (take (words - 0) (drop 0 buffer))) → PlanAt day plan words rounds
-  copied {p = p} laid l w =
+  copied {p = p} l w =
       let ws = take (words - 0) (drop 0 buffer) in
       record {
         shaped = h.shaped;
-        fits = omega (arith, words_most laid l, w.size);
+        fits = omega (arith, words_most l, w.size);
         text = ap (take words) w.text ∙ over_front ws p words slice_size ∙ slice_is;
       }
 
@@ -64,17 +62,17 @@ module _ {day plan : List ℕ} (ok : IsAccepted day) (s : SomeHeld day plan) whe
   pub held_plan : SomePlan day plan
   held_plan = record { rounds = s.rounds; lefts = greedy_lefts day; plan_of = held_of ok s.shaped s.text }
 
-  pub held_trackable : {layout : Layout} {room : ℕ} {starts vehicles distances : List ℕ} {count : ℕ} → LayoutOf day layout → 5 * layout.stops ≤ room
+  pub held_trackable : {room : ℕ} {starts vehicles distances : List ℕ} {count : ℕ} → 5 * stops day ≤ room
       → SurveysAll day plan starts vehicles distances count → SomeTrackable day plan starts room count
-  held_trackable laid l f = some_trackable ok s.shaped (f s.rounds (greedy_lefts day) (held_of ok s.shaped s.text)) s.text (room_is laid l)
+  held_trackable l f = some_trackable ok s.shaped (f s.rounds (greedy_lefts day) (held_of ok s.shaped s.text)) s.text l
 
 -- its tables are made
-pub tables_made : {day plan : List ℕ} {tables : Tables} {layout : Layout} {room count : ℕ} → LayoutOf day layout → IsAccepted day
-    → 5 * layout.stops ≤ room
+pub tables_made : {day plan : List ℕ} {tables : Tables} {room count : ℕ} → IsAccepted day
+    → 5 * stops day ≤ room
     → SurveysAll day plan tables.starts tables.vehicles tables.distances count → TracksIn day plan tables.starts room count tables.tracks → MakesTables day plan tables count
-tables_made {day} laid ok l f g rounds shaped text =
+tables_made {day} ok l f g rounds shaped text =
     let s = f rounds (greedy_lefts day) (held_of ok shaped text) in
-    record { surveyed = s; tracked = g rounds (greedy_lefts day) (shaped_trackable ok shaped s text (room_is laid l)) s.counted }
+    record { surveyed = s; tracked = g rounds (greedy_lefts day) (shaped_trackable ok shaped s text l) s.counted }
 
 -- the plan held, with its tables
 pub taken_over : {day plan : List ℕ} {tables : Tables} {words count : ℕ} {rounds : List Round} → PlanAt day plan words rounds
@@ -82,18 +80,18 @@ pub taken_over : {day plan : List ℕ} {tables : Tables} {words count : ℕ} {ro
 taken_over h f = let t = f _ h.shaped (slice_is h) in record { plan_at = h; surveyed = t.surveyed; tracked = t.tracked }
 
 -- the plan is taken over from the working buffer
-module _ {day work : List ℕ} {words : ℕ} {layout : Layout} (p : List ℕ) (laid : LayoutOf day layout) (room : 5 * layout.stops ≤ length p) where
+module _ {day work : List ℕ} {words : ℕ} (p : List ℕ) (room : 5 * stops day ≤ length p) where
   pub copy_fits : SomePlanAt day work words → length (take (words - 0) (drop 0 work)) ≤ length p
-  copy_fits s = omega (arith, slice_size s.plan_at, words_most s.plan_at laid room)
+  copy_fits s = omega (arith, slice_size s.plan_at, words_most s.plan_at room)
 
   module _ {plan : List ℕ} (w : Wrote (take (words - 0) (drop 0 work)) p plan (length (take (words - 0) (drop 0 work)))) where
     pub copied_fits : SomePlanAt day work words → words ≤ length plan
-    copied_fits s = (copied s.plan_at laid room w).fits
+    copied_fits s = (copied s.plan_at room w).fits
 
     pub copied_held : SomePlanAt day work words → SomeHeld day (take (words - 0) (drop 0 plan))
-    copied_held s = some_held (copied s.plan_at laid room w)
+    copied_held s = some_held (copied s.plan_at room w)
 
     pub takes_over : {tables : Tables} {count : ℕ}
         → MakesTables day (take (words - 0) (drop 0 plan)) tables count
         → TakesOver day work words plan tables count
-    takes_over f rounds h = taken_over (copied h laid room w) f
+    takes_over f rounds h = taken_over (copied h room w) f

@@ -1,15 +1,14 @@
 // The search but for the making of a trial: it begins with the greedy plan, lists the next trial, takes a plan over, and ends.
 ghost use Rattle.std.specs.Prelude.{◌≡◌, not, ◌-◌, ◌≤◌, ◌<◌, ◌*◌, length, take, drop};
-ghost use Rattle.rules.specs.Fields.{IsAccepted};
+ghost use Rattle.rules.specs.Fields.{stops, tips, IsAccepted};
 ghost use Rattle.rules.specs.Build.{greedy_rounds};
 ghost use Rattle.rules.specs.Attempts.{distance_of};
-ghost use Rattle.day.specs.Layout.{LayoutOf};
 ghost use Rattle.trial_list.specs.Listing.{PlanTables, CursorFits, ListAnswer};
 ghost use Rattle.search_steps.specs.Searches.{PlanAt, SomePlanAt, TakesOver, BeginsAll, sets_of, k_at, ended_by, going_on, at_list, next_list};
 
 use crate::held::make_tables;
 use candidates::copy_words;
-use day::fields::Layout;
+use day::days::Day;
 use tracks::plan_tables::{Held, Tables};
 use trial_list::listing::{Cursor, Listed, first_trial, next_trial};
 
@@ -37,18 +36,17 @@ pub struct Search {
 
 // The plan at the front of the working buffer is taken over, and its tables are made. How many vehicles it has.
 pub fn take_over(
-    day: &[u32],
-    layout: Layout,
+    day: &Day,
     work: &mut [u32],
     words: usize,
     plan: &mut [u32],
     tables: &mut Tables,
 ) -> usize
-    requires { LayoutOf day.now layout × IsAccepted day.now × SomePlanAt day.now work.old words × (5 * layout.stops ≤ length plan.old) × (5 * layout.stops ≤ length work.old) }
+    requires { IsAccepted day.now × SomePlanAt day.now work.old words × (5 * stops day.now ≤ length plan.old) × (5 * stops day.now ≤ length work.old) }
     ensures { TakesOver day.now work.old words plan.new tables.new result }
 {
     copy_words(&work[0..words], plan);
-    make_tables(day, layout, &plan[0..words], tables, work)
+    make_tables(day, &plan[0..words], tables, work)
 }
 
 // The search has ended.
@@ -149,18 +147,19 @@ pub fn next_list(set: Setting, s: Search) -> Search
 
 // The next trial of the plan held, or none.
 pub fn list_next(
-    layout: Layout,
+    day: &Day,
     set: Setting,
     table: &[u8],
     tables: &Tables,
     plan: &[u32],
     s: Search,
 ) -> Listed<Cursor>
-    requires { (s.stage < length (sets_of set)) × PlanTables layout (k_at (sets_of set) s.stage) table.now tables.now.starts tables.now.vehicles (take (s.words - 0) (drop 0 plan.now)) s.count × CursorFits tables.now.starts s.count s.cursor × (s.words ≤ length plan.now) }
-    ensures { ListAnswer layout (k_at (sets_of set) s.stage) table.now tables.now.starts tables.now.vehicles (take (s.words - 0) (drop 0 plan.now)) s.count s.cursor result }
+    requires { (s.stage < length (sets_of set)) × PlanTables (stops day.now) (tips day.now) (k_at (sets_of set) s.stage) table.now tables.now.starts tables.now.vehicles (take (s.words - 0) (drop 0 plan.now)) s.count × CursorFits tables.now.starts s.count s.cursor × (s.words ≤ length plan.now) }
+    ensures { ListAnswer (stops day.now) (tips day.now) (k_at (sets_of set) s.stage) table.now tables.now.starts tables.now.vehicles (take (s.words - 0) (drop 0 plan.now)) s.count s.cursor result }
 {
     let listing = trial_list::tables::Tables {
-        layout,
+        stops: day.stops(),
+        tips: day.tips(),
         k: k_at(set, s.stage),
         neighbours: table,
         starts: &tables.starts,
@@ -182,19 +181,12 @@ pub fn is_going(s: Search) -> bool
 }
 
 // The greedy plan is held; its tables are made, and no trial is made yet.
-pub fn begin(
-    day: &[u32],
-    layout: Layout,
-    held: Held,
-    plan: &[u32],
-    tables: &mut Tables,
-    work: &mut [u32],
-) -> Search
-    requires { LayoutOf day.now layout × IsAccepted day.now × PlanAt day.now plan.now held.words (greedy_rounds day.now) × (held.distance ≡ distance_of day.now (greedy_rounds day.now)) × (5 * layout.stops ≤ length work.old) }
+pub fn begin(day: &Day, held: Held, plan: &[u32], tables: &mut Tables, work: &mut [u32]) -> Search
+    requires { IsAccepted day.now × PlanAt day.now plan.now held.words (greedy_rounds day.now) × (held.distance ≡ distance_of day.now (greedy_rounds day.now)) × (5 * stops day.now ≤ length work.old) }
     ensures { BeginsAll day.now plan.now tables.new result }
 {
     let words = held.words;
     let front = &plan[0..words];
-    let count = make_tables(day, layout, front, tables, work);
+    let count = make_tables(day, front, tables, work);
     going(words, count, held.distance, 0, 0, first_trial())
 }

@@ -49,18 +49,19 @@ start_fits rounds v =
       tip_fits = λ l. omega (arith, start_next {lefts = []} (record { text = refl; starting = v.starting }) {v = 0} (omega (arith, v.counted)));
     }
 
-module _ (layout : Layout) (K : ℕ) (table starts vehicles plan : List ℕ) (count : ℕ) where
+module _ (stop_count tip_count K : ℕ) (table starts vehicles plan : List ℕ) (count : ℕ) where
   -- the tables of a plan that trials find and leave
-  unfoldable pub plan_tables : (day : List ℕ) (rounds : List Round) (lefts distances : List ℕ) → LayoutOf day layout → IsAccepted day → K ≤ 50 → Shaped day rounds
-      → TableOf day K table → Surveyed day rounds starts vehicles distances count → plan ≡ plan_words rounds lefts → PlanTables layout K table starts vehicles plan count
-  plan_tables day rounds lefts distances layout accepted close shaped table_is surveyed text =
+  unfoldable pub plan_tables : (day : List ℕ) (rounds : List Round) (lefts distances : List ℕ) → stop_count ≡ stops day → tip_count ≡ tips day → IsAccepted day → K ≤ 50 → Shaped day rounds
+      → TableOf day K table → Surveyed day rounds starts vehicles distances count → plan ≡ plan_words rounds lefts → PlanTables stop_count tip_count K table starts vehicles plan count
+  plan_tables day rounds lefts distances stops_is tips_is accepted close shaped table_is surveyed text =
       let most = (accepted_ranges day accepted).stops_most in
       record {
         day = day;
         rounds = rounds;
         lefts = lefts;
         distances = distances;
-        layout_is = layout;
+        stops_is = stops_is;
+        tips_is = tips_is;
         most = most;
         close = close;
         known = shaped.known;

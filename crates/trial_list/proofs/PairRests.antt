@@ -163,9 +163,9 @@ module _ (day : List ℕ) (K : ℕ) (rounds : List Round) where
   pair_goes p r within h (first_trial _ m o f s e n) = goes_with f (rw (rank_at p within h, s, n, rank_at (halfway p) within h, e) refl)
 
 -- by the tables
-module _ (t : Tables) (p : PairPlace) (r : Listed PairPlace) (h : TablesOf t) (stop_first : 1 ≤ p.stop) (stop_within : p.stop ≤ t.layout.stops) where
+module _ (t : Tables) (p : PairPlace) (r : Listed PairPlace) (h : TablesOf t) (stop_first : 1 ≤ p.stop) (stop_within : p.stop ≤ t.stops) where
   its_stop : (s : TablesOf t) → p.stop ≤ stops s.day
-  its_stop s = omega (arith, s.layout_is.stops_are)
+  its_stop s = omega (arith, s.stops_is)
 
   -- the next stop
   stop_over : ((s : TablesOf t) → length (neighbours s.day t.k p.stop) ≤ p.rank) → r.trial ≡ None → r.next ≡ next_stop p → PairStep t p r

@@ -214,21 +214,21 @@ module _ (t : Tables) (q : TipPlace) (r : Listed TipPlace) (some : SomeTip t q) 
         }
 
     -- it is one
-    tells_fits : (y : ℕ) → TipTells t.layout.tips y q r → TipFits t.starts.now t.count r.next
+    tells_fits : (y : ℕ) → TipTells t.tips y q r → TipFits t.starts.now t.count r.next
     tells_fits y (tells_no_tip _ e n m) = next_fits m
     tells_fits y (tells_tip _ m x e n f) = rw f (λ l. some.fits)
 
-    tells_next : (y : ℕ) → TipTells t.layout.tips y q r → r.trial ≡ None → r.next ≡ next_task q
+    tells_next : (y : ℕ) → TipTells t.tips y q r → r.trial ≡ None → r.next ≡ next_task q
     tells_next y (tells_no_tip _ e n m) f = m
     tells_next y (tells_tip _ m x e n g) f = absurd (none_some f e)
 
-    pub tip_steps : (tip_word 0) ≤ w → w < rest_word → TipTells t.layout.tips (w - tip_word 0) q r → TipStep t q r
+    pub tip_steps : (tip_word 0) ≤ w → w < rest_word → TipTells t.tips (w - tip_word 0) q r → TipStep t q r
     tip_steps low high tells =
         record {
           goes = λ s.
               tip_goes t s q some.within (inside s) (w - tip_word 0) r
               (λ x. tip_word_lem s.day w (suc q.vehicle) q.task x (task t s q some.within (inside s)) s.most (is_known t s q some.within (inside s)) low high (its_word s))
-              (rw s.layout_is.tips_are at tells);
+              (rw s.tips_is at tells);
           fits = tells_fits (w - tip_word 0) tells;
           falls = λ f. next_falls (tells_next (w - tip_word 0) tells f);
         }

@@ -3,11 +3,9 @@
 use Rattle.std.specs.Prelude.{ℕ, suc, ◌+◌, ◌*◌, ◌-◌, ◌≤◌, ◌<◌, ◌≡◌, true, false, List, [], ◌∷◌, Option, Some, None, IfSome, length, get_or}
 use Rattle.rules.specs.Lists.{Every}
 use Rattle.rules.specs.Tests.{number_or_none}
-use Rattle.rules.specs.Fields.{stops}
+use Rattle.rules.specs.Fields.{stops, tips}
 use Rattle.rules.specs.Plan.{Round, plan_words, Known}
 use Rattle.rules.specs.Edits.{Trial}
-use Rattle.day.specs.Layout.{LayoutOf}
-use Rattle.day.specs.declared.fields.Layout.{Layout}
 use Rattle.neighbours.specs.Tables.{TableOf}
 use Rattle.trial_list.specs.Survey.{VehicleIn, Surveyed}
 use Rattle.trial_list.specs.TrialRest.{listed_trial, from_half, pair_rest, tip_from, tip_rest, rest_of}
@@ -75,12 +73,13 @@ abbrev pub TipFits : List ℕ → ℕ → TipPlace → Type 0
 TipFits starts count q = q.vehicle < count → get_or starts q.vehicle 0 + q.task + 2 ≤ get_or starts (q.vehicle + 1) 0
 
 -- the present plan and its tables
-pub record PlanTables (layout : Layout) (K : ℕ) (table starts vehicles plan : List ℕ) (count : ℕ) : Type 0 where
+pub record PlanTables (stop_count tip_count K : ℕ) (table starts vehicles plan : List ℕ) (count : ℕ) : Type 0 where
   pub day : List ℕ
   pub rounds : List Round
   pub lefts : List ℕ
   pub distances : List ℕ
-  pub layout_is : LayoutOf day layout
+  pub stops_is : stop_count ≡ stops day
+  pub tips_is : tip_count ≡ tips day
   pub most : stops day ≤ 240
   pub close : K ≤ 50
   pub known : Every (Every (Known day)) rounds
@@ -90,13 +89,13 @@ pub record PlanTables (layout : Layout) (K : ℕ) (table starts vehicles plan : 
   pub text : plan ≡ plan_words rounds lefts
 
 abbrev pub TablesOf : Tables → Type 0
-TablesOf t = PlanTables t.layout t.k t.neighbours.now t.starts.now t.vehicles.now t.plan.now t.count
+TablesOf t = PlanTables t.stops t.tips t.k t.neighbours.now t.starts.now t.vehicles.now t.plan.now t.count
 
 -- one step over the pairs: the list goes on, and there are fewer places yet
 pub record PairStep (t : Tables) (p : PairPlace) (r : Listed PairPlace) : Type 0 where
   pub goes : (s : TablesOf t) → Goes (pair_rest s.day t.k s.rounds) p r
   pub first : 1 ≤ r.next.stop
-  pub falls : r.trial ≡ None → pairs_left t.layout.stops t.k r.next < pairs_left t.layout.stops t.k p
+  pub falls : r.trial ≡ None → pairs_left t.stops t.k r.next < pairs_left t.stops t.k p
 
 -- the next trial of a pair, if there is one
 pub record PairAnswer (t : Tables) (p : PairPlace) (r : Listed PairPlace) : Type 0 where
@@ -131,9 +130,9 @@ pub record CursorFits (starts : List ℕ) (count : ℕ) (c : Cursor) : Type 0 wh
   pub tip_fits : TipFits starts count c.tips
 
 -- the next trial of the list, if there is one
-pub record ListAnswer (layout : Layout) (K : ℕ) (table starts vehicles plan : List ℕ) (count : ℕ) (c : Cursor) (r : Listed Cursor) : Type 0 where
-  pub tells : (s : PlanTables layout K table starts vehicles plan count) → Tells (rest_of s.day K s.rounds) c r
+pub record ListAnswer (stop_count tip_count K : ℕ) (table starts vehicles plan : List ℕ) (count : ℕ) (c : Cursor) (r : Listed Cursor) : Type 0 where
+  pub tells : (s : PlanTables stop_count tip_count K table starts vehicles plan count) → Tells (rest_of s.day K s.rounds) c r
   pub fits : CursorFits starts count r.next
 
 abbrev pub Answers : Tables → Cursor → Listed Cursor → Type 0
-Answers t = ListAnswer t.layout t.k t.neighbours.now t.starts.now t.vehicles.now t.plan.now t.count
+Answers t = ListAnswer t.stops t.tips t.k t.neighbours.now t.starts.now t.vehicles.now t.plan.now t.count

@@ -166,7 +166,7 @@ fn pair_trial(place: PairPlace, stop: u32, other: u32, one: usize, two: usize) -
 
 // The trial at a place, if there is one; else the place behind it.
 fn pair_at(tables: &Tables, place: PairPlace) -> Listed<PairPlace>
-    requires { TablesOf tables.now × (1 ≤ place.stop) × (place.stop ≤ tables.now.layout.stops) }
+    requires { TablesOf tables.now × (1 ≤ place.stop) × (place.stop ≤ tables.now.stops) }
     ensures { PairStep tables.now place result }
 {
     let stop = place.stop;
@@ -191,7 +191,7 @@ fn next_pair(tables: &Tables, first: PairPlace) -> Listed<PairPlace>
     ensures { PairAnswer tables.now first result }
 {
     let mut place = first;
-    while place.stop <= tables.layout.stops {
+    while place.stop <= tables.stops {
         let listed = pair_at(tables, place);
         if listed.trial.is_some() {
             return listed;
@@ -241,7 +241,7 @@ fn tip_at(tables: &Tables, place: TipPlace) -> Listed<TipPlace>
     }
     let word = tables.plan[at];
     if (TIP..REST).contains(&word) {
-        tip_trial(tables.layout.tips, place, (word - TIP) as usize)
+        tip_trial(tables.tips, place, (word - TIP) as usize)
     } else {
         passed(place.next_task())
     }

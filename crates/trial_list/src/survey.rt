@@ -2,11 +2,9 @@
 ghost use Rattle.std.specs.Prelude.{◌≡◌, ◌<◌, ◌≤◌, length};
 ghost use Rattle.rules.specs.PlanWords.{stop_word, tip_word};
 ghost use Rattle.rules.specs.Fields.{places};
-ghost use Rattle.day.specs.Layout.{LayoutOf};
 ghost use Rattle.trial_list.specs.Survey.{SomePlan, SurveysAll, SomeRound, EndsAll, place_of, place_then, distance_then, vehicles_then, TaskWord, is_vehicle};
 
 use day::days::Day;
-use day::fields::Layout;
 use plan_words::{BACK, REST, STOP, TIP};
 
 // The place that a B or C word names.
@@ -94,7 +92,7 @@ fn is_vehicle(plan: &[u32], at: usize) -> bool
 }
 
 // The tables of a plan, and how many vehicles it has.
-pub fn survey_plan(
+pub fn survey(
     day: &Day,
     plan: &[u32],
     starts: &mut [u32],
@@ -117,20 +115,4 @@ pub fn survey_plan(
     }
     starts[count] = at as u32;
     count
-}
-
-// The same by the day's words and layout, until its caller uses the day's type.
-pub fn survey(
-    day: &[u32],
-    layout: Layout,
-    plan: &[u32],
-    starts: &mut [u32],
-    vehicles: &mut [u8],
-    distances: &mut [u32],
-) -> usize
-    requires layout_of { LayoutOf day.now layout × (length plan.now ≤ 1200) × SomePlan day.now plan.now }
-    requires starts_len { (length starts.old ≡ 256) × (length vehicles.old ≡ 256) × (length distances.old ≡ 256) }
-    ensures { SurveysAll day.now plan.now starts.new vehicles.new distances.new result }
-{
-    survey_plan(&Day::with(day, layout), plan, starts, vehicles, distances)
 }

@@ -1,11 +1,11 @@
 // The present plan and its tables, of which a trial list is read.
-use day::fields::Layout;
 
 // How many stops and tips the day has, how many neighbours a stop has in the list, and the table of them; the plan, where its vehicles start,
 // the vehicle of each stop, and how many vehicles there are.
 #[derive(Clone, Copy)]
 pub struct Tables<'a> {
-    pub layout: Layout,
+    pub stops: usize,
+    pub tips: usize,
     pub k: usize,
     pub neighbours: &'a [u8],
     pub starts: &'a [u32],

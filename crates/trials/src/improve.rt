@@ -1,38 +1,35 @@
 // The greedy plan, worked over by trials in the buffer where it stands.
 ghost use Rattle.std.specs.Prelude.{◌≡◌, ◌≤◌, ◌*◌, length};
-ghost use Rattle.rules.specs.Fields.{IsAccepted};
+ghost use Rattle.rules.specs.Fields.{stops, IsAccepted};
 ghost use Rattle.rules.specs.Build.{greedy_rounds};
 ghost use Rattle.rules.specs.Attempts.{distance_of};
-ghost use Rattle.day.specs.Layout.{LayoutOf};
 ghost use Rattle.search_steps.specs.Searches.{PlanAt, sets_of, SetsFit};
 ghost use Rattle.trials.specs.Improvements.{Improved};
 
 use crate::search::run_trials;
 use builder::lefts::fill_zeros;
-use day::fields::Layout;
+use day::days::Day;
 use neighbours::table::fill_table;
 use search_steps::steps::{Search, Setting};
 use tracks::plan_tables::{Held, Tables};
 
 // The plan that the trials come to fills the buffer, with zeros behind it. Neighbours are worked out once, for the greatest K.
 pub fn improve(
-    day: &[u32],
-    layout: Layout,
+    day: &Day,
     set: Setting,
     words: usize,
     distance: u32,
     plan: &mut [u32],
     work: &mut [u32],
 ) -> Search
-    requires { LayoutOf day.now layout × IsAccepted day.now × SetsFit set × (length plan.old ≡ 5 * layout.stops) × (5 * layout.stops ≤ length work.old) × PlanAt day.now plan.old words (greedy_rounds day.now) × (distance ≡ distance_of day.now (greedy_rounds day.now)) }
+    requires { IsAccepted day.now × SetsFit set × (length plan.old ≡ 5 * stops day.now) × (5 * stops day.now ≤ length work.old) × PlanAt day.now plan.old words (greedy_rounds day.now) × (distance ≡ distance_of day.now (greedy_rounds day.now)) }
     ensures { Improved day.now (sets_of set) set.budget plan.new result }
 {
     let mut table = [0u8; 12050];
     let mut tables = Tables::new();
-    fill_table(day, layout, set.k, &mut table);
+    fill_table(day, set.k, &mut table);
     let last = run_trials(
         day,
-        layout,
         set,
         Held { words, distance },
         &table,

@@ -1,10 +1,9 @@
 // The search: trial after trial, list after list, from the start of the first list again once a plan is kept.
 ghost use Rattle.std.specs.Prelude.{◌≡◌, true, false, List, ◌-◌, ◌≤◌, ◌<◌, ◌*◌, length, take, drop};
-ghost use Rattle.rules.specs.Fields.{IsAccepted};
+ghost use Rattle.rules.specs.Fields.{stops, IsAccepted};
 ghost use Rattle.rules.specs.Plan.{Round};
 ghost use Rattle.rules.specs.Build.{greedy_rounds};
 ghost use Rattle.rules.specs.Attempts.{distance_of};
-ghost use Rattle.day.specs.Layout.{LayoutOf};
 ghost use Rattle.neighbours.specs.Tables.{TableOf};
 ghost use Rattle.edits.specs.EditWords.{EditKnown, EditSmall};
 ghost use Rattle.trial_list.specs.TrialRest.{listed_trial};
@@ -13,7 +12,7 @@ ghost use Rattle.search_steps.specs.Searches.{PlanAt, NextTrial, Searching, sets
 ghost use Rattle.trials.specs.Improvements.{AfterTrial};
 
 use attempts::tries::make_trial;
-use day::fields::Layout;
+use day::days::Day;
 use search_steps::steps::{
     Search, Setting, begin, end, going, is_going, list_next, next_list, take_over,
 };
@@ -22,8 +21,7 @@ use trial_list::listing::{Cursor, Trial, first_trial};
 
 // A trial was made: its plan is taken over where it is kept, and else the list goes on.
 fn after_trial(
-    day: &[u32],
-    layout: Layout,
+    day: &Day,
     set: Setting,
     work: &mut [u32],
     plan: &mut [u32],
@@ -32,13 +30,13 @@ fn after_trial(
     next: Cursor,
     tried: Option<Held>,
 ) -> Search
-    requires { LayoutOf day.now layout × IsAccepted day.now × (5 * layout.stops ≤ length plan.old) × (5 * layout.stops ≤ length work.old) × AfterTrial day.now (sets_of set) set.budget work.old plan.old tables.old s next tried }
+    requires { IsAccepted day.now × (5 * stops day.now ≤ length plan.old) × (5 * stops day.now ≤ length work.old) × AfterTrial day.now (sets_of set) set.budget work.old plan.old tables.old s next tried }
     ensures { Searching day.now (sets_of set) set.budget plan.new tables.new result × (steps_left set.budget result < steps_left set.budget s) }
 {
     let made = s.made + 1;
     match tried {
         Some(held) => {
-            let count = take_over(day, layout, work, held.words, plan, tables);
+            let count = take_over(day, work, held.words, plan, tables);
             going(held.words, count, held.distance, made, 0, first_trial())
         }
         None => going(s.words, s.count, s.distance, made, s.stage, next),
@@ -47,34 +45,23 @@ fn after_trial(
 
 // A trial of the plan held is made.
 fn try_next(
-    day: &[u32],
-    layout: Layout,
+    day: &Day,
     t: Trial,
     plan: &[u32],
     tables: &Tables,
     s: Search,
     work: &mut [u32],
 ) -> Option<Held>
-    requires { LayoutOf day.now layout × IsAccepted day.now × EditSmall t.edit × EditKnown day.now t.edit × SomeMade day.now (take (s.words - 0) (drop 0 plan.now)) tables.now (listed_trial t) s.count s.distance × (5 * layout.stops ≤ length work.old) × (s.words ≤ length plan.now) }
+    requires { IsAccepted day.now × EditSmall t.edit × EditKnown day.now t.edit × SomeMade day.now (take (s.words - 0) (drop 0 plan.now)) tables.now (listed_trial t) s.count s.distance × (5 * stops day.now ≤ length work.old) × (s.words ≤ length plan.now) }
     ensures { (rounds : List Round) → Made day.now (take (s.words - 0) (drop 0 plan.now)) tables.now (listed_trial t) s.count s.distance rounds → TriedAs day.now (listed_trial t) rounds work.new result }
 {
     let words = s.words;
-    make_trial(
-        day,
-        layout,
-        t,
-        &plan[0..words],
-        tables,
-        s.count,
-        s.distance,
-        work,
-    )
+    make_trial(day, t, &plan[0..words], tables, s.count, s.distance, work)
 }
 
 // A trial that is listed is made, and the search goes on behind it.
 fn step_on(
-    day: &[u32],
-    layout: Layout,
+    day: &Day,
     set: Setting,
     work: &mut [u32],
     plan: &mut [u32],
@@ -83,18 +70,17 @@ fn step_on(
     trial: Trial,
     next: Cursor,
 ) -> Search
-    requires { LayoutOf day.now layout × IsAccepted day.now × (5 * layout.stops ≤ length work.old) × (5 * layout.stops ≤ length plan.old) × NextTrial day.now (sets_of set) set.budget plan.old tables.old s trial next }
+    requires { IsAccepted day.now × (5 * stops day.now ≤ length work.old) × (5 * stops day.now ≤ length plan.old) × NextTrial day.now (sets_of set) set.budget plan.old tables.old s trial next }
     ensures { Searching day.now (sets_of set) set.budget plan.new tables.new result × (steps_left set.budget result < steps_left set.budget s) }
 {
-    let tried = try_next(day, layout, trial, plan, tables, s, work);
-    after_trial(day, layout, set, work, plan, tables, s, next, tried)
+    let tried = try_next(day, trial, plan, tables, s, work);
+    after_trial(day, set, work, plan, tables, s, next, tried)
 }
 
 // The next trial is made, or the search ends, not settled, once the budget is gone; at the end of a list that of the next K begins, or the
 // search ends, settled.
 fn next_step(
-    day: &[u32],
-    layout: Layout,
+    day: &Day,
     set: Setting,
     table: &[u8],
     work: &mut [u32],
@@ -102,34 +88,23 @@ fn next_step(
     tables: &mut Tables,
     s: Search,
 ) -> Search
-    requires layout_of { LayoutOf day.now layout × IsAccepted day.now × SetsFit set × TableOf day.now set.k table.now × (5 * layout.stops ≤ length work.old) × (5 * layout.stops ≤ length plan.old) }
+    requires buffers { IsAccepted day.now × SetsFit set × TableOf day.now set.k table.now × (5 * stops day.now ≤ length work.old) × (5 * stops day.now ≤ length plan.old) }
     requires searching { Searching day.now (sets_of set) set.budget plan.old tables.old s × (s.ended ≡ false) }
     ensures { Searching day.now (sets_of set) set.budget plan.new tables.new result × (steps_left set.budget result < steps_left set.budget s) }
 {
-    let listed = list_next(layout, set, table, tables, plan, s);
+    let listed = list_next(day, set, table, tables, plan, s);
     let Some(trial) = listed.trial else {
         return next_list(set, s);
     };
     if s.made == set.budget {
         return end(s, false);
     }
-    step_on(
-        day,
-        layout,
-        set,
-        work,
-        plan,
-        tables,
-        s,
-        trial,
-        listed.next,
-    )
+    step_on(day, set, work, plan, tables, s, trial, listed.next)
 }
 
 // Trials of the greedy plan, and of the plans that come of it, are made until the search ends.
 pub(crate) fn run_trials(
-    day: &[u32],
-    layout: Layout,
+    day: &Day,
     set: Setting,
     held: Held,
     table: &[u8],
@@ -137,13 +112,13 @@ pub(crate) fn run_trials(
     plan: &mut [u32],
     tables: &mut Tables,
 ) -> Search
-    requires layout_of { LayoutOf day.now layout × IsAccepted day.now × SetsFit set × TableOf day.now set.k table.now × (5 * layout.stops ≤ length work.old) × (5 * layout.stops ≤ length plan.old) }
+    requires buffers { IsAccepted day.now × SetsFit set × TableOf day.now set.k table.now × (5 * stops day.now ≤ length work.old) × (5 * stops day.now ≤ length plan.old) }
     requires plan_at { PlanAt day.now plan.old held.words (greedy_rounds day.now) × (held.distance ≡ distance_of day.now (greedy_rounds day.now)) }
     ensures { Searching day.now (sets_of set) set.budget plan.new tables.new result × (result.ended ≡ true) }
 {
-    let mut s = begin(day, layout, held, plan, tables, work);
+    let mut s = begin(day, held, plan, tables, work);
     while is_going(s) {
-        s = next_step(day, layout, set, table, work, plan, tables, s);
+        s = next_step(day, set, table, work, plan, tables, s);
     }
     s
 }

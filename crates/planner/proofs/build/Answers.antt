@@ -4,11 +4,11 @@ use Rattle.day.proofs.Answered.{is_accepted, accepted_long}
 use Rattle.builder.proofs.BuiltPlans.{accepted_answer, accepted_buffer, refused_answer, refused_buffer}
 use Rattle.planner.proofs.build.Goals as goal
 
-pub layout_of-requires : goal.layout_of-requires
-layout_of-requires c = search accepted_long
+pub new-requires : goal.new-requires
+new-requires c = search accepted_long
 
 pub build_accepted-requires : goal.build_accepted-requires
-build_accepted-requires c = (search rules, search is_accepted)
+build_accepted-requires c = search (rules, is_accepted)
 
 pub returns-in-Accepted-clause-answer : goal.returns-in-Accepted-clause-answer
 returns-in-Accepted-clause-answer c = search accepted_answer

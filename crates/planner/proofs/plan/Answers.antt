@@ -4,11 +4,11 @@ use Rattle.planner.proofs.PlanCalls.{refused_plan_answer, refused_plan_buffer}
 use borrow.Author.Rules.{rules}
 use Rattle.planner.proofs.plan.Goals as goal
 
-pub layout_of-requires : goal.layout_of-requires
-layout_of-requires c = search accepted_long
+pub new-requires : goal.new-requires
+new-requires c = search accepted_long
 
 pub plan_accepted-requires : goal.plan_accepted-requires
-plan_accepted-requires c = (search rules, search is_accepted)
+plan_accepted-requires c = search (rules, is_accepted)
 
 pub returns-in-Refused-clause-answer : goal.returns-in-Refused-clause-answer
 returns-in-Refused-clause-answer c = search refused_plan_answer

@@ -4,11 +4,11 @@ use Rattle.planner.proofs.PlanCalls.{refused_growing_answer, refused_growing_buf
 use borrow.Author.Rules.{rules}
 use Rattle.planner.proofs.plan_growing.Goals as goal
 
-pub layout_of-requires : goal.layout_of-requires
-layout_of-requires c = search accepted_long
+pub new-requires : goal.new-requires
+new-requires c = search accepted_long
 
 pub grow_accepted-requires : goal.grow_accepted-requires
-grow_accepted-requires c = (search rules, search is_accepted)
+grow_accepted-requires c = search (rules, is_accepted)
 
 pub returns-in-Refused-clause-answer : goal.returns-in-Refused-clause-answer
 returns-in-Refused-clause-answer c = search refused_growing_answer

@@ -10,15 +10,14 @@ returns-then-plan-need-clause-answer c = search short_answer
 pub returns-then-plan-need-clause-buffer : goal.returns-then-plan-need-clause-buffer
 returns-then-plan-need-clause-buffer c = search short_buffer
 
-pub write_laid_out-written-requires : goal.write_laid_out-written-requires
-write_laid_out-written-requires c = let p = c.requires in
-    (p.0, (accepted_ranges _ p.1).stops_most, omega (arith, p.0.stops_are, c.if-plan-need.false))
+pub write_plan-written-requires : goal.write_plan-written-requires
+write_plan-written-requires c = ((accepted_ranges _ c.requires).stops_most, omega (arith, c.stops-need.ensures.count, c.if-plan-need.false))
 
-pub slice_bounds-check_accepted-end : goal.slice_bounds-check_accepted-end
-slice_bounds-check_accepted-end c = search plan_fits
+pub slice_bounds-check_laid_out-end : goal.slice_bounds-check_laid_out-end
+slice_bounds-check_laid_out-end c = search plan_fits
 
-pub slice_bounds-check_accepted-end-2 : goal.slice_bounds-check_accepted-end-2
-slice_bounds-check_accepted-end-2 c = search plan_cut
+pub slice_bounds-check_laid_out-end-2 : goal.slice_bounds-check_laid_out-end-2
+slice_bounds-check_laid_out-end-2 c = search plan_cut
 
 pub returns-in-Lawful-clause-answer : goal.returns-in-Lawful-clause-answer
 returns-in-Lawful-clause-answer c = search long_answer

@@ -4,7 +4,7 @@ use borrow.Author.Rules.{rules}
 use Rattle.planner.proofs.accepted.plan_accepted.Goals as goal
 
 pub plan_sets-requires : goal.plan_sets-requires
-plan_sets-requires c = (search rules, search rules, search one_fits)
+plan_sets-requires c = (search rules, search one_fits)
 
 pub returns-then-is_few-clause-answer : goal.returns-then-is_few-clause-answer
 returns-then-is_few-clause-answer c = search few_answer

@@ -1,13 +1,15 @@
 -- `planner::accepted::plan_sets` meets its contract.
 use Rattle.planner.proofs.PlanCalls.{few_stops, long_plan, long_spare, short_answer, short_buffer, worked_answer, worked_buffer, worked_spare}
-use borrow.Author.Rules.{rules}
+use mathlib.Core.Path.{refl}
 use Rattle.planner.proofs.accepted.plan_sets.Goals as goal
 
 pub are_long-requires : goal.are_long-requires
-are_long-requires c = (search rules, search few_stops)
+are_long-requires c = few_stops refl c.requires.0
 
 pub work_over-requires : goal.work_over-requires
-work_over-requires c = (search rules, search rules, search rules, search long_plan, search long_spare)
+work_over-requires c =
+    let long = c.are_long.ensures in
+    (c.requires.0, c.requires.1, long_plan refl _ _ long c.if-are_long.true, long_spare refl _ _ long c.if-are_long.true)
 
 pub returns-then-are_long-clause-answer : goal.returns-then-are_long-clause-answer
 returns-then-are_long-clause-answer c = search worked_answer

@@ -1,15 +1,28 @@
 -- `planner::accepted::work_over` meets its contract.
-use Rattle.planner.proofs.PlanCalls.{not_refused, lent_long, distance_is, greedy_at, worked_over}
+use native.Mathlib.Omega.{arith}
+use mathlib.Core.Path.{refl}
 use borrow.Author.Rules.{rules}
+use Rattle.planner.proofs.PlanCalls.{not_refused, lent_long, distance_is, greedy_at, worked_over}
 use Rattle.planner.proofs.accepted.work_over.Goals as goal
 
 pub improve-last-requires : goal.improve-last-requires
-improve-last-requires c = (search rules, search rules, search rules, search lent_long, search rules, search greedy_at, search distance_is)
+improve-last-requires c =
+    let n = c.stops-need.ensures.count in
+    let room = omega (arith, n, c.requires.2) in
+    let greedy = c.build_accepted.ensures in (
+      c.requires.0,
+      c.requires.1,
+      omega (arith, n, lent_long _ _ n room greedy.buffer),
+      search rules,
+      greedy_at _ _ n room greedy.buffer greedy.answer c.in-Planned.is,
+      distance_is _ _ n room greedy.buffer greedy.answer c.in-Planned.is,
+    )
 
 pub returns-in-Planned : goal.returns-in-Planned
-returns-in-Planned c = let pre = c.requires in
-    let greedy = c.build_accepted-answer.ensures in
-    worked_over _ _ pre.0 pre.3 greedy.buffer greedy.answer c.in-Planned.is c.improve-last.ensures (search rules)
+returns-in-Planned c =
+    let n = c.stops-need.ensures.count in
+    let greedy = c.build_accepted.ensures in
+    worked_over _ _ n (omega (arith, n, c.requires.2)) greedy.buffer greedy.answer c.in-Planned.is c.improve-last.ensures (search rules)
 
 pub returns-in-Refused : goal.returns-in-Refused
-returns-in-Refused c = absurd (search not_refused)
+returns-in-Refused c = let greedy = c.build_accepted.ensures in absurd (not_refused _ _ refl c.requires.2 greedy.answer c.in-Refused.is)

@@ -4,4 +4,4 @@ use Rattle.search_steps.proofs.steps.begin.Goals as goal
 
 pub returns : goal.returns
 returns c = let p = c.requires in
-    begins p.2 c.make_tables-count.ensures p.3 c.first_trial.ensures c.going.ensures
+    begins p.1 c.make_tables-count.ensures p.2 c.first_trial.ensures c.going.ensures

@@ -10,8 +10,8 @@ slice_bounds-make_tables-end c = search copied_fits
 
 pub make_tables-requires : goal.make_tables-requires
 make_tables-requires c = let p = c.requires in
-    (p.0, p.1, copied_held _ p.0 p.3 c.copy_words.ensures p.2, p.4)
+    (p.0, copied_held _ p.2 c.copy_words.ensures p.1, p.3)
 
 pub returns : goal.returns
 returns c = let p = c.requires in
-    takes_over _ p.0 p.3 c.copy_words.ensures c.make_tables.ensures
+    takes_over _ p.2 c.copy_words.ensures c.make_tables.ensures

@@ -8,6 +8,6 @@ returns c =
     let l = c.loop-place in
     let r = c.passed.ensures in
     record {
-      tells = next_none _ _ l.invariant.1 (λ s. pairs_over s.day _ s.rounds l.place (omega (arith, s.layout_is.stops_are, c.loop-place-test.false))) r.trial r.next;
+      tells = next_none _ _ l.invariant.1 (λ s. pairs_over s.day _ s.rounds l.place (omega (arith, s.stops_is, c.loop-place-test.false))) r.trial r.next;
       first = rw r.next l.invariant.0;
     }

@@ -9,4 +9,4 @@ abbrev pub invariant-loop-place : goal.invariant-loop-place
 invariant-loop-place l = (1 ≤ l.place.stop) × Passed (λ (s : TablesOf l.tables). pair_rest s.day l.tables.k s.rounds) l.initial.place l.place
 
 abbrev pub decreases-loop-place : goal.decreases-loop-place
-decreases-loop-place l = pairs_left l.tables.layout.stops l.tables.k l.place
+decreases-loop-place l = pairs_left l.tables.stops l.tables.k l.place

@@ -5,4 +5,4 @@ use Rattle.day.proofs.Ranges.{accepted_ranges}
 use Rattle.trials.proofs.improve.improve.Goals as goal
 
 pub fill_table-requires : goal.fill_table-requires
-fill_table-requires c = let p = c.requires in (p.0, omega (arith, p.0.stops_are, (accepted_ranges _ p.1).stops_most), omega (arith, p.2.most), refl)
+fill_table-requires c = let p = c.requires in ((accepted_ranges _ p.0).stops_most, omega (arith, p.1.most), refl)

@@ -3,22 +3,22 @@ use Rattle.search_steps.proofs.SearchSteps.{at_hand, held_tables, list_ends, end
 use Rattle.trials.proofs.search.next_step.Goals as goal
 
 pub list_next-listed-requires : goal.list_next-listed-requires
-list_next-listed-requires c = let p = c.requires.layout_of in
+list_next-listed-requires c = let p = c.requires.buffers in
     let h = c.requires.searching.0 in
     let g = c.requires.searching.1 in
-    (at_hand p.0 p.1 p.2 p.3 h g, held_tables p.0 p.1 p.2 p.3 h g, (h.going g).fits, h.held.plan_at.fits)
+    (at_hand p.0 p.1 p.2 h g, held_tables p.0 p.1 p.2 h g, (h.going g).fits, h.held.plan_at.fits)
 
 pub returns-in_default : goal.returns-in_default
-returns-in_default c = let p = c.requires.layout_of in
-    list_ends p.0 p.1 p.2 p.3 c.requires.searching.0 c.requires.searching.1 c.list_next-listed.ensures c.in_default.is c.next_list.ensures
+returns-in_default c = let p = c.requires.buffers in
+    list_ends p.0 p.1 p.2 c.requires.searching.0 c.requires.searching.1 c.list_next-listed.ensures c.in_default.is c.next_list.ensures
 
 pub returns-then-s-set : goal.returns-then-s-set
 returns-then-s-set c =
-    let p = c.requires.layout_of in
-    ends_spent p.0 p.1 p.2 p.3 c.requires.searching.0 c.requires.searching.1 c.list_next-listed.ensures c.in-Some.is c.if-s-set.true c.end.ensures
+    let p = c.requires.buffers in
+    ends_spent p.0 p.1 p.2 c.requires.searching.0 c.requires.searching.1 c.list_next-listed.ensures c.in-Some.is c.if-s-set.true c.end.ensures
 
 pub step_on-requires : goal.step_on-requires
 step_on-requires c =
-    let p = c.requires.layout_of in
-    let trial = next_trial p.0 p.1 p.2 p.3 c.requires.searching.0 c.requires.searching.1 c.list_next-listed.ensures c.in-Some.is c.if-s-set.false in
-    (p.0, p.1, p.4, p.5, trial)
+    let p = c.requires.buffers in
+    let trial = next_trial p.0 p.1 p.2 c.requires.searching.0 c.requires.searching.1 c.list_next-listed.ensures c.in-Some.is c.if-s-set.false in
+    (p.0, p.3, p.4, trial)

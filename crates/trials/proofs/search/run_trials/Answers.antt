@@ -5,14 +5,14 @@ use Rattle.search_steps.proofs.SetLaws.{sets_some}
 use Rattle.search_steps.proofs.SearchSteps.{is_on, is_off}
 use Rattle.trials.proofs.search.run_trials.Goals as goal
 
-pub loop-layout-init : goal.loop-layout-init
-loop-layout-init c = (c.begin-s.ensures _ _ (sets_some c.args.set), refl, refl)
+pub loop-day-init : goal.loop-day-init
+loop-day-init c = (c.begin-s.ensures _ _ (sets_some c.args.set), refl, refl)
 
 pub next_step-s-requires-clause-searching : goal.next_step-s-requires-clause-searching
-next_step-s-requires-clause-searching c = (c.loop-layout.invariant.0, is_on c.is_going.ensures c.loop-layout-test.true)
+next_step-s-requires-clause-searching c = (c.loop-day.invariant.0, is_on c.is_going.ensures c.loop-day-test.true)
 
-pub loop-layout-preserved : goal.loop-layout-preserved
-loop-layout-preserved c = (c.next_step-s.ensures.0, search rules, search rules)
+pub loop-day-preserved : goal.loop-day-preserved
+loop-day-preserved c = (c.next_step-s.ensures.0, search rules, search rules)
 
 pub returns : goal.returns
 returns c = search is_off

@@ -6,10 +6,10 @@ use Rattle.trials.proofs.search.step_on.Goals as goal
 
 pub try_next-tried-requires : goal.try_next-tried-requires
 try_next-tried-requires c = let p = c.requires in
-    let n = trial_names p.1 p.4 in
-    (p.0, p.1, n.small, n.known, some_made c.args.trial p.1 p.4, p.2, p.4.held.plan_at.fits)
+    let n = trial_names p.0 p.3 in
+    (p.0, n.small, n.known, some_made c.args.trial p.0 p.3, p.1, p.3.held.plan_at.fits)
 
 pub after_trial-requires : goal.after_trial-requires
 after_trial-requires c = let tried = c.try_next-tried in
     let p = c.requires in
-    (p.0, p.1, p.3, omega (arith, p.2, tried.auto.work), after_made c.args.trial p.1 p.4 _ tried.ensures)
+    (p.0, p.2, omega (arith, p.1, tried.auto.work), after_made c.args.trial p.0 p.3 _ tried.ensures)

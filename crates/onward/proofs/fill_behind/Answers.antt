@@ -1,10 +1,10 @@
--- `onward::fill_rows` meets its contract.
+-- `onward::fill_behind` meets its contract.
 use borrow.Author.Rules.{rules}
 use Prim.Native.Nat.{◌-◌, ◌≤◌}
 use mathlib.Core.Path.{◌∙◌}
 use native.Mathlib.Omega.{arith}
 use Rattle.onward.proofs.FillLaws.{filling_inside, filling_start, filling_writes, filling_next}
-use Rattle.onward.proofs.fill_rows.Goals as goal
+use Rattle.onward.proofs.fill_behind.Goals as goal
 
 pub put_row-requires : goal.put_row-requires
 put_row-requires c = let p = c.requires in omega (arith, p.0, p.2, (filling_inside p.1).1)

@@ -1,8 +1,8 @@
--- `trial_list::survey::survey_plan` meets its contract.
+-- `trial_list::survey::survey` meets its contract.
 use borrow.Author.Rules.{rules}
 use mathlib.Core.Path.{refl}
 use Rattle.trial_list.proofs.SurveyLaws.{all_zeros, surveys_start, surveys_round, surveys_less, surveys_next, surveys_end}
-use Rattle.trial_list.proofs.survey.survey_plan.Goals as goal
+use Rattle.trial_list.proofs.survey.survey.Goals as goal
 
 pub loop-starts-init : goal.loop-starts-init
 loop-starts-init c =

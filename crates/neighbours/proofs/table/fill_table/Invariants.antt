@@ -1,6 +1,6 @@
--- `neighbours::table::fill_rows` meets its contract.
+-- `neighbours::table::fill_table` meets its contract.
 use Rattle.neighbours.specs.Tables.{RowsTo}
-use Rattle.neighbours.proofs.table.fill_rows.Given as goal
+use Rattle.neighbours.proofs.table.fill_table.Given as goal
 
 abbrev pub invariant-loop-i : goal.invariant-loop-i
 invariant-loop-i l = RowsTo l.day l.k l.i l.table
