@@ -1,6 +1,6 @@
 -- A fresh vehicle's first task: where there is one the vehicle is written, where there is none it takes no stop.
 -- Assumes nothing.
-use Rattle.std.specs.Prelude.{Option, Some, None}
+use Rattle.std.specs.Prelude.{Some, None}
 use Prim.Native.Nat.{ℕ, ◌*◌, ◌<◌}
 use mathlib.Core.Path.{◌≡◌, refl, sym, ap, ◌∙◌}
 use mathlib.Core.Bool.{Bool, true, false}
@@ -19,7 +19,7 @@ use Rattle.rules.specs.Build.{Truck, fresh, resting, one_vehicle}
 use Rattle.rules.specs.declared.walk.Cargo.{Cargo}
 use Rattle.rules.specs.declared.walk.Trip.{Trip}
 use Rattle.marks.specs.declared.Marks.{Marks}
-use Rattle.plan_words.proofs.SaidLaws.{said_none, said_count}
+use Rattle.plan_words.proofs.SaidLaws.{said_none}
 use Rattle.plan_words.proofs.WordForms.{vehicle_made}
 use Rattle.greedy_laws.specs.Reached.{set_out}
 use Rattle.greedy_laws.proofs.Driving.{resting_cargo, end_none, reached_end}
@@ -28,7 +28,7 @@ use Rattle.greedy_laws.proofs.LeftOut.{idle_none}
 use Rattle.greedy_laws.proofs.NextTasks.{next_some}
 use Rattle.greedy_laws.proofs.VehicleStops.{rested_routes}
 use Rattle.next_task.specs.NextBy.{is_task}
-use Rattle.vehicle_writer.specs.Going.{LeftOf, IsReady, SetsOut, WordPut, RestSaid, StartSaid, Going, SomeGoing, SomeLeft, VehicleDone, EndsAll, VehicleWritten, WritesOne}
+use Rattle.vehicle_writer.specs.Going.{LeftOf, IsReady, SetsOut, WordPut, RestSaid, StartSaid, Going, SomeGoing, SomeLeft, EndsAll, WritesOne}
 use Rattle.vehicle_writer.specs.declared.state.Ready.{Ready}
 use Rattle.vehicle_writer.specs.declared.writer.Written.{Written}
 use Rattle.vehicle_writer.proofs.EndLaws.{home_none}
