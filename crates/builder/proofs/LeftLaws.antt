@@ -112,15 +112,15 @@ leaving_next {n} {what} {p} {part} {all} {at} {m} k word after g lowest few e sp
     ]
 
 -- no mark is left, and the words of all stops that remain are written
-leaving_end : (n : ℕ) (taken : List ℕ) (first : Marks) {what : List Word} {p part : List ℕ} {at : ℕ} {m : Marks} (k : ℕ)
+leaving_end : (n : ℕ) (taken : List ℕ) (first : Marks) {what : List Word} {p part : List ℕ} {at : ℕ} {m : Marks}
     → n < 256 → marked first.words ≡ unrouted n taken
-    → Leaving n what p (marked first.words) part at m → Lowest (marked m.words) 256 k → 256 ≤ k
+    → Leaving n what p (marked first.words) part at m → ((j : ℕ) → marked m.words j ≡ false)
     → Said (what ++ map left (remaining taken 1 n)) p part at
-leaving_end n taken first {what} {p} {part} {at} {m} k few e g lowest none =
+leaving_end n taken first {what} {p} {part} {at} {m} few e g none =
     said_same g.text (ap (λ (ks : List ℕ). what ++ map left ks) written) refl
   where
     done : listed (marked m.words) 1 n ≡ []
-    done = listed_none (marked m.words) 1 n (λ j l. lowest.below j (omega arith))
+    done = listed_none (marked m.words) 1 n (λ j l. none j)
 
     written : g.written ≡ remaining taken 1 n
     written =
@@ -130,33 +130,29 @@ leaving_end n taken first {what} {p} {part} {at} {m} k few e g lowest none =
         ∙ ap (λ (q : ℕ → Bool). listed q 1 n) e
         ∙ listed_unrouted n taken 1 n (omega arith) (omega arith)
 
--- a turn of the loop: part was old at first, first were the marks, and stop k is the lowest that is still marked, or 256
-pub record Turn (old : List ℕ) (from : ℕ) (first : Marks) (part : List ℕ) (m : Marks) (at k : ℕ) : Type 0 where
+-- a turn of the loop: part was old at first, and first were the marks
+pub record Turn (old : List ℕ) (from : ℕ) (first : Marks) (part : List ℕ) (m : Marks) (at : ℕ) : Type 0 where
   pub leaves : LeavesOn old from first part at m
-  pub lowest : Lowest (marked m.words) 256 k
   pub count : at + ones_of m.words ≡ from + ones_of first.words
   pub size : length part ≡ length old
   pub room : from + ones_of first.words ≤ length old
 
-pub turn_first : {part : List ℕ} {from : ℕ} (m : Marks) {k : ℕ} → from + ones_of m.words ≤ length part → Lowest (marked m.words) 256 k
-    → Turn part from m part m from k
-turn_first m room low = record { leaves = λ n taken what p few e s. leaving_none n taken e s; lowest = low; count = refl; size = refl; room = room }
+pub turn_first : {part : List ℕ} {from : ℕ} (m : Marks) → from + ones_of m.words ≤ length part → Turn part from m part m from
+turn_first m room = record { leaves = λ n taken what p few e s. leaving_none n taken e s; count = refl; size = refl; room = room }
 
-module _ {old : List ℕ} {from : ℕ} {first : Marks} {part : List ℕ} {m : Marks} {at k : ℕ} (t : Turn old from first part m at k) where
-  -- stop k is marked, so there is room for its word
-  module _ (few : k < 256) where
+module _ {old : List ℕ} {from : ℕ} {first : Marks} {part : List ℕ} {m : Marks} {at : ℕ} (t : Turn old from first part m at) where
+  -- stop k is the lowest that is still marked, so there is room for its word
+  module _ {k : ℕ} (low : (k < 256) × Lowest (marked m.words) 256 k) where
     pub turn_marked : marked m.words k ≡ true
-    turn_marked = t.lowest.is_marked few
+    turn_marked = low.1.is_marked low.0
 
     pub turn_space : at < length part
     turn_space = omega (arith, t.size, t.count, t.room, (unmark_words m.words k turn_marked).count)
 
-    pub turn_next : {word next : ℕ} (after : Marks) → word ≡ left_word k → Unmarked m.words k after.words → Lowest (marked after.words) 256 next
-        → Turn old from first (set part at word) after (at + 1) next
-    turn_next {word} after e u low =
+    pub turn_next : {word : ℕ} (after : Marks) → word ≡ left_word k → Unmarked m.words k after.words → Turn old from first (set part at word) after (at + 1)
+    turn_next {word} after e u =
         record {
-          leaves = λ n taken what p h q s. leaving_next k word after (t.leaves n taken what p h q s) t.lowest few e turn_space u;
-          lowest = low;
+          leaves = λ n taken what p h q s. leaving_next k word after (t.leaves n taken what p h q s) low.1 low.0 e turn_space u;
           count = omega (arith, t.count, u.count);
           size = length-set part at word ∙ t.size;
           room = t.room;
@@ -166,5 +162,5 @@ module _ {old : List ℕ} {from : ℕ} {first : Marks} {part : List ℕ} {m : Ma
   pub turn_count : at ≤ from + ones_of first.words
   turn_count = omega (arith, t.count)
 
-  pub turn_last : 256 ≤ k → LeavesAll old from first part at
-  turn_last none = λ n taken what p few e s. leaving_end n taken first k few e (t.leaves n taken what p few e s) t.lowest none
+  pub turn_last : ((j : ℕ) → marked m.words j ≡ false) → LeavesAll old from first part at
+  turn_last none = λ n taken what p few e s. leaving_end n taken first few e (t.leaves n taken what p few e s) none

@@ -4,6 +4,7 @@ ghost use Rattle.rules.specs.Fields.{stops};
 ghost use Rattle.builder.specs.Fleet.{AllWritten};
 
 use day::days::Day;
+use marks::Marks;
 use vehicle_writer::writer::{Written, write_vehicle};
 
 // The words of all vehicles: the stops still to be routed then, and how many words there are.
@@ -11,7 +12,7 @@ pub(crate) fn write_vehicles(day: &Day, plan: &mut [u32]) -> Written
     requires { (stops day.now ≤ 240) × (5 * stops day.now ≤ length plan.old) }
     ensures { AllWritten day.now plan.old plan.new result.left result.words }
 {
-    let mut left = marks::all_to(day.stops());
+    let mut left = Marks::all_to(day.stops());
     let mut words = 0;
     let mut number = 0;
     while let Some(written) = write_vehicle(day, left, number + 1, &mut plan[words..]) {

@@ -43,7 +43,7 @@ pub fn build_accepted(day: &Day, plan: &mut [u32]) -> PlanAnswer
             distance,
             trials: 0,
             settled: false,
-            left_out: marks::remaining(written.left) as usize,
+            left_out: written.left.remaining() as usize,
             words: written.words,
         },
         Answer::Refused { number, place } => PlanAnswer::Refused { number, place },

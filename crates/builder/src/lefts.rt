@@ -3,7 +3,7 @@ ghost use Rattle.std.specs.Prelude.{◌≡◌, ◌++◌, ◌+◌, ◌-◌, ◌�
 ghost use Rattle.laws.specs.Marks.{ones_of};
 ghost use Rattle.builder.specs.Lefts.{LeavesAll};
 
-use marks::{Marks, lowest, unmark};
+use marks::Marks;
 use plan_words::left_word;
 
 // The F words of the stops still to be routed, rising, from place `from` on; how many words there are then.
@@ -14,11 +14,9 @@ pub(crate) fn write_lefts(left: Marks, part: &mut [u32], from: usize) -> usize
 {
     let mut others = left;
     let mut at = from;
-    let mut stop = lowest(others);
-    while stop < 256 {
+    while let Some(stop) = others.lowest() {
         part[at] = left_word(stop);
-        others = unmark(others, stop);
-        stop = lowest(others);
+        others = others.unmark(stop);
         at += 1;
     }
     at

@@ -71,36 +71,6 @@ impl Marks {
     }
 }
 
-// The set without k, which was in it. It stands until its callers use the method.
-pub fn unmark(m: Marks, k: usize) -> Marks
-    requires { marked m.words k ≡ true }
-    ensures { Unmarked m.words k result.words }
-{
-    m.unmark(k)
-}
-
-// The numbers 1 to n. It stands until its callers use the method.
-pub fn all_to(n: usize) -> Marks
-    requires { n < 256 }
-    ensures { (marked result.words ≡ up_to n) × (ones_of result.words ≡ n) }
-{
-    Marks::all_to(n)
-}
-
-// How many numbers are marked. It stands until its callers use the method.
-pub fn remaining(m: Marks) -> u32
-    ensures { result ≡ ones_of m.words }
-{
-    m.remaining()
-}
-
-// The lowest marked number, and 256 where none is marked. It stands until its callers use the method.
-pub fn lowest(m: Marks) -> usize
-    ensures { Lowest (marked m.words) 256 result }
-{
-    m.lowest().unwrap_or(256)
-}
-
 // The lowest set bit of a word that has one.
 pub fn lowest_bit(w: u64) -> usize
     requires { 0 < w }

@@ -11,7 +11,7 @@ ghost use Rattle.vehicle_writer.specs.Done.{SmallState, Doable, Fits, next_said,
 ghost use Rattle.vehicle_writer.specs.Going.{SetsOut};
 
 use day::days::Day;
-use marks::{Marks, unmark};
+use marks::Marks;
 use next_task::tasks::{Next, next_task};
 use plan_words::{BACK, stop_word, tip_word};
 use rules::walk::{Cargo, Trip};
@@ -45,7 +45,7 @@ fn serve_stop(day: &Day, state: State, stop: usize) -> State
     State {
         trip: after_stop(day, state.trip, stop),
         cargo: load_on(state.cargo, day.stop_quantity(stop)),
-        left: unmark(state.left, stop),
+        left: state.left.unmark(stop),
     }
 }
 
