@@ -1,5 +1,5 @@
 -- One vehicle of the plan that a trial gives: where its words stand, what it becomes and that there is room for it. Assumes nothing.
-use Rattle.std.specs.Prelude.{if◌then◌else◌}
+use Rattle.std.specs.Prelude.{Option, if◌then◌else◌}
 use Prim.Native.Nat.{ℕ, ◌+◌, ◌-◌, ◌*◌, ◌≤◌, ◌<◌}
 use mathlib.Core.Path.{◌≡◌, sym, ap, ◌∙◌}
 use mathlib.Core.Bool.{Bool, ◌||◌}
@@ -17,7 +17,6 @@ use Rattle.laws.proofs.Lists.{every_at}
 use Rattle.day.proofs.Ranges.{accepted_ranges}
 use Rattle.plan_laws.proofs.Theorems.{round_length}
 use Rattle.greedy_laws.specs.Rooms.{Room}
-use Rattle.walks.specs.declared.vehicle.Walked.{Walked}
 use Rattle.trial_list.specs.Survey.{VehicleIn}
 use Rattle.trial_list.proofs.LaidLaws.{vehicle_in, round_are}
 use Rattle.trial_list.proofs.Shapes.{each_vehicle, shaped_few, shaped_length, shaped_stops}
@@ -76,7 +75,7 @@ module _ {day plan starts : List ℕ} {m : Trial} {rounds : List Round} (t : Try
         more = omega (arith, h, busy);
       }
 
-  pub round_retried : {touched : Bool} {part now : List ℕ} {r : Walked} → touched ≡ touches m (v + 1)
+  pub round_retried : {touched : Bool} {part now : List ℕ} {r : Option ℕ} → touched ≡ touches m (v + 1)
       → RoundAs (v + 1) (if touched then walked_again day (changed m.edit 0 tasks) else some tasks) part now r
       → RoundAs (v + 1) (retried day m (v + 1) tasks) part now r
   unfolding retried

@@ -1,7 +1,7 @@
 -- The vehicles of the plan that a trial gives, written one behind the other, and the stops left out behind them. Assumes nothing.
+use Rattle.std.specs.Prelude.{Some, None}
 use Prim.Native.Nat.{ℕ, suc, ◌+◌, ◌-◌, ◌*◌, ◌≤◌, ◌<◌}
 use mathlib.Core.Path.{◌≡◌, refl, sym, ap, ◌∙◌, subst}
-use mathlib.Core.Bool.{true, false, true≢false}
 use mathlib.Core.List.{List, [], ◌∷◌, ◌++◌, map}
 use native.Mathlib.Omega.{arith}
 use lib.ListN.{length, length-append, length-map, length-drop, get_or, take, drop, take-append-drop}
@@ -21,11 +21,10 @@ use Rattle.greedy_laws.proofs.GreedyForm.{greedy_named}
 use Rattle.greedy_laws.specs.Rooms.{Room}
 use Rattle.greedy_laws.proofs.GreedyRoom.{rounds_words_lem, plan_length}
 use Rattle.edits.proofs.EditLaws.{renamed}
-use Rattle.walks.specs.declared.vehicle.Walked.{Walked}
 use Rattle.trial_list.specs.Shapes.{EachFrom}
 use Rattle.trial_list.proofs.LaidLaws.{rounds_more}
 use Rattle.trial_list.proofs.Shapes.{each_front}
-use Rattle.candidates.specs.Candidates.{RoundDone, RoundAs, Trying, Written, RoundsAs, CandidateAs}
+use Rattle.candidates.specs.Candidates.{RoundAs, Trying, Written, RoundsAs, CandidateAs}
 use Rattle.candidates.proofs.RoundLists.{front_length, stops_parts, tried_more, tried_fails}
 use Rattle.candidates.proofs.Remade.{Suited, valid_suits, AllRemade, tried_remade}
 
@@ -82,36 +81,32 @@ module _ {day plan starts : List ℕ} {m : Trial} {rounds : List Round} {p part 
     pub next_room : 5 * stops day ≤ length p → 5 * length (stops_on (get_or rounds v [])) ≤ length (take (length part - at) (drop at part))
     next_room h = omega (arith, room_left, rest_stops, w.text.size, ap length (rest_whole part at), length-drop at part)
 
-    pub written_next : {e : List ℕ} {r : Walked} → RoundDone (v + 1) (retried day m (v + 1) (get_or rounds v [])) (take (length part - at) (drop at part)) e r
-        → Written day m rounds p (put_mid at (length part - at) part e) (v + 1) (at + r.words)
-    written_next {e} {r} d =
+    pub written_next : {e : List ℕ} {words : ℕ} → RoundAs (v + 1) (retried day m (v + 1) (get_or rounds v [])) (take (length part - at) (drop at part)) e (Some words)
+        → Written day m rounds p (put_mid at (length part - at) part e) (v + 1) (at + words)
+    written_next {e} {words} a =
+        let d = a.written in
         let n : length w.done + 1 ≡ v + 1 = omega (arith, front_remade.vehicles, front_length rounds v l) in
         record {
           done = w.done ++ (d.done ∷ []);
           is = tried_more day m rounds v l w.done d.done w.is d.is;
           text =
-              wrote_same (wrote_lend w.text (round_words (v + 1) d.done) e r.words d.text.count d.text.text d.text.size)
+              wrote_same (wrote_lend w.text (round_words (v + 1) d.done) e words d.text.count d.text.text d.text.size)
               (sym (rounds_more w.done d.done ∙ ap (λ (k : ℕ). rounds_words 0 w.done ++ round_words k d.done) n)) refl;
         }
 
-    pub written_fails : {e : List ℕ} {r : Walked} (count : ℕ) → RoundAs (v + 1) (retried day m (v + 1) (get_or rounds v [])) (take (length part - at) (drop at part)) e r → r.stuck ≡ true
-        → RoundsAs day m rounds p (put_mid at (length part - at) part e) count r
-    written_fails {e} count a g =
-        record {
-          size = same_len_mid at (length part - at) part e a.size ∙ w.text.size;
-          failed = λ _. tried_fails day m rounds v l (a.failed g);
-          written = λ n. absurd (true≢false (sym g ∙ n));
-        }
+    pub written_fails : {e : List ℕ} (count : ℕ) → RoundAs (v + 1) (retried day m (v + 1) (get_or rounds v [])) (take (length part - at) (drop at part)) e None
+        → RoundsAs day m rounds p (put_mid at (length part - at) part e) count None
+    written_fails {e} count a = record { size = same_len_mid at (length part - at) part e a.size ∙ w.text.size; written = tried_fails day m rounds v l a.written }
 
-  -- all vehicles
-  pub written_end : (count : ℕ) (r : Walked) → v ≤ count → count ≤ v → r.stuck ≡ false → r.words ≡ at → RoundsAs day m rounds p part count r
-  written_end count r h k g n =
-      let e : v ≡ count = omega arith in
-      record {
-        size = w.text.size;
-        failed = λ y. absurd (true≢false (sym y ∙ g));
-        written = λ _. subst (λ (x : ℕ). Written day m rounds p part x r.words) e (record { done = w.done; is = w.is; text = wrote_same w.text refl (sym n) });
-      }
+-- all vehicles
+pub written_end : {day : List ℕ} {m : Trial} {rounds : List Round} {p part : List ℕ} {v count at : ℕ} → Written day m rounds p part v at → v ≤ count → count ≤ v
+    → RoundsAs day m rounds p part count (Some at)
+written_end {v = v} {count = count} w h k = let e : count ≡ v = omega arith in rw e (record { size = w.text.size; written = w })
+
+-- the trial has failed on one of them
+pub candidate_fails : {day : List ℕ} {m : Trial} {rounds : List Round} {p part : List ℕ} {count : ℕ} → RoundsAs day m rounds p part count None
+    → CandidateAs day m rounds p part None
+candidate_fails a = record { size = a.size; written = a.written }
 
 -- the stops left out stand behind the vehicles
 module _ {day plan starts : List ℕ} {m : Trial} {rounds : List Round} {count : ℕ} (t : Trying day plan starts m rounds) (counted : count ≡ length rounds) where
@@ -127,42 +122,36 @@ module _ {day plan starts : List ℕ} {m : Trial} {rounds : List Round} {count :
       rest_whole plan (get_or starts count 0) ∙ ap (drop (get_or starts count 0)) t.laid.text
       ∙ drop_at (rounds_words 0 rounds) (map left_word (greedy_lefts day)) (get_or starts count 0) (sym ends_at)
 
-  pub lefts_long : length plan - get_or starts count 0 ≡ length (greedy_lefts day)
-  lefts_long = omega (arith, ends_at, ap length t.laid.text, plan_length rounds (greedy_lefts day))
+  pub lefts_count : length (take (length plan - get_or starts count 0) (drop (get_or starts count 0) plan)) ≡ length (greedy_lefts day)
+  lefts_count = ap length lefts_are ∙ length-map (greedy_lefts day) left_word
 
   pub lefts_room : {p part : List ℕ} {at : ℕ} → Written day m rounds p part count at → 5 * stops day ≤ length p
       → length (take (length plan - get_or starts count 0) (drop (get_or starts count 0) plan)) ≤ length (take (length part - at) (drop at part))
   lefts_room {part = part} {at = at} w h =
       omega (
         arith,
-        ap length lefts_are,
-        length-map (greedy_lefts day) left_word,
+        lefts_count,
         room_left t w,
         w.text.size,
         ap length (rest_whole part at),
         length-drop at part,
       )
 
-  pub candidate_fails : {p part : List ℕ} {r : Walked} → RoundsAs day m rounds p part count r → r.stuck ≡ true → CandidateAs day m rounds p part r
-  candidate_fails a g = record { size = a.size; failed = a.failed; written = λ n. absurd (true≢false (sym g ∙ n)) }
-
-  pub candidate_ends : {p part e : List ℕ} {at : ℕ} (r : Walked) → Written day m rounds p part count at
+  pub candidate_ends : {p part e : List ℕ} {at : ℕ} → Written day m rounds p part count at
       → Wrote (take (length plan - get_or starts count 0) (drop (get_or starts count 0) plan)) (take (length part - at) (drop at part)) e
       (length (take (length plan - get_or starts count 0) (drop (get_or starts count 0) plan)))
-      → r.stuck ≡ false → r.words ≡ at + (length plan - get_or starts count 0) → CandidateAs day m rounds p (put_mid at (length part - at) part e) r
+      → CandidateAs day m rounds p (put_mid at (length part - at) part e) (Some (at + length (take (length plan - get_or starts count 0) (drop (get_or starts count 0) plan))))
   unfolding plan_words
-  candidate_ends {p} {part} {e} {at} r w c g n =
+  candidate_ends {p} {part} {e} {at} w c =
       let lefts = take (length plan - get_or starts count 0) (drop (get_or starts count 0) plan) in
       let all : take count rounds ≡ rounds = take_all count rounds (omega (arith, counted)) in
-      let size : at + length lefts ≡ r.words = omega (arith, n, ap length lefts_are, length-map (greedy_lefts day) left_word, lefts_long) in
       let written : Wrote (rounds_words 0 w.done ++ lefts) p (put_mid at (length part - at) part e) (at + length lefts) =
       wrote_lend w.text lefts e (length lefts) refl c.text c.size in
       record {
         size = written.size;
-        failed = λ y. absurd (true≢false (sym y ∙ g));
-        written = λ _. record {
+        written = record {
           q = w.done;
           is = ap (tried_from day m 0) (sym all) ∙ w.is;
-          text = wrote_same written (ap (λ (ws : List ℕ). rounds_words 0 w.done ++ ws) lefts_are) size;
+          text = wrote_same written (ap (λ (ws : List ℕ). rounds_words 0 w.done ++ ws) lefts_are) refl;
         };
       }

@@ -1,14 +1,14 @@
 -- The plan that a trial gives while it is written, as the code has it. It serves the contracts of the functions that make trials.
 -- Assumes nothing.
-use Rattle.std.specs.Prelude.{ℕ, ◌+◌, ◌*◌, ◌≤◌, ◌<◌, ◌≡◌, Bool, true, false, List, [], length, get_or, take}
+use Rattle.std.specs.Prelude as Code
+use Rattle.std.specs.Prelude.{ℕ, ◌+◌, ◌*◌, ◌≤◌, ◌<◌, ◌≡◌, Bool, true, List, [], length, get_or, take, if◌then◌else◌}
 use Rattle.std.proofs.Math.Option.{Option, none, some}
 use Rattle.rules.specs.Lists.{Every}
 use Rattle.rules.specs.Plan.{Round, round_words, rounds_words, plan_words, stops_on, Known}
 use Rattle.rules.specs.Build.{greedy_lefts}
 use Rattle.rules.specs.Edits.{Edit, Trial, changed}
-use Rattle.rules.specs.Attempts.{retried, tried_from, tried}
+use Rattle.rules.specs.Attempts.{walked_again, retried, tried_from, tried}
 use Rattle.laws.specs.Buffer.{Wrote}
-use Rattle.walks.specs.declared.vehicle.Walked.{Walked}
 use Rattle.trial_list.specs.Shapes.{Shaped, Valid}
 use Rattle.trial_list.specs.Survey.{Laid, VehicleIn}
 
@@ -27,16 +27,26 @@ pub record SomeRoundable (day : List ℕ) (e : Edit) (touched : Bool) (number : 
   pub roundable : Roundable day e touched number words part tasks
   pub ends : 2 ≤ length words
 
--- a vehicle of the candidate: the trial has failed on it, or its words stand at the front of the part
-pub record RoundDone (number : ℕ) (o : Option Round) (p part : List ℕ) (r : Walked) : Type 0 where
+-- a vehicle of the candidate: its words stand at the front of the part
+pub record RoundDone (number : ℕ) (o : Option Round) (p part : List ℕ) (words : ℕ) : Type 0 where
   pub done : Round
   pub is : o ≡ some done
-  pub text : Wrote (round_words number done) p part r.words
+  pub text : Wrote (round_words number done) p part words
 
-pub record RoundAs (number : ℕ) (o : Option Round) (p part : List ℕ) (r : Walked) : Type 0 where
+-- or the trial has failed on it
+abbrev pub RoundBy : ℕ → Option Round → List ℕ → List ℕ → Code.Option ℕ → Type 0
+RoundBy number o p part Code.None = o ≡ none
+RoundBy number o p part (Code.Some words) = RoundDone number o p part words
+
+pub record RoundAs (number : ℕ) (o : Option Round) (p part : List ℕ) (words : Code.Option ℕ) : Type 0 where
   pub size : length part ≡ length p
-  pub failed : r.stuck ≡ true → o ≡ none
-  pub written : r.stuck ≡ false → RoundDone number o p part r
+  pub written : RoundBy number o p part words
+
+-- so a vehicle is written, walked again where it is touched, whatever tasks have these words
+abbrev pub WritesRound : List ℕ → Edit → Bool → ℕ → List ℕ → List ℕ → List ℕ → Code.Option ℕ → Type 0
+WritesRound day e touched number words part now r =
+    (tasks : Round) → Roundable day e touched number words part tasks
+    → RoundAs number (if touched then walked_again day (changed e 0 tasks) else some tasks) part now r
 
 -- the plan held, its words, where its vehicles start, and a trial of it that may be made
 pub record Trying (day plan starts : List ℕ) (m : Trial) (rounds : List Round) : Type 0 where
@@ -61,7 +71,7 @@ pub record SomeNext (day plan starts : List ℕ) (m : Trial) (v : ℕ) (part : L
   pub room : 5 * length (stops_on (get_or rounds v [])) ≤ length part
 
 -- so vehicle v is written, whatever vehicles have these words
-abbrev pub WritesNext : List ℕ → List ℕ → List ℕ → Trial → ℕ → List ℕ → List ℕ → Walked → Type 0
+abbrev pub WritesNext : List ℕ → List ℕ → List ℕ → Trial → ℕ → List ℕ → List ℕ → Code.Option ℕ → Type 0
 WritesNext day plan starts m v part now r =
     (rounds : List Round) → Trying day plan starts m rounds → v < length rounds → 5 * length (stops_on (get_or rounds v [])) ≤ length part
     → RoundAs (v + 1) (retried day m (v + 1) (get_or rounds v [])) part now r
@@ -73,18 +83,35 @@ pub record Written (day : List ℕ) (m : Trial) (rounds : List Round) (p part : 
   pub text : Wrote (rounds_words 0 done) p part at
 
 -- they all are, or the trial has failed
-pub record RoundsAs (day : List ℕ) (m : Trial) (rounds : List Round) (p part : List ℕ) (count : ℕ) (r : Walked) : Type 0 where
-  pub size : length part ≡ length p
-  pub failed : r.stuck ≡ true → tried day rounds m ≡ none
-  pub written : r.stuck ≡ false → Written day m rounds p part count r.words
+abbrev pub RoundsBy : List ℕ → Trial → List Round → List ℕ → List ℕ → ℕ → Code.Option ℕ → Type 0
+RoundsBy day m rounds p part count Code.None = tried day rounds m ≡ none
+RoundsBy day m rounds p part count (Code.Some words) = Written day m rounds p part count words
 
--- the candidate: the plan's words stand at the front of the part, or the trial has failed
+pub record RoundsAs (day : List ℕ) (m : Trial) (rounds : List Round) (p part : List ℕ) (count : ℕ) (words : Code.Option ℕ) : Type 0 where
+  pub size : length part ≡ length p
+  pub written : RoundsBy day m rounds p part count words
+
+-- whatever vehicles have these words
+abbrev pub WritesRounds : List ℕ → List ℕ → List ℕ → Trial → ℕ → List ℕ → List ℕ → Code.Option ℕ → Type 0
+WritesRounds day plan starts m count p part r =
+    (rounds : List Round) → Trying day plan starts m rounds → count ≡ length rounds → RoundsAs day m rounds p part count r
+
+-- the candidate: the plan's words stand at the front of the part
 pub record Candidate (day : List ℕ) (m : Trial) (rounds : List Round) (p part : List ℕ) (words : ℕ) : Type 0 where
   pub q : List Round
   pub is : tried day rounds m ≡ some q
   pub text : Wrote (plan_words q (greedy_lefts day)) p part words
 
-pub record CandidateAs (day : List ℕ) (m : Trial) (rounds : List Round) (p part : List ℕ) (r : Walked) : Type 0 where
+-- or the trial has failed
+abbrev pub CandidateBy : List ℕ → Trial → List Round → List ℕ → List ℕ → Code.Option ℕ → Type 0
+CandidateBy day m rounds p part Code.None = tried day rounds m ≡ none
+CandidateBy day m rounds p part (Code.Some words) = Candidate day m rounds p part words
+
+pub record CandidateAs (day : List ℕ) (m : Trial) (rounds : List Round) (p part : List ℕ) (words : Code.Option ℕ) : Type 0 where
   pub size : length part ≡ length p
-  pub failed : r.stuck ≡ true → tried day rounds m ≡ none
-  pub written : r.stuck ≡ false → Candidate day m rounds p part r.words
+  pub written : CandidateBy day m rounds p part words
+
+-- whatever vehicles have these words
+abbrev pub WritesCandidate : List ℕ → List ℕ → List ℕ → Trial → ℕ → List ℕ → List ℕ → Code.Option ℕ → Type 0
+WritesCandidate day plan starts m count p part r =
+    (rounds : List Round) → Trying day plan starts m rounds → count ≡ length rounds → CandidateAs day m rounds p part r

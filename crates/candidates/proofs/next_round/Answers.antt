@@ -7,14 +7,15 @@ use Rattle.candidates.proofs.next_round.Goals as goal
 
 pub write_round-requires : goal.write_round-requires
 write_round-requires c =
-    let s = c.requires.4 in (
+    let s = c.requires.3 in (
       c.requires.0,
       c.requires.1,
       c.requires.2,
-      c.requires.3,
       omega (arith, s.vehicle.few),
-      some_roundable s c.requires.1 (is_touches _ _ c.is_touched-touched.ensures) refl,
+      some_roundable s c.requires.0 (is_touches _ _ c.is_touched-touched.ensures) refl,
     )
 
 pub returns : goal.returns
-returns c = λ rounds t l h. round_retried t l (is_touches _ _ c.is_touched-touched.ensures) (c.write_round.ensures _ (round_able t l c.requires.1 h (is_touches _ _ c.is_touched-touched.ensures) (round_are t.laid l)))
+returns c =
+    let touched = is_touches _ _ c.is_touched-touched.ensures in
+    λ rounds t l h. round_retried t l touched (c.write_round.ensures _ (round_able t l c.requires.0 h touched (round_are t.laid l)))
