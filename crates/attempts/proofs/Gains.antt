@@ -90,7 +90,10 @@ driven_two day a b from (tasks ∷ rounds) n = elim (known (eqb (suc from) a)) [
 driven_same : (day : List ℕ) (a from : ℕ) (rounds : List Round) → driven_by day (λ k. eqb k a || eqb k a) from rounds ≡ driven_by day (λ k. eqb k a) from rounds
 unfolding driven_by
 driven_same day a from [] = refl
-driven_same day a from (tasks ∷ rounds) = elim (known (eqb (suc from) a)) [ inl y ↦ rw y (omega (arith, driven_same day a (suc from) rounds)) | inr z ↦ rw z (omega (arith, driven_same day a (suc from) rounds)) ]
+driven_same day a from (tasks ∷ rounds) = elim (known (eqb (suc from) a)) [
+  | inl y ↦ rw y (omega (arith, driven_same day a (suc from) rounds))
+  | inr z ↦ rw z (omega (arith, driven_same day a (suc from) rounds))
+]
 
 -- of a plan's vehicles, one or two are touched
 module _ (day : List ℕ) (m : Trial) (rounds : List Round) where

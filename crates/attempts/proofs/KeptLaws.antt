@@ -1,6 +1,6 @@
 -- A trial's plan is kept where the check calls it lawful and it drives less. Assumes nothing.
 use Rattle.std.specs.Prelude.{if◌then◌else◌, Option, Some, None}
-use Prim.Native.Nat.{ℕ, ◌-◌, ◌≤◌, ◌<◌}
+use Prim.Native.Nat.{ℕ, ◌≤◌, ◌<◌}
 use mathlib.Core.Path.{◌≡◌, refl, sym, ap, ◌∙◌, subst}
 use mathlib.Core.Bool.{Bool, true, false, ◌&&◌}
 use mathlib.Core.List.{List, [], ◌∷◌}
@@ -24,11 +24,9 @@ use Rattle.laws.proofs.Buffer.{over_front}
 use Rattle.laws.proofs.Decided.{known}
 use Rattle.day.proofs.Ranges.{accepted_ranges}
 use Rattle.plan_laws.proofs.Theorems.{told_totals}
-use Rattle.walks.specs.declared.vehicle.Walked.{Walked}
 use Rattle.trial_list.specs.Shapes.{Shaped}
 use Rattle.trial_list.proofs.Shapes.{shaped_formed}
-use Rattle.candidates.specs.Candidates.{Trying, SomeTrying, Candidate, CandidateAs}
-use Rattle.candidates.proofs.CopyLaws.{front_part}
+use Rattle.candidates.specs.Candidates.{SomeTrying, Candidate, WritesCandidate}
 use Rattle.candidates.proofs.NextRounds.{few_vehicles}
 use Rattle.candidates.proofs.ShapeKept.{valid_shaped}
 use Rattle.candidates.proofs.WrittenLaws.{ends_inside}
@@ -104,21 +102,15 @@ words_fit : {ws p part : List ℕ} {n : ℕ} → Wrote ws p part n → n ≤ len
 unfolding over
 words_fit {ws} {p} w = omega (arith, w.count, ap length w.text, length-append ws (drop (length ws) p))
 
--- the candidate, whatever vehicles have these words
-abbrev pub WritesAll : (day plan starts : List ℕ) (m : Trial) (count : ℕ) (p part : List ℕ) (c : Walked) → Type 0
-WritesAll day plan starts m count p part c = (rounds : List Round) → Trying day plan starts m rounds → count ≡ length rounds → CandidateAs day m rounds p part c
-
-pub candidate_fits : {day plan : List ℕ} {tables : Tables} {m : Trial} {count distance : ℕ} {p part : List ℕ} {c : Walked}
-    → SomeMade day plan tables m count distance → WritesAll day plan tables.starts m count p part c → c.stuck ≡ false → c.words ≤ length part
-candidate_fits s f g = words_fit ((f s.rounds s.made.measured.trying s.made.counted).written g).text
+pub candidate_fits : {day plan : List ℕ} {tables : Tables} {m : Trial} {count distance : ℕ} {p part : List ℕ} {words : ℕ}
+    → SomeMade day plan tables m count distance → WritesCandidate day plan tables.starts m count p part (Some words) → words ≤ length part
+candidate_fits s f = words_fit (f s.rounds s.made.measured.trying s.made.counted).written.text
 
 -- what the trial comes to
 module _ {day plan : List ℕ} {tables : Tables} {m : Trial} {count distance : ℕ} {rounds : List Round}
     (h : Made day plan tables m count distance rounds) where
-  pub tried_stuck : {p part : List ℕ} {c : Walked} → WritesAll day plan tables.starts m count p part c → c.stuck ≡ true → attempt day (greedy_lefts day) rounds m ≡ none
-  tried_stuck f g =
-      let a = f rounds h.measured.trying h.counted in
-      attempt_failed day (greedy_lefts day) rounds m (a.failed g)
+  pub made_fails : {p part : List ℕ} → WritesCandidate day plan tables.starts m count p part None → attempt day (greedy_lefts day) rounds m ≡ none
+  made_fails f = attempt_failed day (greedy_lefts day) rounds m (f rounds h.measured.trying h.counted).written
 
 module _ {day plan : List ℕ} {tables : Tables} {m : Trial} {count distance : ℕ} {rounds : List Round} (ok : IsAccepted day)
     (h : Made day plan tables m count distance rounds) where
@@ -135,23 +127,20 @@ module _ {day plan : List ℕ} {tables : Tables} {m : Trial} {count distance : �
       }
 
   -- by what the check says of the candidate
-  module _ {p part : List ℕ} {c : Walked} (f : WritesAll day plan tables.starts m count p part c) (g : c.stuck ≡ false) where
+  module _ {p part : List ℕ} {n : ℕ} (f : WritesCandidate day plan tables.starts m count p part (Some n)) where
     abbrev words : List ℕ
-    words = take (c.words - 0) (drop 0 part)
+    words = take n part
 
-    front : words ≡ take c.words part
-    front = front_part c.words part
-
-    candidate : Candidate day m rounds p part c.words
-    candidate = (f rounds h.measured.trying h.counted).written g
+    candidate : Candidate day m rounds p part n
+    candidate = (f rounds h.measured.trying h.counted).written
 
     shaped : Shaped day candidate.q
     shaped = valid_shaped day rounds candidate.q m h.measured.trying.shaped h.measured.trying.valid candidate.is
 
     text : words ≡ plan_words candidate.q (greedy_lefts day)
-    text = front ∙ ap (take c.words) candidate.text.text ∙ over_front (plan_words candidate.q (greedy_lefts day)) _ c.words (sym candidate.text.count)
+    text = ap (take n) candidate.text.text ∙ over_front (plan_words candidate.q (greedy_lefts day)) _ n (sym candidate.text.count)
 
-    size : length words ≡ c.words
+    size : length words ≡ n
     size = ap length text ∙ sym candidate.text.count
 
     pub tried_judged : (r : Option Held) → Judged day words distance r → TriedAs day m rounds part r
@@ -163,6 +152,6 @@ module _ {day plan : List ℕ} {tables : Tables} {m : Trial} {count distance : �
           q = candidate.q;
           is = attempt_kept_is day m rounds ok shaped candidate.is lawful (omega (arith, h.drives, j.shorter));
           fits = omega (arith, j.words, size, words_fit candidate.text);
-          text = ap (λ (k : ℕ). take k part) (j.words ∙ size) ∙ sym front ∙ text;
+          text = ap (λ (k : ℕ). take k part) (j.words ∙ size) ∙ text;
           distance = lawful_distance day ok candidate.q shaped lawful;
         }

@@ -1,4 +1,5 @@
 -- A trial whose touched vehicles drive no less than before gives no lawful, shorter plan. Assumes nothing.
+use Rattle.std.specs.Prelude.{Some, None}
 use Prim.Native.Nat.{ℕ, ◌+◌, ◌-◌, ◌≤◌, ◌<◌}
 use mathlib.Core.Path.{◌≡◌, refl, sym, ap, ◌∙◌}
 use mathlib.Core.Bool.{true, false}
@@ -17,11 +18,10 @@ use Rattle.rules.specs.Edits.{Trial, touches, changed}
 use Rattle.rules.specs.Attempts.{walked_again, retried, tried, distance_of, kept_if, attempt}
 use Rattle.laws.proofs.Decided.{known, known_option}
 use Rattle.day.proofs.Ranges.{accepted_ranges}
-use Rattle.walks.specs.Rewalks.{AgainAs}
-use Rattle.walks.specs.declared.vehicle.Walked.{Walked}
 use Rattle.trial_list.specs.Shapes.{Valid, moved_before, moved_after, swapped, removed, replaced}
 use Rattle.candidates.proofs.NextRounds.{few_vehicles, plan_short, vehicle_stands}
 use Rattle.candidates.proofs.RoundLists.{tried_fails}
+use Rattle.tracks.specs.Measure.{DrivesAgain}
 use Rattle.tracks.specs.declared.plan_tables.Tables.{Tables}
 use Rattle.attempts.specs.Tries.{Numbers, SomeTouched, Retries, Measured, SomeMeasured, SomeMade}
 use Rattle.attempts.proofs.Gains.{gain, tried_at, driven_one, driven_pair, tried_length}
@@ -58,18 +58,17 @@ unfolding touches
 touches_other m n e = elim (known (eqb n m.one)) [ inl y ↦ rw y refl | inr z ↦ rw (z, eq-eqb n m.other e) refl ]
 
 -- a touched vehicle in the plan that a trial gives
-module _ (day : List ℕ) (m : Trial) (rounds : List Round) (v : ℕ) {r : Walked} (l : v < length rounds) (y : touches m (v + 1) ≡ true)
-    (w : AgainAs day (changed m.edit 0 (get_or rounds v [])) r) where
+module _ (day : List ℕ) (m : Trial) (rounds : List Round) (v : ℕ) (l : v < length rounds) (y : touches m (v + 1) ≡ true) where
   again_is : retried day m (v + 1) (get_or rounds v []) ≡ walked_again day (changed m.edit 0 (get_or rounds v []))
   unfolding retried
   again_is = rw y refl
 
-  pub retry_fails : r.stuck ≡ true → tried day rounds m ≡ none
-  retry_fails g = tried_fails day m rounds v l (again_is ∙ w.failed g)
+  pub retry_fails : DrivesAgain day (changed m.edit 0 (get_or rounds v [])) None → tried day rounds m ≡ none
+  retry_fails w = tried_fails day m rounds v l (again_is ∙ w)
 
-  pub retry_drives : r.stuck ≡ false → (q : List Round) → tried day rounds m ≡ some q → r.distance ≡ distance_from day 0 (get_or q v [])
-  retry_drives g q e =
-      let a = w.again g in
+  pub retry_drives : {distance : ℕ} → DrivesAgain day (changed m.edit 0 (get_or rounds v [])) (Some distance) → (q : List Round) → tried day rounds m ≡ some q
+      → distance ≡ distance_from day 0 (get_or q v [])
+  retry_drives a q e =
       let same : a.done ≡ get_or q v [] = some-injective _ _ (sym a.is ∙ sym again_is ∙ tried_at day m 0 v (v + 1) rounds q e l (omega arith)) in
       a.drives ∙ ap (distance_from day 0) same
 
@@ -121,25 +120,25 @@ module _ {day plan : List ℕ} {tables : Tables} {m : Trial} {rounds : List Roun
   numbers : Numbers rounds m
   numbers = valid_numbers day rounds m h.trying.valid
 
-  failed_at : {v : ℕ} {r : Walked} → IsTouched rounds m v → Retries day plan tables m v r → r.stuck ≡ true → attempt day (greedy_lefts day) rounds m ≡ none
-  failed_at i f g =
-      attempt_failed day (greedy_lefts day) rounds m (retry_fails day m rounds _ i.inside i.touched (f rounds h.trying h.tracked i.inside i.touched) g)
+  failed_at : {v : ℕ} → IsTouched rounds m v → Retries day plan tables m v None → attempt day (greedy_lefts day) rounds m ≡ none
+  failed_at i f =
+      attempt_failed day (greedy_lefts day) rounds m (retry_fails day m rounds _ i.inside i.touched (f rounds h.trying h.tracked i.inside i.touched))
 
-  drives_at : {v : ℕ} {r : Walked} → IsTouched rounds m v → Retries day plan tables m v r → r.stuck ≡ false
-      → (q : List Round) → tried day rounds m ≡ some q → r.distance ≡ distance_from day 0 (get_or q v [])
-  drives_at i f g = retry_drives day m rounds _ i.inside i.touched (f rounds h.trying h.tracked i.inside i.touched) g
+  drives_at : {v distance : ℕ} → IsTouched rounds m v → Retries day plan tables m v (Some distance)
+      → (q : List Round) → tried day rounds m ≡ some q → distance ≡ distance_from day 0 (get_or q v [])
+  drives_at i f = retry_drives day m rounds _ i.inside i.touched (f rounds h.trying h.tracked i.inside i.touched)
 
   -- the trial fails on one of them
-  pub one_failed : {r : Walked} → Retries day plan tables m (m.one - 1) r → r.stuck ≡ true → attempt day (greedy_lefts day) rounds m ≡ none
+  pub one_failed : Retries day plan tables m (m.one - 1) None → attempt day (greedy_lefts day) rounds m ≡ none
   one_failed = failed_at (one_touched numbers)
 
-  pub other_failed : {r : Walked} → Retries day plan tables m (m.other - 1) r → r.stuck ≡ true → attempt day (greedy_lefts day) rounds m ≡ none
+  pub other_failed : Retries day plan tables m (m.other - 1) None → attempt day (greedy_lefts day) rounds m ≡ none
   other_failed = failed_at (other_touched numbers)
 
   -- one vehicle drives no less, or two do
-  pub one_longer : {r : Walked} → Retries day plan tables m (m.one - 1) r → r.stuck ≡ false → m.one ≡ m.other
-      → ltb r.distance (get_or tables.distances (m.one - 1) 0) ≡ false → attempt day (greedy_lefts day) rounds m ≡ none
-  one_longer {r} f g e d =
+  pub one_longer : {distance : ℕ} → Retries day plan tables m (m.one - 1) (Some distance) → m.one ≡ m.other
+      → ltb distance (get_or tables.distances (m.one - 1) 0) ≡ false → attempt day (greedy_lefts day) rounds m ≡ none
+  one_longer {distance} f e d =
       let v = m.one - 1 in
       let i = one_touched numbers in
       let a : m.one ≡ v + 1 = omega (arith, numbers.first_one) in
@@ -147,19 +146,18 @@ module _ {day plan : List ℕ} {tables : Tables} {m : Trial} {rounds : List Roun
       attempt_longer day (greedy_lefts day) rounds m
       (λ q s. omega (
         arith,
-        ltb-false r.distance (get_or tables.distances v 0) d,
+        ltb-false distance (get_or tables.distances v 0) d,
         h.driven v i.inside,
-        drives_at i f g q s,
+        drives_at i f q s,
         gain day m 0 rounds q s,
         driven_one day m rounds v i.inside a b,
         driven_one day m q v (omega (arith, i.inside, tried_length day m 0 rounds q s)) a b,
       ))
 
-  pub both_longer : {r s : Walked} → Retries day plan tables m (m.one - 1) r → r.stuck ≡ false → (m.one ≡ m.other → ⊥)
-      → Retries day plan tables m (m.other - 1) s → s.stuck ≡ false
-      → {a b x y : ℕ} → a ≡ r.distance → b ≡ s.distance → x ≡ get_or tables.distances (m.one - 1) 0 → y ≡ get_or tables.distances (m.other - 1) 0 → ltb (a + b) (x + y) ≡ false
+  pub both_longer : {first second : ℕ} → Retries day plan tables m (m.one - 1) (Some first) → (m.one ≡ m.other → ⊥) → Retries day plan tables m (m.other - 1) (Some second)
+      → {a b x y : ℕ} → a ≡ first → b ≡ second → x ≡ get_or tables.distances (m.one - 1) 0 → y ≡ get_or tables.distances (m.other - 1) 0 → ltb (a + b) (x + y) ≡ false
       → attempt day (greedy_lefts day) rounds m ≡ none
-  both_longer f g e k n {a} {b} {x} {y} p q ex ey d =
+  both_longer f e k {a} {b} {x} {y} p q ex ey d =
       let v = m.one - 1 in
       let u = m.other - 1 in
       let i = one_touched numbers in
@@ -177,8 +175,8 @@ module _ {day plan : List ℕ} {tables : Tables} {m : Trial} {rounds : List Roun
         ltb-false (a + b) (x + y) d,
         h.driven v i.inside,
         h.driven u j.inside,
-        drives_at i f g w s,
-        drives_at j k n w s,
+        drives_at i f w s,
+        drives_at j k w s,
         gain day m 0 rounds w s,
         driven_pair day m rounds v u i.inside j.inside one other apart,
         driven_pair day m w v u (omega (arith, i.inside, tried_length day m 0 rounds w s)) (omega (arith, j.inside, tried_length day m 0 rounds w s)) one other apart,

@@ -8,10 +8,9 @@ use Rattle.rules.specs.Check.{check_words}
 use Rattle.rules.specs.Build.{greedy_lefts}
 use Rattle.rules.specs.Edits.{Trial, touches, changed}
 use Rattle.rules.specs.Attempts.{distance_of, attempt}
-use Rattle.walks.specs.Rewalks.{AgainAs}
-use Rattle.walks.specs.declared.vehicle.Walked.{Walked}
 use Rattle.trial_list.specs.Survey.{VehicleIn}
 use Rattle.candidates.specs.Candidates.{Trying}
+use Rattle.tracks.specs.Measure.{DrivesAgain}
 use Rattle.tracks.specs.Tables.{TrackedIn}
 use Rattle.tracks.specs.declared.plan_tables.Held.{Held}
 use Rattle.tracks.specs.declared.plan_tables.Tables.{Tables}
@@ -34,10 +33,10 @@ pub record SomeTouched (day plan : List ℕ) (tables : Tables) (m : Trial) (v : 
   pub short : length plan ≤ 1200
 
 -- so it is measured, whatever vehicles have these words
-abbrev pub Retries : List ℕ → List ℕ → Tables → Trial → ℕ → Walked → Type 0
+abbrev pub Retries : List ℕ → List ℕ → Tables → Trial → ℕ → Option ℕ → Type 0
 Retries day plan tables m v r =
     (rounds : List Round) → Trying day plan tables.starts m rounds → TrackedIn day rounds tables.tracks → v < length rounds → touches m (v + 1) ≡ true
-    → AgainAs day (changed m.edit 0 (get_or rounds v [])) r
+    → DrivesAgain day (changed m.edit 0 (get_or rounds v [])) r
 
 -- the plan held, and how far each of its vehicles drives
 pub record Measured (day plan : List ℕ) (tables : Tables) (m : Trial) (rounds : List Round) : Type 0 where
