@@ -7,7 +7,7 @@ use mathlib.Core.Path.{◌≡◌, refl, sym, ap, ◌∙◌}
 use mathlib.Core.List.{List, [], ◌∷◌, ◌++◌}
 use native.Mathlib.Omega.{arith}
 use Rattle.rules.specs.Lists.{Every}
-use Rattle.rules.specs.Fields.{stops, IsAccepted}
+use Rattle.rules.specs.Fields.{stops, tips, IsAccepted}
 use Rattle.rules.specs.Plan.{Round, plan_words, Known}
 use Rattle.rules.specs.Edits.{Trial}
 use Rattle.rules.specs.TrialList.{stop_trials, trial_list}
