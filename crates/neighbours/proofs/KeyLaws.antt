@@ -11,7 +11,9 @@ use native.Mathlib.Nat.{eq-or-lt_of_le}
 use native.Mathlib.Numerals.{add-one}
 use native.Mathlib.Omega.{arith}
 use lib.Dec.{eqb, leb, ltb}
-use lib.ListN.{length, get_or, set, length-set}
+use lib.ListN.{length, get_or, set, length-set, take}
+use lib.Seq.{take_all}
+use Rattle.std.proofs.lemmas.List.Sums.{fold_more}
 use borrow.Author.Tests.{ltb-true, ltb-false}
 use Rattle.std.proofs.Math.Nat.{min-eq_left, min-eq_right}
 use Rattle.rules.specs.Fields.{stops, stop_place, service}
@@ -20,7 +22,7 @@ use Rattle.laws.proofs.Lists.{entries_next}
 use Rattle.day.specs.Layout.{WindowOf, LegOf}
 use Rattle.day.specs.declared.fields.Leg.{Leg}
 use Rattle.day.specs.declared.fields.Window.{Window}
-use Rattle.neighbours.specs.Tables.{no_key, key_or_none, KeysTo, best_above, least_above}
+use Rattle.neighbours.specs.Tables.{no_key, key_or_none, KeysTo, key_above, best_above, least_above}
 
 -- the test of a neighbour, by what is read; and its key
 pub compatible_by : (day : List ℕ) (i j : ℕ) (here there : Window) (v away : ℕ) → WindowOf day (stop_place day i) here → WindowOf day (stop_place day j) there
@@ -109,3 +111,26 @@ best_is last best (key ∷ keys) = best_step last key keys best (one_step last b
 pub least_key_is : (last : ℕ) (keys : List ℕ) → IsBest last no_key keys (least_above last keys)
 unfolding least_above
 least_key_is last keys = best_is last no_key keys
+
+-- the pass, key by key
+pub above_none : (last : ℕ) (keys : List ℕ) → no_key ≡ least_above last (take 0 keys)
+unfolding least_above
+above_none last keys = refl
+
+best_by : (last best key : ℕ) → best ≤ no_key → min best (key_above last key) ≡ best_above last best key
+unfolding key_above best_above
+best_by last best key h = go (ltb last key)
+  where
+    go : (b : Bool) → min best (if b then key else no_key) ≡ (if b then min best key else best)
+    go true = refl
+    go false = min-eq_left h
+
+pub above_next : (last : ℕ) (keys : List ℕ) (i best above next : ℕ) → i < length keys → best ≤ no_key → best ≡ least_above last (take i keys)
+    → above ≡ key_above last (get_or keys i 0) → next ≡ min best above → next ≡ least_above last (take (i + 1) keys)
+unfolding least_above
+above_next last keys i best above next l h e a n =
+    n ∙ ap (min best) a ∙ best_by last best (get_or keys i 0) h
+    ∙ ap (λ (b : ℕ). best_above last b (get_or keys i 0)) e ∙ sym (fold_more (best_above last) no_key keys i 0 l)
+
+pub above_all : (last : ℕ) (keys : List ℕ) (i best : ℕ) → best ≡ least_above last (take i keys) → length keys ≤ i → best ≡ least_above last keys
+above_all last keys i best e l = e ∙ ap (least_above last) (take_all i keys l)

@@ -36,6 +36,10 @@ pub record KeysTo (day : List ℕ) (i n : ℕ) (keys : List ℕ) : Type 0 where
 abbrev pub KeysOf : (day : List ℕ) (i : ℕ) (keys : List ℕ) → Type 0
 KeysOf day i keys = KeysTo day i (stops day) keys
 
+-- a key that is above the last one; none in place of another
+unfoldable pub key_above : (last key : ℕ) → ℕ
+key_above last key = if ltb last key then key else no_key
+
 -- the lesser of the best so far and a key that is above the last one
 unfoldable pub best_above : (last best key : ℕ) → ℕ
 best_above last best key = if ltb last key then min best key else best

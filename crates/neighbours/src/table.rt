@@ -2,7 +2,7 @@
 ghost use Rattle.std.specs.Prelude.{◌≡◌, ◌+◌, ◌*◌, ◌<◌, ◌≤◌, length, Some, None, if◌then◌else◌};
 ghost use Rattle.rules.specs.Fields.{stops};
 ghost use Rattle.rules.specs.Neighbours.{between, compatible, neighbour_key};
-ghost use Rattle.neighbours.specs.Tables.{TableOf, RowOf, RowBy, KeysOf, least_above, stop_of_key};
+ghost use Rattle.neighbours.specs.Tables.{TableOf, RowOf, RowBy, KeysOf, key_above, least_above, stop_of_key};
 
 use day::days::Day;
 
@@ -45,14 +45,23 @@ fn fill_keys(day: &Day, i: usize, keys: &mut [u32])
     }
 }
 
-// The least key above the last one. No way leads out of the pass, so that many keys can be looked at together.
+// A key that is above the last one, and none in place of another.
+fn key_above(last: u32, key: u32) -> u32
+    ensures { result ≡ key_above last key }
+{
+    if last < key { key } else { NO_KEY }
+}
+
+// The least key above the last one. No way leads out of the pass, so that many keys can be looked at together. In a fold over
+// the keys, which was tried, LLVM looks at one key at a time.
 fn next_key(keys: &[u32], last: u32) -> u32
     ensures { result ≡ least_above last keys.now }
 {
-    keys.iter().fold(
-        NO_KEY,
-        |best, key| if last < *key { best.min(*key) } else { best },
-    )
+    let mut best = NO_KEY;
+    for key in keys {
+        best = best.min(key_above(last, *key));
+    }
+    best
 }
 
 // The stop of a key, 0 for none, as in the table.

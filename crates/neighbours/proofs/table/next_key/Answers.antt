@@ -1,8 +1,15 @@
 -- `neighbours::table::next_key` meets its contract.
-use Rattle.std.proofs.Common.{rules}
-use Rattle.neighbours.specs.Tables.{best_above, least_above}
+use native.Mathlib.Omega.{arith}
+use Rattle.neighbours.proofs.KeyLaws.{above_none, above_next, above_all}
 use Rattle.neighbours.proofs.table.next_key.Goals as goal
 
+pub loop-key-init : goal.loop-key-init
+loop-key-init c = (omega arith, above_none c.args.last c.args.keys.now)
+
+pub loop-key-preserved : goal.loop-key-preserved
+loop-key-preserved c =
+    let so_far = c.loop-key.invariant in
+    (omega (arith, c.min-best.type_inv), above_next _ _ _ _ _ _ c.loop-key-test.true so_far.0 so_far.1 c.key_above.ensures c.min-best.ensures)
+
 pub returns : goal.returns
-unfolding best_above least_above
-returns c = search rules
+returns c = above_all _ _ _ _ c.loop-key.invariant.1 c.loop-key-test.false
