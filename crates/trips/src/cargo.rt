@@ -1,5 +1,4 @@
-// What a vehicle carries, and the day's limits. A cargo is made field by field, which keeps its parts apart: copied as a block it is
-// slower.
+// What a vehicle carries, and the day's limits.
 ghost use Rattle.std.specs.Prelude.{◌≡◌, ◌<◌};
 ghost use Rattle.rules.specs.Cargo.{empty, loaded, emptied, over_limits};
 ghost use Rattle.day.specs.Layout.{LayoutOf};
@@ -18,7 +17,7 @@ pub fn nothing() -> Cargo
     }
 }
 
-// The same cargo.
+// The same cargo, copied field by field, which keeps its parts apart: copied as a block it is slower.
 pub fn same_cargo(c: Cargo) -> Cargo
     ensures { result ≡ c }
 {
@@ -45,11 +44,7 @@ pub fn load_on(c: Cargo, q: u32) -> Cargo
 pub fn tip_out(full: Cargo) -> Cargo
     ensures { result ≡ emptied full }
 {
-    Cargo {
-        load: 0,
-        kg: full.kg,
-        visits: full.visits,
-    }
+    Cargo { load: 0, ..full }
 }
 
 // The most that a vehicle may carry at once, in a day, and the most stops.

@@ -1,5 +1,4 @@
-// Where and when a vehicle is, at its earliest minutes. A trip is made field by field, which keeps its parts apart: copied as a block it
-// is slower.
+// Where and when a vehicle is, at its earliest minutes.
 ghost use Rattle.std.specs.Prelude.{◌≡◌, ◌<◌, ◌≤◌, not, ◌&&◌, ltb};
 ghost use Rattle.rules.specs.Fields.{tips, stops, places, stop_place, closing, rest_closing};
 ghost use Rattle.rules.specs.Trip.{leaving, arrival, visit_start, driven, visited, rested_at, visit_fault, rest_fault, back_fault};
@@ -24,7 +23,7 @@ pub fn leave(day: &Day) -> Trip
     }
 }
 
-// The same trip.
+// The same trip, copied field by field, which keeps its parts apart: copied as a block it is slower.
 pub fn same_trip(trip: Trip) -> Trip
     ensures { result ≡ trip }
 {
@@ -46,8 +45,8 @@ pub fn visited_trip(day: &Day, trip: Trip, visit: Visit) -> Trip
     Trip {
         minute: (trip.minute + leg.minutes).max(visit.hours.opening) + visit.minutes,
         place: visit.place,
-        rested: trip.rested,
         distance: trip.distance + leg.distance,
+        ..trip
     }
 }
 
@@ -102,9 +101,8 @@ pub fn rest(day: &Day, trip: Trip) -> Result<Trip, PlanFault>
     }
     Ok(Trip {
         minute: start + day.rest_minutes(),
-        place: trip.place,
         rested: true,
-        distance: trip.distance,
+        ..trip
     })
 }
 
@@ -131,7 +129,7 @@ pub fn back(day: &Day, trip: Trip) -> Result<Trip, PlanFault>
     Ok(Trip {
         minute,
         place: 0,
-        rested: trip.rested,
         distance: trip.distance + leg.distance,
+        ..trip
     })
 }

@@ -1,5 +1,4 @@
-// The plan so far: vehicles, stops served and left out, distance. A tally is made field by field, which keeps its parts apart: copied as
-// a block it is slower.
+// The plan so far: vehicles, stops served and left out, distance.
 ghost use Rattle.std.specs.Prelude.{◌≡◌, ◌+◌, ◌<◌};
 ghost use Rattle.rules.specs.Check.{untold, one_out, one_served, one_left, one_back};
 ghost use Rattle.trips.specs.Trips.{TallyWithin};
@@ -20,7 +19,7 @@ pub fn none_told() -> Tally
     }
 }
 
-// The same tally.
+// The same tally, copied field by field, which keeps its parts apart: copied as a block it is slower.
 pub fn same_tally(y: Tally) -> Tally
     ensures { result ≡ y }
 {
@@ -42,10 +41,7 @@ pub fn one_out(y: Tally) -> Tally
     Tally {
         inside: true,
         vehicles: y.vehicles + 1,
-        served: y.served,
-        left: y.left,
-        last: y.last,
-        distance: y.distance,
+        ..y
     }
 }
 
@@ -55,12 +51,8 @@ pub fn one_served(y: Tally) -> Tally
     ensures { result ≡ one_served y }
 {
     Tally {
-        inside: y.inside,
-        vehicles: y.vehicles,
         served: y.served + 1,
-        left: y.left,
-        last: y.last,
-        distance: y.distance,
+        ..y
     }
 }
 
@@ -70,12 +62,9 @@ pub fn one_left(y: Tally, stop: u32) -> Tally
     ensures { result ≡ one_left y stop }
 {
     Tally {
-        inside: y.inside,
-        vehicles: y.vehicles,
-        served: y.served,
         left: y.left + 1,
         last: stop,
-        distance: y.distance,
+        ..y
     }
 }
 
@@ -86,10 +75,7 @@ pub fn one_back(y: Tally, distance: u32) -> Tally
 {
     Tally {
         inside: false,
-        vehicles: y.vehicles,
-        served: y.served,
-        left: y.left,
-        last: y.last,
         distance: y.distance + distance,
+        ..y
     }
 }
