@@ -1,7 +1,7 @@
 -- Laws of the walk over a plan's parts: between the words of a vehicle that is out only cargo and trip change. Assumes nothing.
-use Rattle.std.specs.Prelude.{Option, Some, None, Result, Ok, Err, IfSome}
+use Rattle.std.specs.Prelude.{Option, Some, None, Ok, IfSome}
 use Prim.Native.Nat.{ℕ, ◌+◌, ◌-◌, ◌<◌, ◌≤◌}
-use mathlib.Core.Path.{◌≡◌, refl, sym, ap, ◌∙◌}
+use mathlib.Core.Path.{◌≡◌, refl, ap, ◌∙◌}
 use mathlib.Core.Bool.{Bool, true, false, not, false≢true}
 use mathlib.Core.List.{List}
 use native.Mathlib.Omega.{arith}
@@ -16,7 +16,6 @@ use Rattle.rules.specs.declared.walk.Cargo.{Cargo}
 use Rattle.rules.specs.declared.walk.Tally.{Tally}
 use Rattle.rules.specs.declared.walk.Trip.{Trip}
 use Rattle.word_steps.specs.Steps.{fault_by, marked, Next, StepOf, Within}
-use Rattle.trips.specs.Trips.{TallyWithin}
 use Rattle.word_steps.specs.declared.steps.State.{State}
 use Rattle.plan_parts.specs.Walked.{out_with, end_of, Reached, PartTo, ToldAll}
 use Rattle.plan_parts.specs.declared.parts.Part.{Part}

@@ -4,7 +4,7 @@ use Rattle.std.specs.Prelude.{ℕ, zero, suc, ◌+◌, ◌<◌, ◌≤◌, ◌�
 use Rattle.rules.specs.Answers.{given, refused}
 use Rattle.rules.specs.Lists.{mem, unmet}
 use Rattle.rules.specs.Fields.{stops}
-use Rattle.rules.specs.PlanWords.{left, word_of}
+use Rattle.rules.specs.PlanWords.{word_of}
 use Rattle.rules.specs.Cargo.{empty}
 use Rattle.rules.specs.Trip.{leaving}
 use Rattle.rules.specs.Check.{met_after, Walk, start, check_from}
