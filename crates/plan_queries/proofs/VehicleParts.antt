@@ -61,11 +61,13 @@ module _ (plan : List ℕ) (from : ℕ) where
   pub part_start : (from - from) + words_to_back (drop from plan) ≡ words_to_back (drop from plan)
   part_start = omega arith
 
-  pub part_goes_on : (i : ℕ) {asked : Bool} → from ≤ i → i < length plan → asked ≡ eqb (get_or plan i 0) back_word → asked ≡ false → (i - from) + words_to_back (drop i plan) ≡ words_to_back (drop from plan)
+  pub part_goes_on : (i : ℕ) {asked : Bool} → from ≤ i → i < length plan → asked ≡ eqb (get_or plan i 0) back_word → asked ≡ false
+      → (i - from) + words_to_back (drop i plan) ≡ words_to_back (drop from plan)
       → ((i + 1) - from) + words_to_back (drop (i + 1) plan) ≡ words_to_back (drop from plan)
   part_goes_on i h g a f inv = omega (arith, rw (not_back _ (apart (get_or plan i 0)) (eqb-false _ _ (sym a ∙ f))) at (words_at i g))
 
-  pub part_ends : (i : ℕ) {asked : Bool} → from ≤ i → i < length plan → asked ≡ eqb (get_or plan i 0) back_word → asked ≡ true → (i - from) + words_to_back (drop i plan) ≡ words_to_back (drop from plan)
+  pub part_ends : (i : ℕ) {asked : Bool} → from ≤ i → i < length plan → asked ≡ eqb (get_or plan i 0) back_word → asked ≡ true
+      → (i - from) + words_to_back (drop i plan) ≡ words_to_back (drop from plan)
       → (i + 1) - from ≡ words_to_back (drop from plan)
   part_ends i h g a t inv = omega (arith, rw (back_told (get_or plan i 0) a t) at (words_at i g))
 

@@ -18,7 +18,9 @@ returns-then-tip-tips-clause-step c = task_any _ _ _ _ _ (tip (c.tip_index-tip.r
 
 pub returns-then-tip-tips-clause-met : goal.returns-then-tip-tips-clause-met
 unfolding marked
-returns-then-tip-tips-clause-met c = task_met c.args.met.now c.tip_word.result c.args.w (tip (c.tip_index-tip.result + 1)) (search tip_ranged) (unmarked c.args.met.now c.tip_word.result (tip (c.tip_index-tip.result + 1)) refl)
+returns-then-tip-tips-clause-met c =
+    task_met c.args.met.now c.tip_word.result c.args.w (tip (c.tip_index-tip.result + 1)) (search tip_ranged)
+    (unmarked c.args.met.now c.tip_word.result (tip (c.tip_index-tip.result + 1)) refl)
 
 pub returns-then-is_rest-clause-step : goal.returns-then-is_rest-clause-step
 returns-then-is_rest-clause-step c = task_any _ _ _ _ _ rest (search rest_told) c.rest_word.ensures

@@ -38,7 +38,9 @@ returns-then-is_vehicle-clause-step c = any_word _ _ _ _ _ (vehicle c.number-k.r
 
 pub returns-then-is_vehicle-clause-met : goal.returns-then-is_vehicle-clause-met
 unfolding marked
-returns-then-is_vehicle-clause-met c = met_as c.args.met.now c.vehicle_word.result c.args.w (vehicle c.number-k.result) (search vehicle_told) (unmarked c.args.met.now c.vehicle_word.result (vehicle c.number-k.result) refl)
+returns-then-is_vehicle-clause-met c =
+    met_as c.args.met.now c.vehicle_word.result c.args.w (vehicle c.number-k.result) (search vehicle_told)
+    (unmarked c.args.met.now c.vehicle_word.result (vehicle c.number-k.result) refl)
 
 pub returns-then-is_left-clause-step : goal.returns-then-is_left-clause-step
 returns-then-is_left-clause-step c = search (as_word, left_told)
