@@ -13,8 +13,8 @@ use trips::drives::{back, leave, rest, same_trip, visit_stop, visit_tip};
 use trips::limits::LimitedDay;
 use trips::tally::{one_back, one_left, one_out, one_served, same_tally};
 
-// The walk between two words, but for the stops met. Its parts are copied field by field, as by `same_tally`: copied as a block, or by
-// `..s`, the check took half as long again a word.
+// The walk between two words, but for the stops met. Its parts are copied field by field, as by `same_tally`, and a step is taken apart
+// by let-else: with block copies, as `..s` makes, and `?` in the loop over the words, the check took half as long again.
 #[derive(Clone, Copy)]
 pub struct State {
     pub tally: Tally,
