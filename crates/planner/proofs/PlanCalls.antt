@@ -53,7 +53,7 @@ one_fits K budget e y = record { most = few_is K e y; greatest = λ n. absurd (t
 pub sets_fit : (set : Setting) → set.k ≤ 50 → 25 ≤ set.k → SetsFit set
 sets_fit set most least = record { most = most; greatest = λ _. least }
 
-module _ {day : List ℕ} {n : ℕ} (h : n ≡ stops day) where
+module _ (day : List ℕ) {n : ℕ} (h : n ≡ stops day) where
   pub few_stops : IsAccepted day → n ≤ 240
   few_stops ok = omega (arith, h, (accepted_ranges day ok).stops_most)
 
@@ -101,8 +101,8 @@ module _ (day plan : List ℕ) {n : ℕ} (h : n ≡ stops day) (l : 5 * n ≤ le
 
     lent_is : take (5 * n - 0) (drop 0 now) ≡ greedy_plan day ++ zeros
     lent_is =
-        let n : 5 * n - 0 ≡ 5 * n = omega arith in
-        ap (λ (k : ℕ). take k now) n ∙ ap (take (5 * n)) built_is
+        let whole : 5 * n - 0 ≡ 5 * n = omega arith in
+        ap (λ (k : ℕ). take k now) whole ∙ ap (take (5 * n)) built_is
         ∙ take_at (greedy_plan day ++ zeros) (drop (5 * n) plan) (5 * n) front_long
 
     pub lent_long : length (take (5 * n - 0) (drop 0 now)) ≡ 5 * n
@@ -156,8 +156,8 @@ module _ (day plan : List ℕ) {n : ℕ} (h : n ≡ stops day) (l : 5 * n ≤ le
         put_back : put_mid 0 (5 * n - 0) now buffer ≡ planned day improved plan
         unfolding planned
         put_back =
-            let n : 5 * n - 0 ≡ 5 * n = omega arith in
-            ap (λ (k : ℕ). put_mid 0 k now buffer) n ∙ ap (λ (ws : List ℕ). buffer ++ ws) behind_is
+            let whole : 5 * n - 0 ≡ 5 * n = omega arith in
+            ap (λ (k : ℕ). put_mid 0 k now buffer) whole ∙ ap (λ (ws : List ℕ). buffer ++ ws) behind_is
             ∙ sym (over_drop buffer plan (5 * n) size) ∙ ap (λ (ws : List ℕ). over ws plan) filled
 
         pub worked_over : WorkedOver day Ks budget plan (put_mid 0 (5 * n - 0) now buffer)

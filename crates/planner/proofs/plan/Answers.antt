@@ -8,7 +8,7 @@ pub new-requires : goal.new-requires
 new-requires c = search accepted_long
 
 pub plan_accepted-requires : goal.plan_accepted-requires
-plan_accepted-requires c = search (rules, is_accepted)
+plan_accepted-requires c = rw c.new.ensures (search is_accepted)
 
 pub returns-in-Refused-clause-answer : goal.returns-in-Refused-clause-answer
 returns-in-Refused-clause-answer c = search refused_plan_answer

@@ -1,5 +1,7 @@
 -- `planner::accepted::work_over` meets its contract.
+use Prim.Native.Nat.{◌*◌, ◌≤◌}
 use native.Mathlib.Omega.{arith}
+use lib.ListN.{length}
 use mathlib.Core.Path.{refl}
 use borrow.Author.Rules.{rules}
 use Rattle.planner.proofs.PlanCalls.{not_refused, lent_long, distance_is, greedy_at, worked_over}
@@ -8,7 +10,7 @@ use Rattle.planner.proofs.accepted.work_over.Goals as goal
 pub improve-last-requires : goal.improve-last-requires
 improve-last-requires c =
     let n = c.stops-need.ensures.count in
-    let room = omega (arith, n, c.requires.2) in
+    let room : 5 * c.stops-need.result ≤ length c.args.plan.now = omega (arith, n, c.requires.2) in
     let greedy = c.build_accepted.ensures in (
       c.requires.0,
       c.requires.1,
@@ -21,8 +23,9 @@ improve-last-requires c =
 pub returns-in-Planned : goal.returns-in-Planned
 returns-in-Planned c =
     let n = c.stops-need.ensures.count in
+    let room : 5 * c.stops-need.result ≤ length c.args.plan.now = omega (arith, n, c.requires.2) in
     let greedy = c.build_accepted.ensures in
-    worked_over _ _ n (omega (arith, n, c.requires.2)) greedy.buffer greedy.answer c.in-Planned.is c.improve-last.ensures (search rules)
+    worked_over _ _ n room greedy.buffer greedy.answer c.in-Planned.is c.improve-last.ensures (search rules)
 
 pub returns-in-Refused : goal.returns-in-Refused
 returns-in-Refused c = let greedy = c.build_accepted.ensures in absurd (not_refused _ _ refl c.requires.2 greedy.answer c.in-Refused.is)
