@@ -4,13 +4,11 @@
 mod run;
 
 ghost use Rattle.std.specs.Prelude.{◌≡◌};
-ghost use Rattle.day.specs.Layout.{LayoutOf};
 ghost use Rattle.rules.specs.Check.{check_words, check_plan};
 ghost use Rattle.rules.specs.AnswerValues.{answer_values};
 
 use crate::run::check_words;
 use day::days::Day;
-use day::fields::Layout;
 use rules::answers::{Answer, DayAnswer};
 
 // The answer on a plan of an accepted day: for callers that check many plans of one day.
@@ -24,14 +22,6 @@ pub fn check_laid_out(day: &Day, plan: &[u32]) -> Answer
         };
     }
     check_words(day, plan)
-}
-
-// The same by the day's layout, until its callers use the day's type.
-pub fn check_accepted(day: &[u32], layout: Layout, plan: &[u32]) -> Answer
-    requires { LayoutOf day.now layout }
-    ensures { answer_values result ≡ check_words day.now plan.now }
-{
-    check_laid_out(&Day::with(day, layout), plan)
 }
 
 // The answer on any day and any plan.

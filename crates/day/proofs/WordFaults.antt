@@ -1,60 +1,28 @@
 -- The fault of one word: one law for each way through the tests of it, and what a word without fault holds.
 -- Assumes nothing.
-use Prim.Native.Nat.{ℕ, ◌*◌, ◌/◌, ◌%◌, ◌<◌, ◌≤◌}
+use Prim.Native.Nat.{ℕ, ◌*◌, ◌/◌, ◌%◌, ◌≤◌}
 use mathlib.Core.Path.{◌≡◌}
 use mathlib.Core.Bool.{true}
 use native.Mathlib.Omega.{arith}
 use lib.Dec.{leb}
-use borrow.Author.Tests.{le-leb, lt-leb, eq-eqb, ne_eqb, leb-true, eqb-true}
+use borrow.Author.Tests.{le-leb, eq-eqb, leb-true, eqb-true}
 use Rattle.rules.specs.DayFile.{Form, lone, window, leg, stay, lone_number, window_opening, window_closing, minutes_of, kind_right, value_right, fault_of}
 use Rattle.laws.proofs.Tests.{only_first, both_true}
 
 -- a lone number
 module _ (w kind least most : ℕ) where
-  pub lone_kind : (w / 134217728 ≡ 2 * kind → ⊥) → 2 ≡ fault_of (lone kind least most) w
-  unfolding fault_of kind_right
-  lone_kind h = rw (ne_eqb _ _ h)
-
-  pub lone_low : w / 134217728 ≡ 2 * kind → w % 134217728 < least → 5 ≡ fault_of (lone kind least most) w
-  unfolding fault_of kind_right value_right
-  lone_low k h = rw (eq-eqb _ _ k, lt-leb _ _ h)
-
-  pub lone_high : w / 134217728 ≡ 2 * kind → least ≤ w % 134217728 → most < w % 134217728 → 5 ≡ fault_of (lone kind least most) w
-  unfolding fault_of kind_right value_right
-  lone_high k l h = rw (eq-eqb _ _ k, le-leb _ _ l, lt-leb _ _ h)
-
   pub lone_right : w / 134217728 ≡ 2 * kind → least ≤ w % 134217728 → w % 134217728 ≤ most → 0 ≡ fault_of (lone kind least most) w
   unfolding fault_of kind_right value_right
   lone_right k l h = rw (eq-eqb _ _ k, le-leb _ _ l, le-leb _ _ h)
 
 -- a window
 module _ (w kind : ℕ) where
-  pub window_kind : (w / 16777216 ≡ 16 * kind → ⊥) → 2 ≡ fault_of (window kind) w
-  unfolding fault_of kind_right
-  window_kind h = rw (ne_eqb _ _ h)
-
-  pub window_backward : w / 16777216 ≡ 16 * kind → w % 4096 < w / 4096 % 4096 → 5 ≡ fault_of (window kind) w
-  unfolding fault_of kind_right value_right
-  window_backward k h = rw (eq-eqb _ _ k, lt-leb _ _ h)
-
-  pub window_late : w / 16777216 ≡ 16 * kind → w / 4096 % 4096 ≤ w % 4096 → 1440 < w % 4096 → 5 ≡ fault_of (window kind) w
-  unfolding fault_of kind_right value_right
-  window_late k l h = rw (eq-eqb _ _ k, le-leb _ _ l, lt-leb _ _ h)
-
   pub window_right : w / 16777216 ≡ 16 * kind → w / 4096 % 4096 ≤ w % 4096 → w % 4096 ≤ 1440 → 0 ≡ fault_of (window kind) w
   unfolding fault_of kind_right value_right
   window_right k l h = rw (eq-eqb _ _ k, le-leb _ _ l, le-leb _ _ h)
 
 -- a leg from one place to another
 module _ (w : ℕ) where
-  pub leg_kind : (w / 268435456 ≡ 9 → ⊥) → 2 ≡ fault_of leg w
-  unfolding fault_of kind_right
-  leg_kind h = rw (ne_eqb _ _ h)
-
-  pub leg_long : w / 268435456 ≡ 9 → 1440 < w / 65536 % 4096 → 5 ≡ fault_of leg w
-  unfolding fault_of kind_right value_right
-  leg_long k h = rw (eq-eqb _ _ k, lt-leb _ _ h)
-
   pub leg_right : w / 268435456 ≡ 9 → w / 65536 % 4096 ≤ 1440 → 0 ≡ fault_of leg w
   unfolding fault_of kind_right value_right
   leg_right k h = rw (eq-eqb _ _ k, le-leb _ _ h)
@@ -65,14 +33,6 @@ module _ (w : ℕ) where
 
 -- a leg from a place to itself
 module _ (w : ℕ) where
-  pub stay_kind : (w / 268435456 ≡ 9 → ⊥) → 2 ≡ fault_of stay w
-  unfolding fault_of kind_right
-  stay_kind h = rw (ne_eqb _ _ h)
-
-  pub stay_moves : w / 268435456 ≡ 9 → (w % 268435456 ≡ 0 → ⊥) → 5 ≡ fault_of stay w
-  unfolding fault_of kind_right value_right
-  stay_moves k h = rw (eq-eqb _ _ k, ne_eqb _ _ h)
-
   pub stay_right : w / 268435456 ≡ 9 → w % 268435456 ≡ 0 → 0 ≡ fault_of stay w
   unfolding fault_of kind_right value_right
   stay_right k h = rw (eq-eqb _ _ k, eq-eqb _ _ h)
@@ -106,7 +66,3 @@ leg_range w e = leb-true _ _ (without_fault leg w e).1
 pub stay_range : (w : ℕ) → fault_of stay w ≡ 0 → w % 268435456 ≡ 0
 unfolding value_right
 stay_range w e = eqb-true _ _ (without_fault stay w e).1
-
--- the same form under another name
-pub form_fault : (form form' : Form) (w : ℕ) {x : ℕ} → x ≡ fault_of form w → form ≡ form' → x ≡ fault_of form' w
-form_fault form form' w e q = rw q at e

@@ -54,14 +54,6 @@ impl<'a> Day<'a> {
         }
     }
 
-    // A day whose layout is at hand.
-    pub fn with(words: &'a [u32], layout: Layout) -> Self
-        requires { LayoutOf words.now layout }
-        ensures { result ≡ words.now }
-    {
-        Day { words, layout }
-    }
-
     // How many stops there are.
     pub fn stops(&self) -> usize
         ensures count { result ≡ stops self.now }

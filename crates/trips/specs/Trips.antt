@@ -6,16 +6,10 @@ use Rattle.rules.specs.declared.walk.Cargo.{Cargo}
 use Rattle.rules.specs.declared.walk.Tally.{Tally}
 use Rattle.rules.specs.declared.walk.Trip.{Trip}
 use Rattle.trips.specs.declared.cargo.Limits.{Limits}
-use Rattle.trips.specs.declared.trip.Driven.{Driven}
 
 -- the trip that stands where there is none
 abbrev pub no_trip : Trip
 no_trip = record { minute = 0; place = 0; rested = false; distance = 0 }
-
--- a drive that ends in a trip, or in a fault that is not 0
-pub record DrivenTo (fault : ℕ) (trip : Trip) (r : Driven) : Type 0 where
-  pub fault_is : r.fault ≡ fault
-  pub trip_is : fault ≡ 0 → r.trip ≡ trip
 
 -- what a vehicle carries is small
 pub record CargoWithin (c : Cargo) : Type 0 where

@@ -1,7 +1,6 @@
 // What a vehicle carries, and the day's limits.
 ghost use Rattle.std.specs.Prelude.{◌≡◌, ◌<◌};
 ghost use Rattle.rules.specs.Cargo.{empty, loaded, emptied, over_limits};
-ghost use Rattle.day.specs.Layout.{LayoutOf};
 ghost use Rattle.trips.specs.Trips.{CargoWithin, LimitsOf};
 
 use rules::walk::Cargo;
@@ -53,30 +52,4 @@ pub struct Limits {
     pub load: u32,
     pub kg: u32,
     pub visits: u32,
-}
-
-// The limits of a day, read once.
-pub fn limits_of(day: &[u32], layout: day::fields::Layout) -> Limits
-    requires { LayoutOf day.now layout }
-    ensures { LimitsOf day.now result }
-{
-    Limits {
-        load: day::fields::load_limit(day, layout),
-        kg: day::fields::day_limit(day, layout),
-        visits: day::fields::stop_limit(day, layout),
-    }
-}
-
-// Over the load, the day's kg or the day's stops.
-pub fn is_over(day: &[u32], limits: Limits, c: Cargo) -> bool
-    requires { LimitsOf day.now limits }
-    ensures { result ≡ over_limits day.now c }
-{
-    if limits.load < c.load {
-        return true;
-    }
-    if limits.kg < c.kg {
-        return true;
-    }
-    limits.visits < c.visits
 }

@@ -5,4 +5,3 @@ pub mod cargo;
 pub mod drives;
 pub mod limits;
 pub mod tally;
-pub mod trip;

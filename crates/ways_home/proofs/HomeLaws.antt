@@ -7,33 +7,16 @@ use mathlib.Core.Bool.{Bool, true, false, not, ◌&&◌}
 use mathlib.Core.List.{List}
 use native.Mathlib.Omega.{arith}
 use lib.Dec.{leb}
-use borrow.Author.Tests.{le-leb, lt-leb, leb-true, eq-eqb, ne_eqb}
-use Rattle.rules.specs.Fields.{stop_place, rest_opening, rest_closing, rest_minutes}
+use borrow.Author.Tests.{leb-true, eq-eqb, ne_eqb}
+use Rattle.rules.specs.Fields.{rest_opening, rest_closing, rest_minutes}
 use Rattle.rules.specs.Trip.{visited, rested_at}
 use Rattle.rules.specs.Home.{nearest_tip, due, rest_if_due, home_direct, home_by_tip, home_loaded, way_home}
 use Rattle.rules.specs.declared.walk.Trip.{Trip}
 use Rattle.laws.proofs.Tests.{both_true}
-use Rattle.day.specs.Layout.{LayoutOf, WindowOf, LegOf}
-use Rattle.day.specs.declared.fields.Layout.{Layout}
-use Rattle.day.specs.declared.fields.Leg.{Leg}
-use Rattle.day.specs.declared.fields.Window.{Window}
 use Rattle.trips.specs.Trips.{SmallTrip}
 
--- whether a rest is due: done already, too early, and else by R2
+-- a rest where one is due
 module _ (day : List ℕ) (t : Trip) where
-  pub due_done : t.rested ≡ true → false ≡ due day t
-  unfolding due
-  due_done e = rw e
-
-  module _ (w : Window) (h : (w.opening ≡ rest_opening day) × (w.closing ≡ rest_closing day)) where
-    pub due_early : t.rested ≡ false → t.minute < w.opening → false ≡ due day t
-    unfolding due
-    due_early e l = rw (e, lt-leb _ _ (rw h.0 at l))
-
-    pub due_by : t.rested ≡ false → w.opening ≤ t.minute → leb t.minute w.closing ≡ due day t
-    unfolding due
-    due_by e g = rw (e, le-leb _ _ (rw h.0 at g), h.1)
-
   -- a rest that is due begins at once
   due_opened : due day t ≡ true → rest_opening day ≤ t.minute
   unfolding due
@@ -52,25 +35,6 @@ module _ (day : List ℕ) (t : Trip) where
   pub rest_not : {b : Bool} → b ≡ due day t → b ≡ false → t ≡ rest_if_due day t
   unfolding rest_if_due
   rest_not eb z = rw (← eb, z)
-
--- a stop's place stands behind the tips
-pub stop_visited : (day : List ℕ) (layout : Layout) (k : ℕ) → LayoutOf day layout → (t u : Trip) → u ≡ visited day t (layout.tips + k) → u ≡ visited day t (stop_place day k)
-stop_visited day layout k l t u e = rw l.tips_are at e
-
--- home without a tip: too late, rested, unrested
-module _ (day : List ℕ) (t : Trip) (l : Leg) (w : Window) (hl : LegOf day t.place 0 l) (hw : WindowOf day 0 w) where
-  pub home_late : w.closing < t.minute + l.minutes → false ≡ home_direct day t
-  unfolding home_direct
-  home_late h = rw (lt-leb _ _ (rw (hl.takes, hw.closes) at h))
-
-  pub home_rested : t.minute + l.minutes ≤ w.closing → t.rested ≡ true → true ≡ home_direct day t
-  unfolding home_direct
-  home_rested h e = rw (le-leb _ _ (rw (hl.takes, hw.closes) at h), e)
-
-  pub home_lunch : (r : Window) → (r.opening ≡ rest_opening day) × (r.closing ≡ rest_closing day) → t.minute + l.minutes ≤ w.closing → t.rested ≡ false
-      → leb (t.minute + l.minutes) r.closing ≡ home_direct day t
-  unfolding home_direct
-  home_lunch r hr h e = rw (le-leb _ _ (rw (hl.takes, hw.closes) at h), e, hl.takes, hr.1)
 
 -- trips stay small: a visit's minute is bounded, and a rest is taken by R2
 module _ (day : List ℕ) where
@@ -119,13 +83,6 @@ module _ (day : List ℕ) where
         minute = rest_minute 268435456 t u (omega arith) h.minute e;
         distance = rw (e, rest_distance t) h.distance;
       }
-
--- behind a tip and a rest, a trip is still at a place and not too late to count
-pub tip_trip : (day : List ℕ) (layout : Layout) (most : ℕ) (t u v : Trip) (x : ℕ) → LayoutOf day layout → SmallTrip day most t → x ≤ layout.tips → u ≡ visited day t x → v ≡ rest_if_due day u
-    → LayoutOf day layout × (v.place < layout.places) × (v.minute < 1073741824)
-tip_trip day layout most t u v x hz ht l eu ev =
-    let m = visit_minute day most t u x ht eu in
-    (hz, omega (arith, rest_place day u v ev, visit_place day t u x eu, hz.places_are, hz.tips_are), omega (arith, rest_minute day 536870912 u v (omega arith) m ev))
 
 -- the way home: no tip, by a tip, without a load
 module _ (day : List ℕ) (t : Trip) where

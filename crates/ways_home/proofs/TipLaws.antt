@@ -5,29 +5,17 @@ use mathlib.Core.Path.{◌≡◌, sym, ap, ◌∙◌}
 use mathlib.Core.Bool.{Bool, true, false, ◌||◌}
 use mathlib.Core.List.{List}
 use native.Mathlib.Omega.{arith}
-use lib.Dec.{ltb, leb, eqb}
-use borrow.Author.Tests.{le-leb, lt-leb, le-ltb, lt-ltb}
+use lib.Dec.{ltb, eqb}
+use borrow.Author.Tests.{le-ltb, lt-ltb}
 use Rattle.rules.specs.Tests.{better, least}
 use Rattle.rules.specs.Fields.{leg_minutes}
-use Rattle.rules.specs.Home.{open_tip, nearest_tip}
+use Rattle.rules.specs.Home.{open_tip}
 use Rattle.laws.proofs.Least.{better_fails, better_wins, better_loses, least_none, least_suc}
-use Rattle.day.specs.Layout.{LayoutOf, WindowOf, LegOf}
-use Rattle.day.specs.declared.fields.Layout.{Layout}
+use Rattle.day.specs.Layout.{LegOf}
 use Rattle.day.specs.declared.fields.Leg.{Leg}
-use Rattle.day.specs.declared.fields.Window.{Window}
 use Rattle.ways_home.specs.Bests.{BestBy}
 use Rattle.ways_home.specs.declared.best.Best.{Best}
 use Rattle.ways_home.proofs.BestLaws.{less_key}
-
--- open on arrival: not yet, and else by the closing
-module _ (day : List ℕ) (place minute k away : ℕ) (hours : Window) (opens : WindowOf day k hours) (e : away ≡ leg_minutes day place k) where
-  pub not_open_yet : minute + away < hours.opening → false ≡ open_tip day place minute k
-  unfolding open_tip
-  not_open_yet h = rw (lt-leb _ _ (rw (opens.opens, e) at h))
-
-  pub open_till : hours.opening ≤ minute + away → leb (minute + away) hours.closing ≡ open_tip day place minute k
-  unfolding open_tip
-  open_till h = rw (le-leb _ _ (rw (opens.opens, e) at h), e, opens.closes)
 
 -- a tip against the best so far: not nearer, not open, taken
 module _ (day : List ℕ) (place minute k n : ℕ) (leg : Leg) (best : Best) (takes : LegOf day place k leg) (so_far : BestBy (leg_minutes day place) n best) where
@@ -52,12 +40,3 @@ module _ (day : List ℕ) (place minute : ℕ) where
   pub tips_next : (k best : ℕ) {next : ℕ} → best ≡ least (open_tip day place minute) (leg_minutes day place) k
       → next ≡ better (open_tip day place minute) (leg_minutes day place) (k + 1) best → next ≡ least (open_tip day place minute) (leg_minutes day place) (k + 1)
   tips_next k best e n = n ∙ ap (better _ _ (k + 1)) e ∙ sym (least_suc _ _ k)
-
-  pub tips_first : (k count best : ℕ) → best ≡ least (open_tip day place minute) (leg_minutes day place) k → k ≤ count → count ≤ k
-      → best ≡ least (open_tip day place minute) (leg_minutes day place) count
-  tips_first k count best e a b = let all : k ≡ count = omega arith in e ∙ ap (least _ _) all
-
-  pub tips_all : (layout : Layout) (best : ℕ) → LayoutOf day layout → best ≡ least (open_tip day place minute) (leg_minutes day place) layout.tips
-      → best ≡ nearest_tip day place minute
-  unfolding nearest_tip
-  tips_all layout best h e = e ∙ ap (least _ _) h.tips_are

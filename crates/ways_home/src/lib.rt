@@ -2,7 +2,5 @@
 #![tactic(auto)]
 
 pub mod best;
-pub mod home;
 pub mod nearest;
-pub mod tips;
 pub mod ways;

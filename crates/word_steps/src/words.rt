@@ -1,5 +1,5 @@
 // A word of the plan: its form, then whether the stop that it names was met before, then what the word does.
-ghost use Rattle.std.specs.Prelude.{◌≡◌, Bool, List, OnOk};
+ghost use Rattle.std.specs.Prelude.{◌≡◌, Bool, List, OnOk, OnErr};
 ghost use Rattle.rules.specs.PlanWords.{vehicle, stop, tip, rest, back, left, word_of};
 ghost use Rattle.rules.specs.Check.{within};
 ghost use Rattle.word_steps.specs.Steps.{fault_by, met_behind, StepOf, Within};
@@ -142,6 +142,7 @@ pub fn task_step(
     requires { Within limited.now.day.now 4096 s }
     ensures step { OnOk result (StepOf (fault_by limited.now.day.now met.old s (word_of w)) limited.now.day.now s (word_of w) result) }
     ensures met { OnOk result (met.new ≡ met_behind met.old (word_of w) result) }
+    ensures kept { OnErr result (met.new ≡ met.old) }
 {
     let day = limited.day;
     let stop = plan_words::stop_index(w) as usize;

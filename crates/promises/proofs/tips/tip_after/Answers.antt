@@ -3,8 +3,8 @@ use Rattle.day.proofs.Ranges.{accepted_ranges}
 use Rattle.promises.proofs.NearestTip.{after_first_tips}
 use Rattle.promises.proofs.tips.tip_after.Goals as goal
 
-pub layout_of-layout-requires : goal.layout_of-layout-requires
-layout_of-layout-requires c = (accepted_ranges _ c.requires.0).long
+pub new-requires : goal.new-requires
+new-requires c = (accepted_ranges _ c.requires.0).long
 
 pub returns : goal.returns
 returns c = search after_first_tips
