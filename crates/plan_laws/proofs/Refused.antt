@@ -6,7 +6,7 @@ use mathlib.Core.Bool.{Bool, true, false, ◌&&◌, false≢true}
 use mathlib.Core.List.{List, [], ◌∷◌}
 use lib.Dec.{ltb}
 use lib.ListN.{length}
-use Rattle.rules.specs.Answers.{given, refused, is_given}
+use Rattle.rules.specs.Answers.{refused, is_given}
 use Rattle.rules.specs.DayFile.{judge_day}
 use Rattle.rules.specs.Fields.{stops}
 use Rattle.rules.specs.Bytes.{read_answer, read_buffer}

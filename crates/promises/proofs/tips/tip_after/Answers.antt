@@ -7,4 +7,4 @@ pub new-requires : goal.new-requires
 new-requires c = (accepted_ranges _ c.requires.0).long
 
 pub returns : goal.returns
-returns c = search after_first_tips
+returns c = rw (← c.new.ensures) (search after_first_tips)
