@@ -9,6 +9,7 @@ use crate::fields::{Layout, Leg, Visit, Window, layout_of};
 use std::marker::Model;
 
 #[derive(Drop)]
+// That a day is accepted is a clause of those who need it, and no type: behind a model a caller does not see a type's invariant.
 pub struct Day<'a> {
     words: &'a [u32],
     layout: Layout,

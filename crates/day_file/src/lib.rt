@@ -8,7 +8,7 @@ use std::{fs, io};
 // One byte more than a day file may have, to tell a longer one.
 const SPACE: usize = 65537;
 
-// Reads to the file's end, or until the space is full.
+// Reads to the file's end, or until the space is full. std's read_to_end needs a heap, and its read_exact fails at the file's end.
 fn read_all<'a>(file: &mut impl Read, space: &'a mut [u8]) -> io::Result<&'a [u8]> {
     let mut at = 0;
     while at < space.len() {

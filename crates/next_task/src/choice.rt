@@ -119,8 +119,8 @@ impl<'a> Choice<'a> {
             && S::is_timely(self.day, self.trip, stop)
     }
 
-    // Of the marks of a word those from the next candidate on; bit b is stop first + b. The loop is kept apart from the way home, which is
-    // long and seldom asked for.
+    // Of the marks of a word those from the next candidate on; bit b is stop first + b. The marks are taken off one by one: there is no range
+    // to go over. The loop is kept apart from the way home, which is long and seldom asked for.
     fn from_candidate<S: Search>(&self, most: u32, marked: u64, first: usize) -> u64
         requires { first < 256 }
         ensures { FromCandidate S.near self.now.day.now self.now.trip self.now.cargo (stops self.now.day.now) most first marked result }

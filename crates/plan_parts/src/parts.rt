@@ -100,6 +100,7 @@ pub fn all_parts(limited: &LimitedDay, plan: &[u32]) -> Option<Tally>
     let mut s = first_state(limited.day);
     let mut met = no_stops();
     let mut i: usize = 0;
+    // The index goes on by a whole part: there is no range to go over.
     while i < plan.len() {
         let part = next_part(limited, s, &mut met, plan, i)?;
         s = part.state;

@@ -1,4 +1,5 @@
-// What the calls answer. Each refusal has its number and its place.
+// What the calls answer. Each refusal has its number and its place. By a rule of the project an answer is one enum with its refusal, and no
+// Result, and a definition gives each case's number and values.
 
 // The answer on a day: how many stops and tips it has, or the refusal's number and place.
 #[derive(Clone, Copy)]

@@ -6,6 +6,7 @@ use std::marker::Model;
 // The most bytes that a text may have.
 pub const ROOM: usize = 16384;
 
+// No fmt::Write: its clauses speak of Ok alone, so that writing here could fail.
 #[derive(Drop)]
 pub struct Text {
     bytes: [u8; ROOM],

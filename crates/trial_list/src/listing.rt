@@ -15,7 +15,7 @@ pub struct Trial {
     pub other: usize,
 }
 
-// A stop, the rank of a neighbour, and whether the first trial of the pair is passed.
+// A stop, the rank of a neighbour, and whether the first trial of the pair is passed: an enum of two would be no plainer.
 #[derive(Clone, Copy)]
 pub struct PairPlace {
     pub stop: usize,

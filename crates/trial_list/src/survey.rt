@@ -72,6 +72,7 @@ fn survey_vehicle(day: &Day, plan: &[u32], from: usize, number: u8, vehicles: &m
         distance: 0,
     };
     let mut at = from;
+    // Where it ends is known only once its words are read: there is no range to go over.
     while plan[at] != BACK {
         mark_stop(vehicles, number, plan[at]);
         ride = drive_on(day, ride, plan[at]);
@@ -106,6 +107,7 @@ pub fn survey(
     vehicles.fill(0);
     let mut count: usize = 0;
     let mut at: usize = 0;
+    // A vehicle begins where the one before it ends: there is no range to go over.
     while is_vehicle(plan, at) {
         starts[count] = at as u32;
         let driven = survey_vehicle(day, plan, at + 1, (count + 1) as u8, vehicles);

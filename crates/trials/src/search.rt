@@ -117,6 +117,7 @@ pub(crate) fn run_trials(
     ensures { Searching day.now (sets_of set) set.budget plan.new tables.new result × (result.ended ≡ true) }
 {
     let mut s = begin(day, held, plan, tables, work);
+    // How many steps there are is known only at the end: there is no range to go over.
     while is_going(s) {
         s = next_step(day, set, table, work, plan, tables, s);
     }

@@ -61,6 +61,7 @@ fn write_tasks(day: &Day, first: Ready, words: &mut Words) -> Marks
     ensures ends { EndsAll day.now words.old.part.now words.old.count first words.new.part.now result words.new.count }
 {
     let mut ready = first;
+    // How many tasks there are is known only at the end: there is no range to go over.
     while has_task(ready) {
         ready = write_task(day, ready, words);
     }

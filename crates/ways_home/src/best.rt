@@ -2,7 +2,8 @@
 ghost use Rattle.std.specs.Prelude.{◌≡◌, ◌<◌, IfSome};
 ghost use Rattle.rules.specs.Tests.{number_or_none};
 
-// A number from 1 on with its key; number 0 is none.
+// A number from 1 on with its key; number 0 is none, with a key past every other. So one comparison tells whether a key is better, where an
+// Option would be asked first whether there is one.
 #[derive(Clone, Copy)]
 pub struct Best {
     pub number: usize,
