@@ -15,6 +15,7 @@ pub(crate) fn write_vehicles(day: &Day, plan: &mut [u32]) -> Written
     let mut left = Marks::all_to(day.stops());
     let mut words = 0;
     let mut number = 0;
+    // How many vehicles go out is known only at the end: there is no range to go over.
     while let Some(written) = write_vehicle(day, left, number + 1, &mut plan[words..]) {
         left = written.left;
         words += written.words;

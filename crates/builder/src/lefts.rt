@@ -6,7 +6,8 @@ ghost use Rattle.builder.specs.Lefts.{LeavesAll};
 use marks::Marks;
 use plan_words::left_word;
 
-// The F words of the stops still to be routed, rising, from place `from` on; how many words there are then.
+// The F words of the stops still to be routed, rising, from place `from` on; how many words there are then. The place goes with the buffer:
+// the count handed back is of the whole plan.
 pub(crate) fn write_lefts(left: Marks, part: &mut [u32], from: usize) -> usize
     requires { from + ones_of left.words ≤ length part.old }
     ensures count { result ≤ from + ones_of left.words }
@@ -14,6 +15,7 @@ pub(crate) fn write_lefts(left: Marks, part: &mut [u32], from: usize) -> usize
 {
     let mut others = left;
     let mut at = from;
+    // The marks are taken off one by one: there is no range to go over.
     while let Some(stop) = others.lowest() {
         part[at] = left_word(stop);
         others = others.unmark(stop);

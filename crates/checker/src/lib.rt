@@ -11,7 +11,7 @@ use crate::run::check_words;
 use day::days::Day;
 use rules::answers::{Answer, DayAnswer};
 
-// The answer on a plan of an accepted day: for callers that check many plans of one day.
+// The answer on a plan of a day that is laid out: for callers that check many plans of one accepted day.
 pub fn check_laid_out(day: &Day, plan: &[u32]) -> Answer
     ensures { answer_values result ≡ check_words day.now plan.now }
 {

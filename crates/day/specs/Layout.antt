@@ -1,4 +1,4 @@
--- A day's layout, decoded once and handed on by value; and what the readers over it say. Assumes nothing.
+-- A day's layout, decoded once; and what the readers over it say. Assumes nothing.
 use Rattle.std.specs.Prelude.{ℕ, ◌+◌, ◌*◌, ◌<◌, ◌≡◌, List, length}
 use Rattle.rules.specs.DayFile.{legs_at}
 use Rattle.rules.specs.Fields.{tips, stops, places, opening, closing, service, leg_minutes, leg_distance}

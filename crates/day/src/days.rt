@@ -8,8 +8,8 @@ ghost use Rattle.day.specs.Layout.{LayoutOf, WindowOf, LegOf, VisitOf};
 use crate::fields::{Layout, Leg, Visit, Window, layout_of};
 use std::marker::Model;
 
-#[derive(Drop)]
 // That a day is accepted is a clause of those who need it, and no type: behind a model a caller does not see a type's invariant.
+#[derive(Drop)]
 pub struct Day<'a> {
     words: &'a [u32],
     layout: Layout,

@@ -1,8 +1,8 @@
 // What a day is made of: its layout, the windows of its places, visits to them and the legs between them.
-ghost use Rattle.std.specs.Prelude.{◌≡◌, ◌+◌, ◌*◌, ◌<◌, ◌≤◌, ◌&&◌, leb, length};
-ghost use Rattle.rules.specs.DayFile.{lone_number, window_opening, window_closing, words_of};
-ghost use Rattle.rules.specs.Fields.{word_at, tips, stops, stop_place, load_limit, day_limit, stop_limit, rest_opening, rest_closing, rest_minutes, service, quantity};
-ghost use Rattle.day.specs.Layout.{LayoutOf, WindowOf, LegOf};
+ghost use Rattle.std.specs.Prelude.{◌≡◌, ◌&&◌, leb, length};
+ghost use Rattle.rules.specs.DayFile.{words_of};
+ghost use Rattle.rules.specs.Fields.{tips, stops};
+ghost use Rattle.day.specs.Layout.{LayoutOf};
 
 // How many stops, tips and places a day has, and where its legs begin.
 #[derive(Clone, Copy)]
@@ -42,7 +42,7 @@ pub struct Leg {
     pub distance: u32,
 }
 
-// The layout of an accepted day, whose length is known to be right: word 0 has d in bits 11-8, n in bits 7-0.
+// The layout of a day of the right length: word 0 has d in bits 11-8, n in bits 7-0.
 pub(crate) fn layout_of(day: &[u32]) -> Layout
     requires { length day.now ≡ words_of (tips day.now) (stops day.now) }
     ensures { LayoutOf day.now result }

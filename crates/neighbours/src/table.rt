@@ -64,7 +64,7 @@ fn next_key(keys: &[u32], last: u32) -> u32
     best
 }
 
-// The stop of a key, 0 for none, as in the table.
+// The stop of a key, 0 for none, as in the table, where a place is one byte.
 fn stop_of_key(key: u32) -> u8
     ensures { result ≡ stop_of_key key }
 {

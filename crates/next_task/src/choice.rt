@@ -155,7 +155,8 @@ impl<'a> Choice<'a> {
         }
     }
 
-    // The best of the one before and the stops of one word of the marks, whose bit b is stop first + b.
+    // The best of the one before and the stops of one word of the marks, whose bit b is stop first + b. A call may pass over several marks:
+    // there is no range to go over.
     fn best_in_word<S: Search>(&self, word: u64, first: usize, before: Best) -> Best
         requires first { first < 256 }
         requires so_far { BestBy (key_of S.near self.now.day.now self.now.trip) (stops self.now.day.now) before }

@@ -1,5 +1,4 @@
-// What is left of a vehicle from each word of the plan on, in a table that is lent: four words for each word of the plan. The table is of
-// words, and not of rows, until the crate that keeps it holds it as an array of its own.
+// What is left of a vehicle from each word of the plan on, in a table that is lent: four words for each word of the plan.
 #![tactic(auto)]
 
 ghost use Rattle.std.specs.Prelude.{◌≡◌, ◌&&◌, ◌+◌, ◌-◌, ◌*◌, ◌<◌, ◌≤◌, leb, length};

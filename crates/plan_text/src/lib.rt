@@ -39,7 +39,7 @@ fn put_file(text: &mut Text, bytes: &[u8])
     }
 }
 
-// What the program prints of a day file with these bytes.
+// What the program prints of a day file with these bytes: as any text, at most 16,384 bytes.
 pub fn plan_text(bytes: &[u8]) -> Text
     ensures { result ≡ printed bytes.now }
 {

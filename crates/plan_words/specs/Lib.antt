@@ -1,3 +1,2 @@
-pub mod Decoded
 pub mod Indexes
 pub mod Said

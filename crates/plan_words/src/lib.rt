@@ -3,7 +3,6 @@
 
 ghost use Rattle.std.specs.Prelude.{◌≡◌, ◌<◌, ◌==◌};
 ghost use Rattle.rules.specs.PlanWords.{kind_of, number_of, vehicle_kind, stop_kind, tip_kind, left_kind, vehicle_word, stop_word, tip_word, rest_word, back_word, left_word, same_word};
-ghost use Rattle.plan_words.specs.Decoded.{Reads};
 ghost use Rattle.plan_words.specs.Indexes.{IndexFrom};
 
 // The word of each kind with number 0.
@@ -27,46 +26,6 @@ const STOP_KIND: u32 = STOP / 0x100;
 const TIP_KIND: u32 = TIP / 0x100;
 
 const LEFT_KIND: u32 = LEFT / 0x100;
-
-// A plan word taken apart.
-#[derive(Clone, Copy, PartialEq, Eq)]
-pub enum PlanWord {
-    Vehicle(u8),
-    Stop(u8),
-    Tip(u8),
-    Rest,
-    Back,
-    Left(u8),
-}
-
-// A word that is none of these.
-#[derive(Clone, Copy, PartialEq, Eq)]
-pub struct StrayWord;
-
-impl TryFrom<u32> for PlanWord {
-    type Error = StrayWord;
-
-    ghost try_from_gives = { Reads };
-
-    fn try_from(word: u32) -> Result<PlanWord, StrayWord> {
-        let number = number(word) as u8;
-        if is_stop(word) {
-            Ok(PlanWord::Stop(number))
-        } else if is_tip(word) {
-            Ok(PlanWord::Tip(number))
-        } else if is_rest(word) {
-            Ok(PlanWord::Rest)
-        } else if is_back(word) {
-            Ok(PlanWord::Back)
-        } else if is_vehicle(word) {
-            Ok(PlanWord::Vehicle(number))
-        } else if is_left(word) {
-            Ok(PlanWord::Left(number))
-        } else {
-            Err(StrayWord)
-        }
-    }
-}
 
 // The number of a word, in bits 7-0.
 pub fn number(word: u32) -> u32

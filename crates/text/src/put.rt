@@ -35,9 +35,10 @@ impl Text {
         }
     }
 
-    // The bytes written so far.
+    // The bytes written so far, never more than its room.
     pub fn as_bytes(&self) -> &[u8]
-        ensures { result.now ≡ self.now }
+        ensures text { result.now ≡ self.now }
+        ensures room { length result.now ≤ ROOM }
     {
         &self.bytes[..self.len]
     }

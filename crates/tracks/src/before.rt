@@ -10,7 +10,7 @@ use rules::walk::Trip;
 use walks::cabs::Cab;
 use walks::vehicle::{fresh_cab, walk_word};
 
-// A vehicle before one of its words. A row is as small as six words: the place is a u32, and how many words are written is left out.
+// A vehicle before one of its words. A row is kept small: the place is a u32, and how many words are written is left out.
 #[derive(Clone, Copy)]
 pub struct Row {
     minute: u32,

@@ -1,4 +1,4 @@
-// The tables of the present plan, by which its trials are listed and measured.
+// The tables by which a trial is measured, made anew from the present plan.
 ghost use Rattle.std.specs.Prelude.{◌≡◌, ◌-◌, ◌<◌, ◌≤◌, length, take, drop};
 ghost use Rattle.rules.specs.Fields.{IsAccepted};
 ghost use Rattle.tracks.specs.Tables.{SomeTrackable, TracksIn, SomeVehicle, TracksVehicle, spot_after, spots_after};

@@ -15,7 +15,8 @@ pub struct Trial {
     pub other: usize,
 }
 
-// A stop, the rank of a neighbour, and whether the first trial of the pair is passed: an enum of two would be no plainer.
+// A stop, the rank of a neighbour, and whether the first trial of the pair is passed: it is matched as a yes or no
+// beside whether both stops are on one vehicle.
 #[derive(Clone, Copy)]
 pub struct PairPlace {
     pub stop: usize,
@@ -191,6 +192,7 @@ fn next_pair(tables: &Tables, first: PairPlace) -> Listed<PairPlace>
     ensures { PairAnswer tables.now first result }
 {
     let mut place = first;
+    // The place behind is known only once a place is looked at: there is no range to go over.
     while place.stop <= tables.stops {
         let listed = pair_at(tables, place);
         if listed.trial.is_some() {
@@ -253,6 +255,7 @@ fn next_tip(tables: &Tables, first: TipPlace) -> Listed<TipPlace>
     ensures { TipAnswer tables.now first result }
 {
     let mut place = first;
+    // The place behind is known only once a place is looked at: there is no range to go over.
     while place.vehicle < tables.count {
         let listed = tip_at(tables, place);
         if listed.trial.is_some() {

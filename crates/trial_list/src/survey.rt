@@ -72,7 +72,7 @@ fn survey_vehicle(day: &Day, plan: &[u32], from: usize, number: u8, vehicles: &m
         distance: 0,
     };
     let mut at = from;
-    // Where it ends is known only once its words are read: there is no range to go over.
+    // One pass marks, drives and counts, and where it ends is known only once its words are read: there is no range to go over.
     while plan[at] != BACK {
         mark_stop(vehicles, number, plan[at]);
         ride = drive_on(day, ride, plan[at]);

@@ -1,7 +1,7 @@
 // What a vehicle carries, and the day's limits.
 ghost use Rattle.std.specs.Prelude.{◌≡◌, ◌<◌};
-ghost use Rattle.rules.specs.Cargo.{empty, loaded, emptied, over_limits};
-ghost use Rattle.trips.specs.Trips.{CargoWithin, LimitsOf};
+ghost use Rattle.rules.specs.Cargo.{empty, loaded, emptied};
+ghost use Rattle.trips.specs.Trips.{CargoWithin};
 
 use rules::walk::Cargo;
 

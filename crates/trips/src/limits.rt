@@ -1,4 +1,4 @@
-// The day's limits, read once for a plan.
+// A day with its limits, read once for a plan.
 ghost use Rattle.std.specs.Prelude.{◌≡◌};
 ghost use Rattle.rules.specs.Cargo.{over_limits};
 ghost use Rattle.trips.specs.Trips.{LimitsOf};

@@ -36,7 +36,7 @@ pub fn rest_if_due(day: &Day, trip: Trip) -> Trip
 }
 
 // After a visit that is known to be in time.
-pub fn after_visit(day: &Day, trip: Trip, visit: Visit) -> Trip
+fn after_visit(day: &Day, trip: Trip, visit: Visit) -> Trip
     requires { SmallTrip day.now 4294901760 trip × VisitOf day.now visit }
     ensures { result ≡ visited day.now trip visit.place }
 {

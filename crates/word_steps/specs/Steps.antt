@@ -10,7 +10,7 @@ use Rattle.rules.specs.Check.{well_formed, tally_after}
 use Rattle.word_steps.specs.declared.steps.State.{State}
 use Rattle.trips.specs.Trips.{CargoWithin, TripWithin, TallyWithin}
 
--- a stop is met, by its mark; mark 0 stands for no stop
+-- a stop is met, by its mark
 abbrev pub is_met : List Bool → ℕ → Bool
 is_met met k = get_or met k false
 

@@ -1,4 +1,4 @@
--- `checker::check` meets its contract: a refused day is answered as it was judged, an accepted day has its layout and its plan is walked.
+-- `checker::check` meets its contract: a refused day is answered as it was judged, an accepted day is laid out and its plan is walked.
 use Rattle.day.proofs.Answered.{accepted_long}
 use Rattle.checker.proofs.Answering.{day_refused, day_accepted}
 use Rattle.checker.proofs.check.Goals as goal
