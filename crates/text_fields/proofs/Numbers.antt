@@ -34,9 +34,10 @@ held_along (b ∷ bs) v w e = rw (take_while-cons is_digit b bs) (go (is_digit b
     go true h = h
     go false h = e
 
-pub number_folded : (text : List ℕ) (at : ℕ) {v : ℕ} → v ≡ fold grown 0 (take_while is_digit (drop at text)) → (v ≡ held_at text at) × (v ≤ 1000000)
+pub number_folded : (text : List ℕ) (at : ℕ) {bytes : List ℕ} {v : ℕ} → bytes ≡ drop at text
+    → v ≡ fold grown 0 (take_while is_digit bytes) → (v ≡ held_at text at) × (v ≤ 1000000)
 unfolding held_at number_at
-number_folded text at e = let k = e ∙ held_along (drop at text) 0 0 (omega arith) in (k, omega arith)
+number_folded text at b e = let k = rw b at e ∙ held_along (drop at text) 0 0 (omega arith) in (k, omega arith)
 
 -- to hold a number at 1,000,000 hides nothing from a limit below that
 module _ (text : List ℕ) (at : ℕ) {v : ℕ} (held : v ≡ held_at text at) where

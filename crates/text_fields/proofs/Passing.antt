@@ -24,5 +24,6 @@ pub passed_counts : (kind : ℕ → Bool) (text : List ℕ) (at : ℕ) → passe
 unfolding passed
 passed_counts kind text at = counted_from kind (drop at text) at
 
-pub passed_counted : (kind : ℕ → Bool) (text : List ℕ) (at : ℕ) {n : ℕ} → n ≡ length (take_while kind (drop at text)) → at + n ≡ passed kind text at
-passed_counted kind text at e = omega (arith, passed_counts kind text at, length-prefix_len kind (drop at text))
+pub passed_counted : (kind : ℕ → Bool) (text : List ℕ) (at : ℕ) {bytes : List ℕ} {n : ℕ} → bytes ≡ drop at text
+    → n ≡ length (take_while kind bytes) → at + n ≡ passed kind text at
+passed_counted kind text at b e = omega (arith, passed_counts kind text at, length-prefix_len kind (drop at text), rw b at e)

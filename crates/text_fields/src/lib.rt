@@ -2,7 +2,7 @@
 // A text and a place stay two parameters: the text from the place on, as one slice, is no plainer, since the callers go on to name the place.
 #![tactic(auto)]
 
-ghost use Rattle.std.specs.Prelude.{◌≡◌, ℕ, Bool, ◌+◌, ◌*◌, ◌-◌, ◌≤◌, ◌<◌, min};
+ghost use Rattle.std.specs.Prelude.{◌≡◌, ℕ, Bool, ◌+◌, ◌*◌, ◌-◌, ◌≤◌, ◌<◌, min, drop};
 ghost use Rattle.rules.specs.TextFields.{is_blank, is_gap, is_field_byte, is_digit, passed, next_field, next_line, ends_line, is_number, is_word};
 ghost use Rattle.text_fields.specs.Runs.{Tests, held_at};
 
@@ -27,13 +27,23 @@ fn is_digit(b: u8) -> bool
     b.is_ascii_digit()
 }
 
+// The bytes from a place on. A slice, since an iterator's `skip` steps over every byte before the place.
+fn bytes_from(text: &[u8], at: usize) -> &[u8]
+    ensures { result.now ≡ drop at text.now }
+{
+    &text[at.min(text.len())..]
+}
+
 // The first place, from `at` on, whose byte is not of the kind that the test tells.
 fn pass<F: Fn(u8) -> bool>(text: &[u8], at: usize, test: F) -> usize
     requires { F.IsAlwaysCallable test }
     ensures passed { (kind : ℕ → Bool) → Tests (F.post test) kind → result ≡ passed kind text.now at }
     ensures later { at ≤ result }
 {
-    at + text.iter().skip(at).take_while(|b| test(**b)).count()
+    at + bytes_from(text, at)
+        .iter()
+        .take_while(|b| test(**b))
+        .count()
 }
 
 // The place behind the field.
@@ -94,8 +104,8 @@ fn grown(value: u32, b: u8) -> u32
 pub fn number_at(text: &[u8], at: usize) -> u32
     ensures { (result ≡ held_at text.now at) × (result ≤ 1000000) }
 {
-    text.iter()
-        .skip(at)
+    bytes_from(text, at)
+        .iter()
         .take_while(|b| is_digit(**b))
         .fold(0, |value, b| grown(value, *b))
 }

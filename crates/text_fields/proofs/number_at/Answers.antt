@@ -7,7 +7,6 @@ use borrow.Author.Rules.{rules}
 use borrow.Author.Tests.{tests}
 use Rattle.std.proofs.lemmas.Fn.{serves_by}
 use Rattle.std.proofs.lemmas.Iterator.{YieldsList-from_slice}
-use Rattle.std.proofs.lemmas.Iterator.Adapters.{YieldsList-from_skip}
 use Rattle.std.proofs.lemmas.Iterator.Search.{YieldsList-from_take_while}
 use Rattle.std.proofs.lemmas.Iterator.Consumers.{fold_from_yields_List}
 use Rattle.rules.specs.TextFields.{is_digit}
@@ -25,9 +24,9 @@ fold-requires-clause-callable c =
 
 pub returns : goal.returns
 returns c =
-    number_folded c.args.text.now c.args.at
+    number_folded c.args.text.now c.args.at c.bytes_from.ensures
     (fold_from_yields_List _ grown _ _ c.fold.ensures.ran
     (YieldsList-from_take_while _ is_digit
-    (YieldsList-from_skip c.args.at (YieldsList-from_slice c.args.text.now (search rules)) (search rules))
+    (YieldsList-from_slice c.bytes_from.result.now (search rules))
     c.take_while.ensures.closure c.take_while.ensures.done (λ b t f called. search (rules, tests)))
     (λ v b w f called. search (rules, tests)))
