@@ -9,23 +9,21 @@ use lib.Dec.{ltb}
 use lib.ListN.{length, take, drop, replicate, get_or, length-append, length-replicate}
 use lib.Seq.{drop-drop, take_at}
 use borrow.Author.Tests.{lt-ltb, le-ltb}
-use Rattle.rules.specs.Answers.{given, refused, is_given}
+use Rattle.rules.specs.Answers.{given, refused}
 use Rattle.rules.specs.Lists.{total, over}
 use Rattle.rules.specs.DayFile.{judge_day}
 use Rattle.rules.specs.Fields.{stops, IsAccepted}
 use Rattle.rules.specs.Lawful.{distance_from, totals}
 use Rattle.rules.specs.Check.{check_words, check_plan}
 use Rattle.rules.specs.Build.{greedy_rounds, greedy_lefts, greedy_plan, routed}
-use Rattle.rules.specs.AnswerValues.{day_values, answer_values}
+use Rattle.rules.specs.AnswerValues.{answer_values}
 use Rattle.rules.specs.Planned.{planned, built_answer, built_buffer, build_answer, build_buffer}
 use Rattle.rules.specs.declared.answers.Answer.{Answer}
 use Rattle.rules.specs.declared.answers.Answer.TheVariants as Answers
-use Rattle.rules.specs.declared.answers.DayAnswer.{DayAnswer}
-use Rattle.rules.specs.declared.answers.DayAnswer.TheVariants as Days
 use Rattle.laws.specs.Buffer.{Wrote}
 use Rattle.laws.specs.Marks.{ones_of}
 use Rattle.laws.proofs.Buffer.{over_drop, over_front, over_rest, length_over}
-use Rattle.day.proofs.Answered.{refused_not_given, refused_day, accepted_day}
+use Rattle.day.proofs.Answered.{refused_not_given}
 use Rattle.marks.specs.declared.Marks.{Marks}
 use Rattle.plan_words.specs.Said.{says}
 use Rattle.plan_words.proofs.SaidLaws.{said_same, says_lefts}
@@ -155,24 +153,21 @@ module _ (day p : List ℕ) (a : IsAccepted day) {now : List ℕ} {words : ℕ} 
   not_refused e = omega (arith, ap length (sym (ap answer_values e) ∙ plan_answer_lem))
 
 -- the answer and the buffer of any day
-module _ (day : List ℕ) (judged : DayAnswer) (e : day_values judged ≡ judge_day day) where
-  module _ {number place : ℕ} (r : judged ≡ Days.Refused number place) where
-    not_given : is_given (judge_day day) ≡ false
-    not_given = refused_not_given day (refused_day day judged e r)
-
+module _ (day : List ℕ) where
+  module _ {number place : ℕ} (same : refused number place ≡ judge_day day) where
     pub refused_answer : (room : ℕ) → refused number place ≡ build_answer day room
     unfolding build_answer
-    refused_answer room = rw not_given (refused_day day judged e r)
+    refused_answer room = rw (refused_not_given day same) same
 
     pub refused_buffer : (plan : List ℕ) → plan ≡ build_buffer day plan
     unfolding build_buffer
-    refused_buffer plan = rw not_given
+    refused_buffer plan = rw (refused_not_given day same)
 
-  module _ {n d : ℕ} (a : judged ≡ Days.Accepted n d) where
+  module _ (accepted : IsAccepted day) where
     pub accepted_answer : (room : ℕ) (answer : List ℕ) → answer ≡ built_answer day room → answer ≡ build_answer day room
     unfolding build_answer
-    accepted_answer room answer h = rw (← accepted_day day judged e a) h
+    accepted_answer room answer h = rw accepted h
 
     pub accepted_buffer : (plan now : List ℕ) → now ≡ built_buffer day plan → now ≡ build_buffer day plan
     unfolding build_buffer
-    accepted_buffer plan now h = rw (← accepted_day day judged e a) h
+    accepted_buffer plan now h = rw accepted h

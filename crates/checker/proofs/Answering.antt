@@ -6,24 +6,21 @@ use denote.Enum.Declared.{tag_of}
 use Rattle.rules.specs.contracts.faults.PlanFault.{the_type}
 use Rattle.rules.specs.Answers.{refused}
 use Rattle.rules.specs.DayFile.{judge_day}
+use Rattle.rules.specs.Fields.{IsAccepted}
 use Rattle.rules.specs.Check.{check_words, check_plan}
-use Rattle.rules.specs.AnswerValues.{day_values}
 use Rattle.rules.specs.Faults.{plan_fault_number}
 use Rattle.rules.specs.declared.faults.PlanFault.{PlanFault}
 use Rattle.rules.specs.declared.faults.PlanFault.TheVariants as Faults
-use Rattle.rules.specs.declared.answers.DayAnswer.{DayAnswer}
-use Rattle.rules.specs.declared.answers.DayAnswer.TheVariants as Days
-use Rattle.day.proofs.Answered.{refused_not_given, refused_day, accepted_day}
+use Rattle.day.proofs.Answered.{refused_not_given}
 
-module _ (day plan : List ℕ) (judged : DayAnswer) (e : day_values judged ≡ judge_day day) where
-  pub day_refused : {number place : ℕ} → judged ≡ Days.Refused number place → refused number place ≡ check_plan day plan
+module _ (day plan : List ℕ) where
+  pub day_refused : {number place : ℕ} → refused number place ≡ judge_day day → refused number place ≡ check_plan day plan
   unfolding check_plan
-  day_refused r = let same = refused_day day judged e r in rw (refused_not_given day same) same
+  day_refused same = rw (refused_not_given day same) same
 
-  pub day_accepted : {n d : ℕ} → judged ≡ Days.Accepted n d → {seen : List ℕ} → seen ≡ day → (answer : List ℕ) → answer ≡ check_words seen plan
-      → answer ≡ check_plan day plan
+  pub day_accepted : IsAccepted day → {laid : List ℕ} → laid ≡ day → (answer : List ℕ) → answer ≡ check_words laid plan → answer ≡ check_plan day plan
   unfolding check_plan
-  day_accepted a same answer h = rw (← accepted_day day judged e a) (rw same at h)
+  day_accepted accepted same answer h = rw accepted (rw same at h)
 
 -- a fault as a number is its refusal's
 pub fault_told : (f : PlanFault) → tag_of the_type f + 7 ≡ plan_fault_number f

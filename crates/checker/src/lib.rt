@@ -9,7 +9,8 @@ ghost use Rattle.rules.specs.AnswerValues.{answer_values};
 
 use crate::run::check_words;
 use day::days::Day;
-use rules::answers::{Answer, DayAnswer};
+use judge::{Refused, lay_out};
+use rules::answers::Answer;
 
 // The answer on a plan of a day that is laid out: for callers that check many plans of one accepted day.
 pub fn check_laid_out(day: &Day, plan: &[u32]) -> Answer
@@ -28,8 +29,8 @@ pub fn check_laid_out(day: &Day, plan: &[u32]) -> Answer
 pub fn check(day: &[u32], plan: &[u32]) -> Answer
     ensures { answer_values result ≡ check_plan day.now plan.now }
 {
-    match judge::judge(day) {
-        DayAnswer::Accepted { .. } => check_laid_out(&Day::new(day), plan),
-        DayAnswer::Refused { number, place } => Answer::Refused { number, place },
+    match lay_out(day) {
+        Ok(laid) => check_laid_out(&laid, plan),
+        Err(Refused { number, place }) => Answer::Refused { number, place },
     }
 }

@@ -13,9 +13,6 @@ use Rattle.rules.specs.Tests.{neb}
 use Rattle.rules.specs.Answers.{given, refused, is_given}
 use Rattle.rules.specs.DayFile.{tips_in, stops_in, words_of, form_at, fault_of, judge_from, judge_sized, judge_day}
 use Rattle.rules.specs.Fields.{word_at, tips, stops, IsAccepted}
-use Rattle.rules.specs.AnswerValues.{day_values}
-use Rattle.rules.specs.declared.answers.DayAnswer.{DayAnswer}
-use Rattle.rules.specs.declared.answers.DayAnswer.TheVariants as Days
 use Rattle.laws.proofs.Answering.{Answering, values, refusal, answering_if, answering_fault, refusal_not_given}
 use Rattle.laws.proofs.Tests.{only_first, only_second}
 
@@ -106,21 +103,6 @@ given_faultless day n d e =
 -- the stops and tips that the answer carries are the day's
 pub given_accepted : (day : List ℕ) {n d : ℕ} → given (n ∷ d ∷ []) ≡ judge_day day → IsAccepted day
 given_accepted day {n} {d} e = let f = given_faultless day n d (sym e) in sym e ∙ rw (f.tips_are, f.stops_are)
-
--- the same by the answer that the code gives
-module _ (day : List ℕ) (judged : DayAnswer) (e : day_values judged ≡ judge_day day) where
-  pub refused_day : {number place : ℕ} → judged ≡ Days.Refused number place → refused number place ≡ judge_day day
-  refused_day r = sym (ap day_values r) ∙ e
-
-  module _ {n d : ℕ} (a : judged ≡ Days.Accepted n d) where
-    pub accepted_day : given (n ∷ d ∷ []) ≡ judge_day day
-    accepted_day = sym (ap day_values a) ∙ e
-
-    pub is_accepted : IsAccepted day
-    is_accepted = given_accepted day accepted_day
-
-    pub accepted_long : length day ≡ words_of (tips day) (stops day)
-    accepted_long = let f = given_faultless day n d (sym accepted_day) in f.long ∙ rw (f.tips_are, f.stops_are)
 
 pub judged_accepted : (day : List ℕ) → is_given (judge_day day) ≡ true → IsAccepted day
 judged_accepted day g = go (day_judged day) refl g

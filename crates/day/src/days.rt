@@ -55,6 +55,14 @@ impl<'a> Day<'a> {
         }
     }
 
+    // All words of the day.
+    pub fn words(&self) -> &[u32]
+        ensures same { result.now ≡ self.now }
+        ensures long { length self.now ≡ words_of (tips self.now) (stops self.now) }
+    {
+        self.words
+    }
+
     // How many stops there are.
     pub fn stops(&self) -> usize
         ensures count { result ≡ stops self.now }

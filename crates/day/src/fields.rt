@@ -6,7 +6,7 @@ ghost use Rattle.day.specs.Layout.{LayoutOf};
 
 // How many stops, tips and places a day has, and where its legs begin.
 #[derive(Clone, Copy)]
-pub struct Layout {
+pub(crate) struct Layout {
     pub stops: usize,
     pub tips: usize,
     pub places: usize,

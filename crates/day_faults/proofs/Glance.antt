@@ -10,12 +10,12 @@ use lib.Seq.{length-take-le}
 use lib.Dec.{eqb, leb}
 use borrow.Author.Tests.{eqb-true, leb-true}
 use Rattle.std.proofs.lemmas.List.{get_or-take, get_or-drop}
-use Rattle.rules.specs.DayFile.{leg, stay, places_of, fault_of}
+use Rattle.rules.specs.DayFile.{leg, stay, words_of, fault_of}
+use Rattle.rules.specs.Fields.{tips, stops, places}
 use Rattle.laws.proofs.Tests.{both_true}
 use Rattle.day.proofs.WordFaults.{leg_in_range, stay_right}
 use Rattle.day_faults.specs.Judging.{judged_from, row_at}
 use Rattle.day_faults.specs.Rows.{is_leg, InRange, RowRight}
-use Rattle.day_faults.specs.declared.sized.SizedDay.{SizedDay}
 use Rattle.day_faults.proofs.Judged.{leg_judged, row_inside, row_next}
 
 -- a fold that is right was right before, and finds each word in range
@@ -35,18 +35,18 @@ pub fold_in_range : (row : List ℕ) → fold (λ right word. right && is_leg wo
 fold_in_range row e = record { least = λ k h. (fold_range row true e k h).0; most = λ k h. (fold_range row true e k h).1 }
 
 -- the legs from a place
-abbrev row_of : SizedDay → ℕ → List ℕ
-row_of day from = take (places_of day.tips day.stops) (drop (row_at day from) day.words.now)
+abbrev row_of : List ℕ → ℕ → List ℕ
+row_of day from = take (places day) (drop (row_at day from) day)
 
-module _ (day : SizedDay) (from : ℕ) (h : from < places_of day.tips day.stops) (right : RowRight (row_of day from) from) where
-  row_long : length (row_of day from) ≡ places_of day.tips day.stops
-  row_long = length-take-le (places_of day.tips day.stops) (drop (row_at day from) day.words.now) (simp length-drop (omega (arith, row_inside day from h)))
+module _ (day : List ℕ) (from : ℕ) (long : length day ≡ words_of (tips day) (stops day)) (h : from < places day) (right : RowRight (row_of day from) from) where
+  row_long : length (row_of day from) ≡ places day
+  row_long = length-take-le (places day) (drop (row_at day from) day) (simp length-drop (omega (arith, row_inside day day from refl long h)))
 
-  row_word : (to : ℕ) → to < places_of day.tips day.stops → get_or (row_of day from) to 0 ≡ get_or day.words.now (row_at day from + to) 0
-  row_word to l = get_or-take (places_of day.tips day.stops) (drop (row_at day from) day.words.now) to 0 l ∙ get_or-drop (row_at day from) day.words.now to 0
+  row_word : (to : ℕ) → to < places day → get_or (row_of day from) to 0 ≡ get_or day (row_at day from + to) 0
+  row_word to l = get_or-take (places day) (drop (row_at day from) day) to 0 l ∙ get_or-drop (row_at day from) day to 0
 
   -- no leg has a fault
-  leg_right : (to : ℕ) → to < places_of day.tips day.stops → fault_of (if eqb from to then stay else leg) (get_or day.words.now (row_at day from + to) 0) ≡ 0
+  leg_right : (to : ℕ) → to < places day → fault_of (if eqb from to then stay else leg) (get_or day (row_at day from + to) 0) ≡ 0
   leg_right to l = rw (← row_word to l) (go (eqb from to) refl)
     where
       go : (own : Bool) → eqb from to ≡ own → fault_of (if own then stay else leg) (get_or (row_of day from) to 0) ≡ 0
@@ -55,21 +55,20 @@ module _ (day : SizedDay) (from : ℕ) (h : from < places_of day.tips day.stops)
           rw still (sym (stay_right 2415919104 refl refl))
       go false e = sym (leg_in_range _ (right.legs.least to (omega (arith, row_long))) (right.legs.most to (omega (arith, row_long))))
 
-  row_passes : (m to : ℕ) → to + m ≡ places_of day.tips day.stops → judged_from day (row_at day from + to) ≡ judged_from day (row_at day from + places_of day.tips day.stops)
+  row_passes : (m to : ℕ) → to + m ≡ places day → judged_from day (row_at day from + to) ≡ judged_from day (row_at day from + places day)
   row_passes zero to e = ap (λ (k : ℕ). judged_from day (row_at day from + k)) (omega arith)
   row_passes (suc m) to e =
       let next : row_at day from + to + 1 ≡ row_at day from + (to + 1) = omega arith in
-      leg_judged day from to (row_at day from) (Ok tt) (Ok tt) (sym (leg_right to (omega arith))) refl refl h (omega arith)
+      leg_judged day day from to (row_at day from) (Ok tt) (Ok tt) (sym (leg_right to (omega arith))) refl refl refl long h (omega arith)
       ∙ ap (judged_from day) next ∙ row_passes m (to + 1) (omega arith)
 
   all_pass : judged_from day (row_at day from) ≡ judged_from day (row_at day (from + 1))
   all_pass =
       let first : row_at day from ≡ row_at day from + 0 = omega arith in
-      ap (judged_from day) first ∙ row_passes (places_of day.tips day.stops) 0 (omega arith) ∙ ap (judged_from day) (row_next day from)
+      ap (judged_from day) first ∙ row_passes (places day) 0 (omega arith) ∙ ap (judged_from day) (row_next day from)
 
-pub glance_passes : {right : Bool} (day : SizedDay) (from start places : ℕ) → (right ≡ true → RowRight (take (start + places - start) (drop start day.words.now)) from)
-    → right ≡ true → start ≡ row_at day from → places ≡ places_of day.tips day.stops → from < places_of day.tips day.stops
-    → judged_from day (row_at day from) ≡ judged_from day (row_at day (from + 1))
-glance_passes day from start places g t e q h =
-    let long : start + places - start ≡ places_of day.tips day.stops = omega (arith, q) in
-    all_pass day from h (rw (long, e) at (g t))
+pub glance_passes : (day words : List ℕ) (from start wide : ℕ) → RowRight (take (start + wide - start) (drop start words)) from → start ≡ row_at day from → wide ≡ places day
+    → words ≡ day → length day ≡ words_of (tips day) (stops day) → from < places day → judged_from day (row_at day from) ≡ judged_from day (row_at day (from + 1))
+glance_passes day words from start wide right e q same long h =
+    let row : start + wide - start ≡ places day = omega (arith, q) in
+    all_pass day from long h (rw (row, e, same) at right)

@@ -1,7 +1,7 @@
 // What is wrong with one word of a day, and the first fault of a part of it: its head, its tips, its stops, its legs.
 #![tactic(auto)]
 
-mod legs;
-mod parts;
-pub mod sized;
+pub mod faults;
+pub mod legs;
+pub mod parts;
 mod words;

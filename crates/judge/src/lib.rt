@@ -1,13 +1,19 @@
 // A day judged: accepted, or refused at its first word at fault.
 #![tactic(auto)]
 
-ghost use Rattle.std.specs.Prelude.{◌≡◌};
+ghost use Rattle.std.specs.Prelude.{◌≡◌, MatchResult};
+ghost use Rattle.rules.specs.Answers.{refused};
 ghost use Rattle.rules.specs.DayFile.{judge_day};
+ghost use Rattle.rules.specs.Fields.{IsAccepted};
 ghost use Rattle.rules.specs.AnswerValues.{day_values};
-ghost use Rattle.judge.specs.Refusals.{sized_values, judged_values};
+ghost use Rattle.day_faults.specs.Judging.{judged_from};
+ghost use Rattle.judge.specs.Refusals.{refusal_values};
 ghost use Rattle.judge.specs.declared.Refusal.TheVariants.{Word};
 
-use day_faults::sized::{Fault, SizedDay};
+use day::days::Day;
+use day_faults::faults::Fault;
+use day_faults::legs::check_legs;
+use day_faults::parts::{check_head, check_stops, check_tips};
 use rules::answers::DayAnswer;
 use rules::faults::DayFault;
 
@@ -28,10 +34,17 @@ impl From<Fault> for Refusal {
     }
 }
 
+// The number and the place of a refusal.
+#[derive(Clone, Copy)]
+pub struct Refused {
+    pub number: u32,
+    pub place: usize,
+}
+
 // The day, where its length is right for what word 0 says: kind 1 in bits 31-28, zeros in bits 27-12, d in bits 11-8, n in bits 7-0.
 #[tactic(auto, unfolding(rules::specs::DayFile::judge_day, rules::specs::DayFile::judge_sized, day_faults::specs::Judging::judged_from))]
-fn sized(day: &[u32]) -> Result<SizedDay<'_>, Refusal>
-    ensures { sized_values day.now result ≡ judge_day day.now }
+fn sized(day: &[u32]) -> Result<Day<'_>, Refusal>
+    ensures { MatchResult result (λ laid. (laid ≡ day.now) × (judged_from laid 1 ≡ judge_day day.now)) (λ refusal. refusal_values day.now refusal ≡ judge_day day.now) }
 {
     if day.len() < 7 {
         return Err(Refusal::Short);
@@ -52,50 +65,56 @@ fn sized(day: &[u32]) -> Result<SizedDay<'_>, Refusal>
     if day.len() != 7 + 2 * tips + 3 * stops + places * places {
         return Err(Refusal::Length);
     }
-    Ok(SizedDay {
-        words: day,
-        tips,
-        stops,
-    })
+    Ok(Day::new(day))
 }
 
 // The day, where no word is at fault.
 #[tactic(auto, using(day_faults::proofs::Judged::end_judged))]
-fn judged(day: &[u32]) -> Result<SizedDay<'_>, Refusal>
-    ensures { judged_values day.now result ≡ judge_day day.now }
+fn judged(day: &[u32]) -> Result<Day<'_>, Refusal>
+    ensures { MatchResult result (λ laid. (laid ≡ day.now) × IsAccepted day.now) (λ refusal. refusal_values day.now refusal ≡ judge_day day.now) }
 {
     let day = sized(day)?;
-    day.check_head()?;
-    day.check_tips()?;
-    day.check_stops()?;
-    day.check_legs()?;
+    check_head(&day)?;
+    check_tips(&day)?;
+    check_stops(&day)?;
+    check_legs(&day)?;
     Ok(day)
+}
+
+// A day of any words and any length, laid out where it is accepted, or else its refusal's number and place.
+pub fn lay_out(day: &[u32]) -> Result<Day<'_>, Refused>
+    ensures { MatchResult result (λ laid. (laid ≡ day.now) × IsAccepted day.now) (λ refusal. refused refusal.number refusal.place ≡ judge_day day.now) }
+{
+    match judged(day) {
+        Ok(laid) => Ok(laid),
+        Err(Refusal::Short) => Err(Refused {
+            number: 1,
+            place: day.len(),
+        }),
+        Err(Refusal::Sizes) => Err(Refused {
+            number: 3,
+            place: 0,
+        }),
+        Err(Refusal::Length) => Err(Refused {
+            number: 4,
+            place: day.len(),
+        }),
+        Err(Refusal::Word(Fault { fault, place })) => Err(Refused {
+            number: fault as u32,
+            place,
+        }),
+    }
 }
 
 // A day of any words and any length is accepted, or refused by 1 to 5.
 pub fn judge(day: &[u32]) -> DayAnswer
     ensures { day_values result ≡ judge_day day.now }
 {
-    match judged(day) {
-        Ok(SizedDay { tips, stops, .. }) => DayAnswer::Accepted {
-            stops: stops as u32,
-            tips: tips as u32,
+    match lay_out(day) {
+        Ok(laid) => DayAnswer::Accepted {
+            stops: laid.stops() as u32,
+            tips: laid.tips() as u32,
         },
-        Err(Refusal::Short) => DayAnswer::Refused {
-            number: 1,
-            place: day.len(),
-        },
-        Err(Refusal::Sizes) => DayAnswer::Refused {
-            number: 3,
-            place: 0,
-        },
-        Err(Refusal::Length) => DayAnswer::Refused {
-            number: 4,
-            place: day.len(),
-        },
-        Err(Refusal::Word(Fault { fault, place })) => DayAnswer::Refused {
-            number: fault as u32,
-            place,
-        },
+        Err(Refused { number, place }) => DayAnswer::Refused { number, place },
     }
 }

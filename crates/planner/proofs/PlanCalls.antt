@@ -18,16 +18,14 @@ use Rattle.rules.specs.Plan.{Round, plan_words}
 use Rattle.rules.specs.Build.{greedy_rounds, greedy_lefts, greedy_plan}
 use Rattle.rules.specs.Attempts.{distance_of}
 use Rattle.rules.specs.Search.{Result, searched, growing_sets}
-use Rattle.rules.specs.AnswerValues.{day_values, plan_values}
+use Rattle.rules.specs.AnswerValues.{plan_values}
 use Rattle.rules.specs.Planned.{built_answer, planned, built_buffer, few_neighbours, long_enough, result_values, SpareKept}
 use Rattle.rules.specs.Planned.{search_answer, search_buffer, plan_answer, plan_buffer, growing_answer, growing_buffer}
-use Rattle.rules.specs.declared.answers.DayAnswer.{DayAnswer}
-use Rattle.rules.specs.declared.answers.DayAnswer.TheVariants as Days
 use Rattle.rules.specs.declared.answers.PlanAnswer.{PlanAnswer}
 use Rattle.rules.specs.declared.answers.PlanAnswer.TheVariants as Plans
 use Rattle.laws.proofs.Buffer.{over_drop}
 use Rattle.laws.proofs.Tests.{both_true}
-use Rattle.day.proofs.Answered.{refused_not_given, refused_day}
+use Rattle.day.proofs.Answered.{refused_not_given}
 use Rattle.day.proofs.Ranges.{accepted_ranges}
 use Rattle.greedy_laws.proofs.GreedyRoom.{greedy_room}
 use Rattle.trial_list.proofs.Shapes.{greedy_shaped}
@@ -234,11 +232,7 @@ module _ (day : List ℕ) (ok : IsAccepted day) (budget spare : ℕ) (plan : Lis
   growing_spare h = rw ok h
 
 -- on a day that is refused
-module _ (day : List ℕ) (budget spare : ℕ) (plan : List ℕ) {judged : DayAnswer} (e : day_values judged ≡ judge_day day) {number place : ℕ}
-    (r : judged ≡ Days.Refused number place) where
-  same : refused number place ≡ judge_day day
-  same = refused_day day judged e r
-
+module _ (day : List ℕ) (budget spare : ℕ) (plan : List ℕ) {number place : ℕ} (same : refused number place ≡ judge_day day) where
   pub refused_plan_answer : (K : ℕ) → refused number place ≡ plan_answer day K budget (length plan) spare
   unfolding plan_answer
   refused_plan_answer K = rw (refused_not_given day same) same

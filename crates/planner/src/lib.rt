@@ -9,17 +9,17 @@ ghost use Rattle.rules.specs.Planned.{build_answer, build_buffer, plan_answer, p
 
 use crate::accepted::{grow_accepted, plan_accepted};
 use builder::greedy::build_accepted;
-use day::days::Day;
-use rules::answers::{DayAnswer, PlanAnswer};
+use judge::{Refused, lay_out};
+use rules::answers::PlanAnswer;
 
 // The greedy plan of any day, in a buffer of any length.
 pub fn build(day: &[u32], plan: &mut [u32]) -> PlanAnswer
     ensures answer { plan_values result ≡ build_answer day.now (length plan.old) }
     ensures buffer { plan.new ≡ build_buffer day.now plan.old }
 {
-    match judge::judge(day) {
-        DayAnswer::Accepted { .. } => { build_accepted(&Day::new(day), plan) }
-        DayAnswer::Refused { number, place } => PlanAnswer::Refused { number, place },
+    match lay_out(day) {
+        Ok(laid) => { build_accepted(&laid, plan) }
+        Err(Refused { number, place }) => PlanAnswer::Refused { number, place },
     }
 }
 
@@ -29,15 +29,12 @@ pub fn plan(day: &[u32], k: u64, budget: u64, plan: &mut [u32], work: &mut [u32]
     ensures buffer { plan.new ≡ plan_buffer day.now k budget (length work.old) plan.old }
     ensures spare { SpareKept (plan_answer day.now k budget (length plan.old) (length work.old)) work.old work.new }
 {
-    match judge::judge(day) {
-        DayAnswer::Accepted { .. } => { plan_accepted(&Day::new(day), k, budget, plan, work) }
-        DayAnswer::Refused {
-            number,
-            place: word,
-        } => {
+    match lay_out(day) {
+        Ok(laid) => { plan_accepted(&laid, k, budget, plan, work) }
+        Err(refusal) => {
             PlanAnswer::Refused {
-                number,
-                place: word,
+                number: refusal.number,
+                place: refusal.place,
             }
         }
     }
@@ -49,15 +46,12 @@ pub fn plan_growing(day: &[u32], budget: u64, plan: &mut [u32], work: &mut [u32]
     ensures buffer { plan.new ≡ growing_buffer day.now budget (length work.old) plan.old }
     ensures spare { SpareKept (growing_answer day.now budget (length plan.old) (length work.old)) work.old work.new }
 {
-    match judge::judge(day) {
-        DayAnswer::Accepted { .. } => { grow_accepted(&Day::new(day), budget, plan, work) }
-        DayAnswer::Refused {
-            number,
-            place: word,
-        } => {
+    match lay_out(day) {
+        Ok(laid) => { grow_accepted(&laid, budget, plan, work) }
+        Err(refusal) => {
             PlanAnswer::Refused {
-                number,
-                place: word,
+                number: refusal.number,
+                place: refusal.place,
             }
         }
     }

@@ -1,17 +1,12 @@
 -- `planner::plan` meets its contract.
-use Rattle.day.proofs.Answered.{is_accepted, accepted_long}
 use Rattle.planner.proofs.PlanCalls.{refused_plan_answer, refused_plan_buffer}
-use borrow.Author.Rules.{rules}
 use Rattle.planner.proofs.plan.Goals as goal
 
-pub new-requires : goal.new-requires
-new-requires c = search accepted_long
-
 pub plan_accepted-requires : goal.plan_accepted-requires
-plan_accepted-requires c = rw c.new.ensures (search is_accepted)
+plan_accepted-requires c = let laid = rw c.in-Ok.is at c.lay_out.ensures in rw laid.0 laid.1
 
-pub returns-in-Refused-clause-answer : goal.returns-in-Refused-clause-answer
-returns-in-Refused-clause-answer c = search refused_plan_answer
+pub returns-in-Err-clause-answer : goal.returns-in-Err-clause-answer
+returns-in-Err-clause-answer c = refused_plan_answer _ _ _ _ (rw c.in-Err.is at c.lay_out.ensures) _
 
-pub returns-in-Refused-clause-buffer : goal.returns-in-Refused-clause-buffer
-returns-in-Refused-clause-buffer c = search refused_plan_buffer
+pub returns-in-Err-clause-buffer : goal.returns-in-Err-clause-buffer
+returns-in-Err-clause-buffer c = refused_plan_buffer _ _ _ _ (rw c.in-Err.is at c.lay_out.ensures) _

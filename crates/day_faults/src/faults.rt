@@ -1,17 +1,7 @@
-// A day whose length is right for its tips and stops, and the first of its words at fault.
+// A fault of a day: what is wrong with a word, and where the word stands.
 ghost use Rattle.std.specs.Prelude.{◌≡◌, MatchResult};
-ghost use Rattle.day_faults.specs.Whole.{Whole};
 
 use rules::faults::DayFault;
-
-// A day of the length that its tips and stops ask for.
-#[derive(Clone, Copy)]
-pub struct SizedDay<'a> {
-    pub words: &'a [u32],
-    pub tips: usize,
-    pub stops: usize,
-    ghost whole: { Whole words.now tips stops },
-}
 
 // What is wrong with a word, and where it stands.
 #[derive(Clone, Copy, PartialEq, Eq, Debug)]

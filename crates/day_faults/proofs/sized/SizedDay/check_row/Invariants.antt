@@ -1,7 +1,0 @@
--- `day_faults::sized::SizedDay::check_row` meets its contract: the answer from the row's start on is that from the next leg on.
-use Rattle.std.proofs.Common.{◌≡◌, ◌+◌}
-use Rattle.day_faults.specs.Judging.{judged_from, row_at}
-use Rattle.day_faults.proofs.sized.SizedDay.check_row.Given as goal
-
-abbrev pub invariant-loop-to : goal.invariant-loop-to
-invariant-loop-to l = judged_from l.self (row_at l.self l.from) ≡ judged_from l.self (row_at l.self l.from + l.to)

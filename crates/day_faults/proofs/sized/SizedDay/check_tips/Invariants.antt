@@ -1,7 +1,0 @@
--- `day_faults::sized::SizedDay::check_tips` meets its contract: the answer from the tips on is that from the next tip on.
-use Rattle.std.proofs.Common.{◌≡◌, ◌+◌, ◌*◌}
-use Rattle.day_faults.specs.Judging.{judged_from}
-use Rattle.day_faults.proofs.sized.SizedDay.check_tips.Given as goal
-
-abbrev pub invariant-loop-tip : goal.invariant-loop-tip
-invariant-loop-tip l = judged_from l.self 7 ≡ judged_from l.self (7 + 2 * l.tip)
