@@ -14,7 +14,7 @@ use day::days::Day;
 use marks::Marks;
 use rules::walk::{Cargo, Trip};
 use trips::cargo::load_on;
-use trips::limits::{day_limits, exceeds};
+use trips::limits::LimitedDay;
 use ways_home::best::{Best, NO_KEY};
 use ways_home::ways::{after_stop, is_way_home};
 
@@ -84,7 +84,7 @@ impl<'a> Choice<'a> {
         ensures { result ≡ not (over_limits self.now.day.now (taking self.now.day.now self.now.cargo stop)) }
     {
         let more = load_on(self.cargo, self.day.stop_quantity(stop));
-        !exceeds(self.day, day_limits(self.day), more)
+        !LimitedDay::new(self.day).is_over(more)
     }
 
     // Whether a stop, which fits, leaves a way home, where its service starts by its closing.

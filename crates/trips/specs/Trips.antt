@@ -1,6 +1,6 @@
 -- What a word does to the counts, a drive, and how large each can get. It serves the contracts of this crate's own functions; no definition
 -- of the check rests on it. Assumes nothing.
-use Rattle.std.specs.Prelude.{ℕ, ◌*◌, ◌<◌, ◌≤◌, ◌≡◌, false, List}
+use Rattle.std.specs.Prelude.{ℕ, ◌+◌, ◌*◌, ◌<◌, ◌≤◌, ◌≡◌, false, List}
 use Rattle.rules.specs.Fields.{places, load_limit, day_limit, stop_limit}
 use Rattle.rules.specs.declared.walk.Cargo.{Cargo}
 use Rattle.rules.specs.declared.walk.Tally.{Tally}
@@ -17,17 +17,16 @@ pub record CargoWithin (c : Cargo) : Type 0 where
   pub kg : c.kg < 134217728
   pub visits : c.visits < 134217728
 
--- a trip is at a place of the day, and small after so many words
-pub record TripWithin (day : List ℕ) (i : ℕ) (t : Trip) : Type 0 where
-  pub place : t.place < places day
-  pub minute : t.minute < 268435456
-  pub distance : t.distance ≤ 65535 * i
-
--- a trip is at a place of the day, at a small minute, and its distance is below a number
+-- a trip is at a place of the day, at a small minute, and its distance is below a number: 4294901760 where one leg more has to fit into
+-- 32 bits; 2147483648 of a vehicle on its way, whose next task is looked at with the tip behind it, which is two legs
 pub record SmallTrip (day : List ℕ) (most : ℕ) (t : Trip) : Type 0 where
   pub place : t.place < places day
   pub minute : t.minute < 268435456
   pub distance : t.distance < most
+
+-- and after so many words: each of them adds one leg at most
+abbrev pub TripWithin : List ℕ → ℕ → Trip → Type 0
+TripWithin day i = SmallTrip day (65535 * i + 1)
 
 -- the counts after so many words
 pub record TallyWithin (i : ℕ) (y : Tally) : Type 0 where

@@ -1,10 +1,10 @@
 // Where and when a vehicle is, at its earliest minutes.
 ghost use Rattle.std.specs.Prelude.{◌≡◌, ◌<◌, ◌≤◌, not, ◌&&◌, ltb};
-ghost use Rattle.rules.specs.Fields.{tips, stops, places, stop_place, closing, rest_closing};
+ghost use Rattle.rules.specs.Fields.{tips, stops, stop_place, closing, rest_closing};
 ghost use Rattle.rules.specs.Trip.{leaving, arrival, visit_start, driven, visited, rested_at, visit_fault, rest_fault, back_fault};
 ghost use Rattle.day.specs.Layout.{VisitOf};
 ghost use Rattle.trips.specs.Drives.{DrivesTo};
-ghost use Rattle.trips.specs.Trips.{TripWithin};
+ghost use Rattle.trips.specs.Trips.{SmallTrip};
 
 use day::days::Day;
 use day::fields::Visit;
@@ -37,8 +37,7 @@ pub fn same_trip(trip: Trip) -> Trip
 
 // The trip behind a visit, whether it is in time or not.
 pub fn visited_trip(day: &Day, trip: Trip, visit: Visit) -> Trip
-    requires trip { (trip.place < places day.now) × (trip.minute < 268435456) × (trip.distance < 4294901760) }
-    requires visit { VisitOf day.now visit }
+    requires { SmallTrip day.now 4294901760 trip × VisitOf day.now visit }
     ensures { result ≡ visited day.now trip visit.place }
 {
     let leg = day.leg(trip.place, visit.place);
@@ -52,7 +51,7 @@ pub fn visited_trip(day: &Day, trip: Trip, visit: Visit) -> Trip
 
 // Whether a visit starts after its closing.
 fn is_late(day: &Day, trip: Trip, visit: Visit) -> bool
-    requires { TripWithin day.now 4096 trip × VisitOf day.now visit }
+    requires { SmallTrip day.now 4294901760 trip × VisitOf day.now visit }
     ensures { result ≡ ltb (closing day.now visit.place) (visit_start day.now trip visit.place) }
 {
     let leg = day.leg(trip.place, visit.place);
@@ -61,7 +60,7 @@ fn is_late(day: &Day, trip: Trip, visit: Visit) -> bool
 
 // The trip behind a visit that must be in time.
 fn in_time(day: &Day, trip: Trip, visit: Visit) -> Result<Trip, PlanFault>
-    requires { TripWithin day.now 4096 trip × VisitOf day.now visit }
+    requires { SmallTrip day.now 4294901760 trip × VisitOf day.now visit }
     ensures { DrivesTo (visit_fault day.now trip visit.place) (visited day.now trip visit.place) result }
 {
     if is_late(day, trip, visit) {
@@ -72,7 +71,7 @@ fn in_time(day: &Day, trip: Trip, visit: Visit) -> Result<Trip, PlanFault>
 
 // To a stop.
 pub fn visit_stop(day: &Day, trip: Trip, stop: usize) -> Result<Trip, PlanFault>
-    requires { TripWithin day.now 4096 trip × (0 < stop) × (stop ≤ stops day.now) }
+    requires { SmallTrip day.now 4294901760 trip × (0 < stop) × (stop ≤ stops day.now) }
     ensures { DrivesTo (visit_fault day.now trip (stop_place day.now stop)) (visited day.now trip (stop_place day.now stop)) result }
 {
     in_time(day, trip, day.stop_visit(stop))
@@ -80,7 +79,7 @@ pub fn visit_stop(day: &Day, trip: Trip, stop: usize) -> Result<Trip, PlanFault>
 
 // To a tip.
 pub fn visit_tip(day: &Day, trip: Trip, tip: usize) -> Result<Trip, PlanFault>
-    requires { TripWithin day.now 4096 trip × (0 < tip) × (tip ≤ tips day.now) }
+    requires { SmallTrip day.now 4294901760 trip × (0 < tip) × (tip ≤ tips day.now) }
     ensures { DrivesTo (visit_fault day.now trip tip) (visited day.now trip tip) result }
 {
     in_time(day, trip, day.tip_visit(tip))
@@ -88,7 +87,7 @@ pub fn visit_tip(day: &Day, trip: Trip, tip: usize) -> Result<Trip, PlanFault>
 
 // A rest where the vehicle is; it may not be a second one, nor begin too late.
 pub fn rest(day: &Day, trip: Trip) -> Result<Trip, PlanFault>
-    requires { TripWithin day.now 4096 trip }
+    requires { SmallTrip day.now 4294901760 trip }
     ensures { DrivesTo (rest_fault day.now trip) (rested_at day.now trip) result }
 {
     if trip.rested {
@@ -115,7 +114,7 @@ fn is_unrested(day: &Day, rested: bool, minute: u32) -> bool
 
 // Back to the depot, in time, and in time for a rest there where the vehicle had none.
 pub fn back(day: &Day, trip: Trip) -> Result<Trip, PlanFault>
-    requires { TripWithin day.now 4096 trip }
+    requires { SmallTrip day.now 4294901760 trip }
     ensures { DrivesTo (back_fault day.now trip) (driven day.now trip 0 (arrival day.now trip 0)) result }
 {
     let leg = day.leg(trip.place, 0);

@@ -21,7 +21,11 @@ impl<'a> LimitedDay<'a> {
     {
         LimitedDay {
             day,
-            limits: day_limits(day),
+            limits: Limits {
+                load: day.load_limit(),
+                kg: day.day_limit(),
+                visits: day.stop_limit(),
+            },
         }
     }
 
@@ -29,24 +33,7 @@ impl<'a> LimitedDay<'a> {
     pub fn is_over(&self, cargo: Cargo) -> bool
         ensures { result ≡ over_limits self.now.day.now cargo }
     {
-        exceeds(self.day, self.limits, cargo)
+        let limits = self.limits;
+        (limits.load < cargo.load) | (limits.kg < cargo.kg) | (limits.visits < cargo.visits)
     }
-}
-
-pub fn day_limits(day: &Day) -> Limits
-    ensures { LimitsOf day.now result }
-{
-    Limits {
-        load: day.load_limit(),
-        kg: day.day_limit(),
-        visits: day.stop_limit(),
-    }
-}
-
-// Over the load, the day's kg or the day's stops.
-pub fn exceeds(day: &Day, limits: Limits, cargo: Cargo) -> bool
-    requires { LimitsOf day.now limits }
-    ensures { result ≡ over_limits day.now cargo }
-{
-    (limits.load < cargo.load) | (limits.kg < cargo.kg) | (limits.visits < cargo.visits)
 }

@@ -3,12 +3,10 @@ ghost use Rattle.std.specs.Prelude.{◌≡◌, ◌<◌, ◌≤◌};
 ghost use Rattle.rules.specs.Fields.{tips, stops, places, stop_place};
 ghost use Rattle.rules.specs.Trip.{visited};
 ghost use Rattle.rules.specs.Home.{due, rest_if_due, home_direct, home_by_tip, way_home};
-ghost use Rattle.day.specs.Layout.{VisitOf};
 ghost use Rattle.trips.specs.Trips.{SmallTrip};
 
 use crate::nearest::nearest_tip;
 use day::days::Day;
-use day::fields::Visit;
 use rules::walk::Trip;
 use trips::drives::visited_trip;
 
@@ -35,20 +33,12 @@ pub fn rest_if_due(day: &Day, trip: Trip) -> Trip
     }
 }
 
-// After a visit that is known to be in time.
-fn after_visit(day: &Day, trip: Trip, visit: Visit) -> Trip
-    requires { SmallTrip day.now 4294901760 trip × VisitOf day.now visit }
-    ensures { result ≡ visited day.now trip visit.place }
-{
-    visited_trip(day, trip, visit)
-}
-
 // After the service of a stop.
 pub fn after_stop(day: &Day, trip: Trip, stop: usize) -> Trip
     requires { SmallTrip day.now 4294901760 trip × (0 < stop) × (stop ≤ stops day.now) }
     ensures { result ≡ visited day.now trip (stop_place day.now stop) }
 {
-    after_visit(day, trip, day.stop_visit(stop))
+    visited_trip(day, trip, day.stop_visit(stop))
 }
 
 // After the service of a tip.
@@ -56,7 +46,7 @@ pub fn after_tip(day: &Day, trip: Trip, tip: usize) -> Trip
     requires { SmallTrip day.now 4294901760 trip × (0 < tip) × (tip ≤ tips day.now) }
     ensures { result ≡ visited day.now trip tip }
 {
-    after_visit(day, trip, day.tip_visit(tip))
+    visited_trip(day, trip, day.tip_visit(tip))
 }
 
 // Whether the depot is reached in time, and in time for lunch.
