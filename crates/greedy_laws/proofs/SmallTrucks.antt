@@ -1,14 +1,14 @@
 -- The numbers of every vehicle that the build reaches are small, so that no sum of the code wraps: a stop or a tip is started by its
 -- closing and a rest by R2, so minutes are bounded afresh by each task, and loads by the day's limits.
 -- Assumes nothing.
-use Prim.Native.Nat.{ℕ, ◌*◌, ◌≤◌, ◌<◌}
+use Prim.Native.Nat.{ℕ}
 use mathlib.Core.Path.{◌≡◌}
 use mathlib.Core.Bool.{true, false, not}
 use mathlib.Core.List.{List, [], ◌∷◌}
 use native.Mathlib.Omega.{arith}
 use lib.ListN.{length, length-append}
 use borrow.Author.Tests.{not-true}
-use Rattle.rules.specs.Fields.{places, stop_place}
+use Rattle.rules.specs.Fields.{stop_place}
 use Rattle.rules.specs.Plan.{Task, serve, empty, lunch}
 use Rattle.rules.specs.Cargo.{over_limits, cargo_after}
 use Rattle.rules.specs.Trip.{visited}
@@ -18,7 +18,7 @@ use Rattle.rules.specs.Build.{Truck, fresh, doing, resting}
 use Rattle.rules.specs.declared.walk.Cargo.{Cargo}
 use Rattle.laws.proofs.Tests.{both_true}
 use Rattle.plan_laws.proofs.Theorems.{not_over}
-use Rattle.trips.specs.Trips.{CargoWithin}
+use Rattle.trips.specs.Trips.{CargoWithin, TripWithin}
 use Rattle.greedy_laws.specs.Reached.{Reached}
 use Rattle.greedy_laws.proofs.Driving.{reached_keeps, resting_keeps}
 use Rattle.greedy_laws.proofs.NextTasks.{IsNext, serves, empties}
@@ -26,24 +26,28 @@ use Rattle.greedy_laws.proofs.WaysHome.{due_true}
 
 -- a truck's trip and cargo are small, the distance by the tasks done
 pub record SmallTruck (day : List ℕ) (v : Truck) : Type 0 where
-  pub place : v.trip.place < places day
-  pub minute : v.trip.minute < 268435456
-  pub distance : v.trip.distance ≤ 65535 * length v.tasks
+  pub trip : TripWithin day (length v.tasks) v.trip
   pub cargo : CargoWithin v.cargo
 
 module _ (day : List ℕ) where
   small_fresh : (before : List ℕ) → SmallTruck day (fresh day before)
   small_fresh before =
-      record { place = omega arith; minute = omega arith; distance = omega arith; cargo = record { load = omega arith; kg = omega arith; visits = omega arith } }
+      record {
+        trip = record { place = omega arith; minute = omega arith; distance = omega arith };
+        cargo = record { load = omega arith; kg = omega arith; visits = omega arith };
+      }
 
   small_rest : (v : Truck) → due day v.trip ≡ true → SmallTruck day v → SmallTruck day (doing day v lunch)
   unfolding cargo_after
   small_rest v e h =
       let d = due_true day v.trip e in
       record {
-        place = h.place;
-        minute = omega (arith, d.opened, d.not_closed);
-        distance = omega (arith, h.distance, length-append v.tasks (lunch ∷ []));
+        trip =
+            record {
+              place = h.trip.place;
+              minute = omega (arith, d.opened, d.not_closed);
+              distance = omega (arith, h.trip.distance, length-append v.tasks (lunch ∷ []));
+            };
         cargo = h.cargo;
       }
 
@@ -59,16 +63,22 @@ module _ (day : List ℕ) where
       let next = taking day v.cargo k in
       let fits = both_true (not (over_limits day next)) (way_home day (visited day v.trip (stop_place day k)) next.load) s.suited in
       record {
-        place = omega (arith, c.within);
-        minute = omega (arith, s.start);
-        distance = omega (arith, h.distance, length-append v.tasks (serve k ∷ []));
+        trip =
+            record {
+              place = omega (arith, c.within);
+              minute = omega (arith, s.start);
+              distance = omega (arith, h.trip.distance, length-append v.tasks (serve k ∷ []));
+            };
         cargo = within_limits next (not-true _ fits.0);
       }
   small_next v task e (empties x l q o) h =
       record {
-        place = omega (arith, o.within);
-        minute = omega (arith, o.not_closed);
-        distance = omega (arith, h.distance, length-append v.tasks (empty x ∷ []));
+        trip =
+            record {
+              place = omega (arith, o.within);
+              minute = omega (arith, o.not_closed);
+              distance = omega (arith, h.trip.distance, length-append v.tasks (empty x ∷ []));
+            };
         cargo = record { load = omega arith; kg = h.cargo.kg; visits = h.cargo.visits };
       }
 

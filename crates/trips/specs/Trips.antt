@@ -24,7 +24,7 @@ pub record SmallTrip (day : List ℕ) (most : ℕ) (t : Trip) : Type 0 where
   pub minute : t.minute < 268435456
   pub distance : t.distance < most
 
--- and after so many words: each of them adds one leg at most
+-- and after so many words, or tasks: each of them adds one leg at most
 abbrev pub TripWithin : List ℕ → ℕ → Trip → Type 0
 TripWithin day i = SmallTrip day (65535 * i + 1)
 

@@ -74,9 +74,9 @@ left_unmarked day taken k m r h l g e u =
 truck_small : {day before : List ℕ} {s : State} (v : Truck) → s.trip ≡ v.trip → s.cargo ≡ v.cargo
     → SmallTruck day v → Routes day before v → Room v.tasks → SmallState day s
 truck_small {day} {before} v t c q r w =
-    let far : v.trip.distance < 2147483648 = omega (arith, q.distance, w.size, r.visits, routes_unmet day before v r, unmet_most (stops day) before) in
+    let far : v.trip.distance < 2147483648 = omega (arith, q.trip.distance, w.size, r.visits, routes_unmet day before v r, unmet_most (stops day) before) in
     record {
-      trip = subst (SmallTrip day 2147483648) (sym t) (record { place = q.place; minute = q.minute; distance = far });
+      trip = subst (SmallTrip day 2147483648) (sym t) (record { place = q.trip.place; minute = q.trip.minute; distance = far });
       cargo = subst CargoWithin (sym c) q.cargo;
     }
 
