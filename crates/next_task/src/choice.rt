@@ -67,7 +67,8 @@ impl Search for Waiting {
     }
 }
 
-// A vehicle before its next task, with small numbers; what it does then is in `tasks`.
+// A vehicle before its next task, with small numbers; what it does then is in `tasks`. `next_task` makes it of its parts and asks that they be
+// small: made by the caller instead, its cargo is copied as a block, and the build took 3 to 6 in a hundred longer.
 #[derive(Clone, Copy)]
 pub(crate) struct Choice<'a> {
     pub day: &'a Day<'a>,

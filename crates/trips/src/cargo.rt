@@ -27,7 +27,8 @@ pub fn same_cargo(c: Cargo) -> Cargo
     }
 }
 
-// With the kg of one stop more.
+// With the kg of one stop more. That what is carried is small is asked for here, and no part of `Cargo`, which is the rules' own record: the
+// rules add up loads over the limits too.
 pub fn load_on(c: Cargo, q: u32) -> Cargo
     requires { CargoWithin c × (q < 134217728) }
     ensures { result ≡ loaded c q }
