@@ -4,6 +4,7 @@ ghost use Rattle.std.specs.Prelude.{◌≡◌, ◌+◌, ◌<◌, ◌≤◌, leng
 ghost use Rattle.plan_parts.specs.Walked.{out_with, Leaves, PartTo, Reached, ToldAll};
 
 use crate::start::{first_state, no_stops};
+use plan_words::{PlanWord, read_word};
 use rules::walk::{Cargo, Tally, Trip};
 use trips::cargo::{nothing, same_cargo};
 use trips::drives::{leave, same_trip};
@@ -75,21 +76,21 @@ fn next_part(
     requires { (length plan.now ≤ 4096) × (i < length plan.now) × Reached limited.now.day.now plan.now i s met.old }
     ensures { IfSome result (PartTo limited.now.day.now plan.now met.new i) }
 {
-    let w = plan[i];
-    let k = plan_words::number(w);
-    if plan_words::is_vehicle(w) {
-        let Ok(out) = vehicle_word(limited.day, s, k) else {
-            return None;
-        };
-        return round(limited, out.tally, met, plan, i + 1);
+    match read_word(plan[i]) {
+        Some(PlanWord::Vehicle(number)) => {
+            let Ok(out) = vehicle_word(limited.day, s, number) else {
+                return None;
+            };
+            round(limited, out.tally, met, plan, i + 1)
+        }
+        Some(PlanWord::Left(stop)) => {
+            let Ok(state) = left_word(limited.day, s, met, stop) else {
+                return None;
+            };
+            Some(Part { end: i + 1, state })
+        }
+        _ => None,
     }
-    if plan_words::is_left(w) {
-        let Ok(state) = left_word(limited.day, s, met, k) else {
-            return None;
-        };
-        return Some(Part { end: i + 1, state });
-    }
-    None
 }
 
 // All parts of a plan: the tally at its end.

@@ -7,43 +7,15 @@ use Rattle.std.proofs.Common.{nat_cmp, bytes_eq, is_eq}
 use Rattle.std.specs.declared.cmp.Ordering.{Ordering}
 use Rattle.std.specs.List.{filter}
 use Prim.Native.Nat.{ℕ}
-use mathlib.Core.Path.{◌≡◌, refl, sym, ap, ap₂, ◌∙◌}
-use mathlib.Core.Bool.{Bool, true, false, ◌&&◌, ◌||◌}
+use mathlib.Core.Path.{◌≡◌, refl, ap, ap₂, ◌∙◌}
+use mathlib.Core.Bool.{Bool, true, false, ◌&&◌}
 use mathlib.Core.List.{List, [], ◌∷◌}
 use native.Mathlib.Decide.{ℕ_discrete}
 use native.Mathlib.Omega.{arith}
 use lib.Dec.{eqb}
-use borrow.Author.Tests.{eqb-false, eq-eqb, ne_eqb}
-use Rattle.rules.specs.PlanWords.{Word, kind_of, number_of, vehicle_kind, stop_kind, word_of, same_word}
+use borrow.Author.Tests.{eq-eqb, ne_eqb}
+use Rattle.rules.specs.PlanWords.{kind_of, number_of, word_of, same_word}
 use Rattle.rules.specs.SameRounds.{is_visit, counts, counted, same_words}
-use Rattle.plan_words.proofs.WordForms.{Apart, is_vehicle, is_stop, is_tip, is_rest, is_back, is_left, is_stray, apart, stop_told, vehicle_told}
-
--- a stop's word counts, and else only a vehicle's
-stop_counts : (w : ℕ) {asked : Bool} → asked ≡ eqb (kind_of w) stop_kind → asked ≡ true → true ≡ counts is_visit (word_of w)
-stop_counts w a t = rw (stop_told w a t refl)
-
-others_not : (w : ℕ) {u : Word} → Apart w u → (kind_of w ≡ stop_kind → ⊥) → (kind_of w ≡ vehicle_kind → ⊥) → false ≡ counts is_visit u
-others_not w (is_vehicle k h d x) n v = absurd (v d)
-others_not w (is_stop k h d x) n v = absurd (n d)
-others_not w (is_tip k h d x) n v = refl
-others_not w (is_rest d x) n v = refl
-others_not w (is_back d x) n v = refl
-others_not w (is_left k h d x) n v = refl
-others_not w (is_stray x) n v = refl
-
-vehicle_counts : (w : ℕ) {asked r : Bool} → asked ≡ eqb (kind_of w) stop_kind → asked ≡ false → r ≡ eqb (kind_of w) vehicle_kind → r ≡ counts is_visit (word_of w)
-vehicle_counts w {asked} {r} a f e = go r refl
-  where
-    go : (b : Bool) → r ≡ b → b ≡ counts is_visit (word_of w)
-    go true t = rw (vehicle_told w (sym t ∙ e) refl refl)
-    go false t = others_not w (apart w) (eqb-false _ _ (sym a ∙ f)) (eqb-false _ _ (sym e ∙ t))
-
-pub counted_told : (w : ℕ) {a v : Bool} → a ≡ eqb (kind_of w) stop_kind → v ≡ eqb (kind_of w) vehicle_kind → (a || v) ≡ counts is_visit (word_of w)
-counted_told w {a} {v} e f = go a e
-  where
-    go : (b : Bool) → b ≡ eqb (kind_of w) stop_kind → (b || v) ≡ counts is_visit (word_of w)
-    go true e = stop_counts w e refl
-    go false e = vehicle_counts w e refl f
 
 -- words are the same where kind and number are
 same_number : (v w : ℕ) → eqb v w ≡ same_word v w

@@ -3,54 +3,15 @@
 use Rattle.std.specs.Prelude.{if◌then◌else◌}
 use Prim.Native.Nat.{ℕ, suc, ◌+◌, ◌-◌, ◌≤◌, ◌<◌}
 use mathlib.Core.Path.{◌≡◌, refl, sym, ap, ◌∙◌}
-use mathlib.Core.Bool.{Bool, true, false, ◌&&◌}
+use mathlib.Core.Bool.{Bool, true, false}
 use mathlib.Core.List.{List, [], ◌∷◌}
 use native.Mathlib.Numerals.{add-one}
 use native.Mathlib.Omega.{arith}
 use lib.ListN.{length, get_or, drop, drop_of_length-le}
 use lib.Seq.{drop-cons}
-use lib.Dec.{eqb}
-use borrow.Author.Tests.{eqb-false}
 use Rattle.rules.specs.Answers.{given, refused}
-use Rattle.rules.specs.PlanWords.{Word, kind_of, number_of, vehicle_kind, back_word, word_of}
+use Rattle.rules.specs.PlanWords.{word_of}
 use Rattle.rules.specs.VehiclePlace.{is_vehicle, is_back, words_to_back, place_from}
-use Rattle.plan_words.proofs.WordForms.{Apart, apart, vehicle_told, back_told}
-use Rattle.plan_words.proofs.WordForms as Forms
-
--- the A word of a number, and any other word
-not_vehicle : (number w : ℕ) {u : Word} → Apart w u → (kind_of w ≡ vehicle_kind → ⊥) → false ≡ is_vehicle number u
-not_vehicle number w (Forms.is_vehicle k h d x) n = absurd (n d)
-not_vehicle number w (Forms.is_stop k h d x) n = refl
-not_vehicle number w (Forms.is_tip k h d x) n = refl
-not_vehicle number w (Forms.is_rest d x) n = refl
-not_vehicle number w (Forms.is_back d x) n = refl
-not_vehicle number w (Forms.is_left k h d x) n = refl
-not_vehicle number w (Forms.is_stray x) n = refl
-
-other_word : (number w : ℕ) {asked : Bool} → asked ≡ eqb (kind_of w) vehicle_kind → asked ≡ false → false ≡ is_vehicle number (word_of w)
-other_word number w a f = not_vehicle number w (apart w) (eqb-false _ _ (sym a ∙ f))
-
-vehicle_word_lem : (number w : ℕ) {asked : Bool} {k : ℕ} → asked ≡ eqb (kind_of w) vehicle_kind → asked ≡ true → k ≡ number_of w
-    → eqb k number ≡ is_vehicle number (word_of w)
-vehicle_word_lem number w a t e = rw (vehicle_told w a t e)
-
-pub vehicle_asked : (number w : ℕ) {asked : Bool} {k : ℕ} → asked ≡ eqb (kind_of w) vehicle_kind → k ≡ number_of w
-    → (asked && eqb k number) ≡ is_vehicle number (word_of w)
-vehicle_asked number w {asked} {k} a e = go asked a
-  where
-    go : (b : Bool) → b ≡ eqb (kind_of w) vehicle_kind → (b && eqb k number) ≡ is_vehicle number (word_of w)
-    go true a = vehicle_word_lem number w a refl e
-    go false a = other_word number w a refl
-
--- an E word, and any other word
-not_back : (w : ℕ) {u : Word} → Apart w u → (w ≡ back_word → ⊥) → is_back u ≡ false
-not_back w (Forms.is_vehicle k h d x) n = refl
-not_back w (Forms.is_stop k h d x) n = refl
-not_back w (Forms.is_tip k h d x) n = refl
-not_back w (Forms.is_rest d x) n = refl
-not_back w (Forms.is_back d x) n = absurd (n d)
-not_back w (Forms.is_left k h d x) n = refl
-not_back w (Forms.is_stray x) n = refl
 
 -- the words up to the first E
 module _ (plan : List ℕ) (from : ℕ) where
@@ -61,15 +22,15 @@ module _ (plan : List ℕ) (from : ℕ) where
   pub part_start : (from - from) + words_to_back (drop from plan) ≡ words_to_back (drop from plan)
   part_start = omega arith
 
-  pub part_goes_on : (i : ℕ) {asked : Bool} → from ≤ i → i < length plan → asked ≡ eqb (get_or plan i 0) back_word → asked ≡ false
+  pub part_goes_on : (i : ℕ) {asked : Bool} → from ≤ i → i < length plan → asked ≡ is_back (word_of (get_or plan i 0)) → asked ≡ false
       → (i - from) + words_to_back (drop i plan) ≡ words_to_back (drop from plan)
       → ((i + 1) - from) + words_to_back (drop (i + 1) plan) ≡ words_to_back (drop from plan)
-  part_goes_on i h g a f inv = omega (arith, rw (not_back _ (apart (get_or plan i 0)) (eqb-false _ _ (sym a ∙ f))) at (words_at i g))
+  part_goes_on i h g a f inv = omega (arith, rw (← a, f) at (words_at i g))
 
-  pub part_ends : (i : ℕ) {asked : Bool} → from ≤ i → i < length plan → asked ≡ eqb (get_or plan i 0) back_word → asked ≡ true
+  pub part_ends : (i : ℕ) {asked : Bool} → from ≤ i → i < length plan → asked ≡ is_back (word_of (get_or plan i 0)) → asked ≡ true
       → (i - from) + words_to_back (drop i plan) ≡ words_to_back (drop from plan)
       → (i + 1) - from ≡ words_to_back (drop from plan)
-  part_ends i h g a t inv = omega (arith, rw (back_told (get_or plan i 0) a t) at (words_at i g))
+  part_ends i h g a t inv = omega (arith, rw (← a, t) at (words_at i g))
 
   pub part_cut : (i : ℕ) → i ≤ length plan → length plan ≤ i → (i - from) + words_to_back (drop i plan) ≡ words_to_back (drop from plan)
       → length plan - from ≡ words_to_back (drop from plan)

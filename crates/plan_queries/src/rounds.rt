@@ -3,11 +3,13 @@ ghost use Rattle.std.specs.Prelude.{◌≡◌};
 ghost use Rattle.rules.specs.PlanWords.{word_of};
 ghost use Rattle.rules.specs.SameRounds.{is_visit, counts, counted, same_words};
 
+use plan_words::{PlanWord, read_word};
+
 // Whether a word counts: a vehicle or a stop.
 fn is_counted(w: u32) -> bool
     ensures { result ≡ counts is_visit (word_of w) }
 {
-    plan_words::is_stop(w) | plan_words::is_vehicle(w)
+    matches!(read_word(w), Some(PlanWord::Stop(_) | PlanWord::Vehicle(_)))
 }
 
 // Whether the words that count are the same. By `cmp` and not `eq`, of which the library has no law.

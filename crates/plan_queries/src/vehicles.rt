@@ -1,16 +1,24 @@
 // Where one vehicle's words stand in a plan.
 ghost use Rattle.std.specs.Prelude.{◌≡◌, ◌+◌, ◌≤◌, length, drop};
 ghost use Rattle.rules.specs.PlanWords.{word_of};
-ghost use Rattle.rules.specs.VehiclePlace.{is_vehicle, words_to_back, place_from};
+ghost use Rattle.rules.specs.VehiclePlace.{is_vehicle, is_back, words_to_back, place_from};
 ghost use Rattle.rules.specs.AnswerValues.{place_values};
 
+use plan_words::{PlanWord, read_word};
 use rules::answers::PlaceAnswer;
 
 // Whether a word is the A word of a number.
 fn is_vehicle(w: u32, number: u64) -> bool
     ensures { result ≡ is_vehicle number (word_of w) }
 {
-    plan_words::is_vehicle(w) & (u64::from(plan_words::number(w)) == number)
+    matches!(read_word(w), Some(PlanWord::Vehicle(other)) if u64::from(other) == number)
+}
+
+// Whether a word is an E word.
+fn is_back(w: u32) -> bool
+    ensures { result ≡ is_back (word_of w) }
+{
+    matches!(read_word(w), Some(PlanWord::Back))
 }
 
 // How many words there are from an index up to the first E.
@@ -19,7 +27,7 @@ fn part_length(plan: &[u32], from: usize) -> usize
     ensures { (result ≡ words_to_back (drop from plan.now)) × (from + result ≤ length plan.now) }
 {
     for i in from..plan.len() {
-        if plan_words::is_back(plan[i]) {
+        if is_back(plan[i]) {
             return i + 1 - from;
         }
     }

@@ -1,10 +1,13 @@
 -- What a plan word says, by its kind and number. Whoever reads a word uses these laws, and never the text of `word_of`. Assumes nothing.
-use Rattle.std.proofs.Common.{◌≡◌, ℕ, ◌+◌, ◌<◌, Bool, true, false, eqb, sym, refl, ap, ◌∙◌, inl, inr, arith, eq-eqb, ne_eqb, eqb-true}
+use Rattle.std.proofs.Common.{Some, ◌≡◌, ℕ, ◌+◌, ◌<◌, Bool, true, eqb, sym, refl, ap, ◌∙◌, inl, inr, arith, eq-eqb, ne_eqb, eqb-true}
 use borrow.Author.Tests.{eqb-false}
 use Rattle.rules.specs.PlanWords.{Word, vehicle, stop, tip, rest, back, left, stray, kind_of, number_of, vehicle_kind, stop_kind, tip_kind, left_kind}
 use Rattle.rules.specs.PlanWords.{vehicle_word, stop_word, tip_word, rest_word, back_word, left_word, word_of, same_word}
 use Rattle.laws.proofs.Decided.{known}
+use native.Mathlib.Decide.{ℕ_discrete}
 use Rattle.plan_words.specs.Indexes.{IndexFrom}
+use Rattle.plan_words.specs.Reading.{meaning}
+use Rattle.plan_words.specs.declared.PlanWord.{PlanWord}
 
 -- a word of each kind
 module _ (w : ℕ) where
@@ -32,10 +35,10 @@ module _ (w : ℕ) where
   unfolding word_of
   left_read e = rw (ne_eqb w rest_word (λ q. omega arith), ne_eqb w back_word (λ q. omega arith), e)
 
-  stray_read : eqb (kind_of w) stop_kind ≡ false → eqb (kind_of w) tip_kind ≡ false → eqb w rest_word ≡ false → eqb w back_word ≡ false
-      → eqb (kind_of w) vehicle_kind ≡ false → eqb (kind_of w) left_kind ≡ false → word_of w ≡ stray
+  pub stray_read : (w ≡ rest_word → ⊥) → (w ≡ back_word → ⊥) → (kind_of w ≡ vehicle_kind → ⊥) → (kind_of w ≡ stop_kind → ⊥)
+      → (kind_of w ≡ tip_kind → ⊥) → (kind_of w ≡ left_kind → ⊥) → word_of w ≡ stray
   unfolding word_of
-  stray_read s t r b v l = rw (s, t, r, b, v, l)
+  stray_read r b v s t l = rw (ne_eqb _ _ s, ne_eqb _ _ t, ne_eqb _ _ r, ne_eqb _ _ b, ne_eqb _ _ v, ne_eqb _ _ l)
 
 -- the word of a kind and a number of eight bits
 module _ (k : ℕ) (h : k < 256) where
@@ -83,77 +86,44 @@ pub data Apart (w : ℕ) : Word → Type 0 where
 
 -- the tests of the kinds, and what each tells once it holds
 module _ (w : ℕ) where
-  apart_vehicle : eqb (kind_of w) vehicle_kind ≡ true → Apart w (word_of w)
-  apart_vehicle e = let r = vehicle_read w (eqb-true _ _ e) in rw r (is_vehicle (number_of w) (omega arith) (eqb-true _ _ e) r)
+  apart_vehicle : kind_of w ≡ vehicle_kind → Apart w (word_of w)
+  apart_vehicle e = let r = vehicle_read w e in rw r (is_vehicle (number_of w) (omega arith) e r)
 
-  apart_stop : eqb (kind_of w) stop_kind ≡ true → Apart w (word_of w)
-  apart_stop e = let r = stop_read w (eqb-true _ _ e) in rw r (is_stop (number_of w) (omega arith) (eqb-true _ _ e) r)
+  apart_stop : kind_of w ≡ stop_kind → Apart w (word_of w)
+  apart_stop e = let r = stop_read w e in rw r (is_stop (number_of w) (omega arith) e r)
 
-  apart_tip : eqb (kind_of w) tip_kind ≡ true → Apart w (word_of w)
-  apart_tip e = let r = tip_read w (eqb-true _ _ e) in rw r (is_tip (number_of w) (omega arith) (eqb-true _ _ e) r)
+  apart_tip : kind_of w ≡ tip_kind → Apart w (word_of w)
+  apart_tip e = let r = tip_read w e in rw r (is_tip (number_of w) (omega arith) e r)
 
-  apart_rest : eqb w rest_word ≡ true → Apart w (word_of w)
-  apart_rest e = let r = rest_read w (eqb-true _ _ e) in rw r (is_rest (eqb-true _ _ e) r)
-
-  apart_back : eqb w back_word ≡ true → Apart w (word_of w)
-  apart_back e = let r = back_read w (eqb-true _ _ e) in rw r (is_back (eqb-true _ _ e) r)
-
-  apart_left : eqb (kind_of w) left_kind ≡ true → Apart w (word_of w)
-  apart_left e = let r = left_read w (eqb-true _ _ e) in rw r (is_left (number_of w) (omega arith) (eqb-true _ _ e) r)
+  apart_left : kind_of w ≡ left_kind → Apart w (word_of w)
+  apart_left e = let r = left_read w e in rw r (is_left (number_of w) (omega arith) e r)
 
   pub apart : Apart w (word_of w)
   apart =
-      elim (known (eqb (kind_of w) stop_kind)) [
-        | inl e ↦ apart_stop e
-        | inr s ↦
-            elim (known (eqb (kind_of w) tip_kind)) [
-              | inl e ↦ apart_tip e
-              | inr t ↦
-                  elim (known (eqb w rest_word)) [
-                    | inl e ↦ apart_rest e
-                    | inr r ↦
-                        elim (known (eqb w back_word)) [
-                          | inl e ↦ apart_back e
-                          | inr b ↦
-                              elim (known (eqb (kind_of w) vehicle_kind)) [
-                                | inl e ↦ apart_vehicle e
-                                | inr v ↦
-                                    elim (known (eqb (kind_of w) left_kind)) [
-                                      | inl e ↦ apart_left e
-                                      | inr l ↦
-                                          let r = stray_read w s t r b v l in rw r (is_stray r)
-                                    ]
-                              ]
-                        ]
-                  ]
-            ]
-      ]
+      go (ℕ_discrete w rest_word) (ℕ_discrete w back_word) (ℕ_discrete (kind_of w) vehicle_kind) (ℕ_discrete (kind_of w) stop_kind)
+      (ℕ_discrete (kind_of w) tip_kind) (ℕ_discrete (kind_of w) left_kind)
+    where
+      go : Dec (w ≡ rest_word) → Dec (w ≡ back_word) → Dec (kind_of w ≡ vehicle_kind) → Dec (kind_of w ≡ stop_kind)
+          → Dec (kind_of w ≡ tip_kind) → Dec (kind_of w ≡ left_kind) → Apart w (word_of w)
+      go (yes e) b v s t l = let r = rest_read w e in rw r (is_rest e r)
+      go (no r) (yes e) v s t l = let r = back_read w e in rw r (is_back e r)
+      go (no r) (no b) (yes e) s t l = apart_vehicle e
+      go (no r) (no b) (no v) (yes e) t l = apart_stop e
+      go (no r) (no b) (no v) (no s) (yes e) l = apart_tip e
+      go (no r) (no b) (no v) (no s) (no t) (yes e) = apart_left e
+      go (no r) (no b) (no v) (no s) (no t) (no l) = let r = stray_read w r b v s t l in rw r (is_stray r)
 
--- what a word says once the code has asked for its kind
+-- what a word says once the code has asked for it
 module _ (w : ℕ) {asked : Bool} where
-  pub vehicle_told : {k : ℕ} → asked ≡ eqb (kind_of w) vehicle_kind → asked ≡ true → k ≡ number_of w → word_of w ≡ vehicle k
-  vehicle_told a t e = vehicle_read w (eqb-true _ _ (sym a ∙ t)) ∙ ap vehicle (sym e)
-
-  pub stop_told : {k : ℕ} → asked ≡ eqb (kind_of w) stop_kind → asked ≡ true → k ≡ number_of w → word_of w ≡ stop k
-  stop_told a t e = stop_read w (eqb-true _ _ (sym a ∙ t)) ∙ ap stop (sym e)
-
-  pub tip_told : {k : ℕ} → asked ≡ eqb (kind_of w) tip_kind → asked ≡ true → k ≡ number_of w → word_of w ≡ tip k
-  tip_told a t e = tip_read w (eqb-true _ _ (sym a ∙ t)) ∙ ap tip (sym e)
-
   pub rest_told : asked ≡ eqb w rest_word → asked ≡ true → word_of w ≡ rest
   rest_told a t = rest_read w (eqb-true _ _ (sym a ∙ t))
 
   pub back_told : asked ≡ eqb w back_word → asked ≡ true → word_of w ≡ back
   back_told a t = back_read w (eqb-true _ _ (sym a ∙ t))
 
-  pub left_told : {k : ℕ} → asked ≡ eqb (kind_of w) left_kind → asked ≡ true → k ≡ number_of w → word_of w ≡ left k
-  left_told a t e = left_read w (eqb-true _ _ (sym a ∙ t)) ∙ ap left (sym e)
-
--- none of the kinds
-pub stray_told : (w : ℕ) {s t r b v l : Bool} → s ≡ eqb (kind_of w) stop_kind → s ≡ false → t ≡ eqb (kind_of w) tip_kind → t ≡ false
-    → r ≡ eqb w rest_word → r ≡ false → b ≡ eqb w back_word → b ≡ false → v ≡ eqb (kind_of w) vehicle_kind → v ≡ false
-    → l ≡ eqb (kind_of w) left_kind → l ≡ false → word_of w ≡ stray
-stray_told w a s b t c r d k e v f l = stray_read w (sym a ∙ s) (sym b ∙ t) (sym c ∙ r) (sym d ∙ k) (sym e ∙ v) (sym f ∙ l)
+-- a word that the code has taken apart
+pub word_is : (w : ℕ) {read word : PlanWord} → meaning (Some read) ≡ word_of w → read ≡ word → word_of w ≡ meaning (Some word)
+word_is w e is = sym e ∙ ap (λ (x : PlanWord). meaning (Some x)) is
 
 -- a word by its distance from the first word of its kind
 module _ (w r : ℕ) (h : r < 255) where

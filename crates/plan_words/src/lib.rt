@@ -2,8 +2,9 @@
 #![tactic(auto)]
 
 ghost use Rattle.std.specs.Prelude.{◌≡◌, ◌<◌, ◌==◌};
-ghost use Rattle.rules.specs.PlanWords.{kind_of, number_of, vehicle_kind, stop_kind, tip_kind, left_kind, vehicle_word, stop_word, tip_word, rest_word, back_word, left_word, same_word};
+ghost use Rattle.rules.specs.PlanWords.{kind_of, number_of, vehicle_kind, stop_kind, tip_kind, left_kind, vehicle_word, stop_word, tip_word, rest_word, back_word, left_word, word_of, same_word};
 ghost use Rattle.plan_words.specs.Indexes.{IndexFrom};
+ghost use Rattle.plan_words.specs.Reading.{meaning};
 
 // The word of each kind with number 0.
 pub const VEHICLE: u32 = 0xA0000000;
@@ -34,23 +35,40 @@ pub fn number(word: u32) -> u32
     word % 0x100
 }
 
-// A word of each kind. One function over the kinds would be no plainer: each is one comparison with a constant.
-pub fn is_vehicle(word: u32) -> bool
-    ensures { result ≡ (kind_of word == vehicle_kind) }
-{
-    word / 0x100 == VEHICLE_KIND
+// What a word says, with its number.
+#[derive(Clone, Copy)]
+pub enum PlanWord {
+    Vehicle(u32),
+    Stop(usize),
+    Tip(usize),
+    Rest,
+    Back,
+    Left(u32),
 }
 
+// A word taken apart; none where it is of no kind.
+pub fn read_word(word: u32) -> Option<PlanWord>
+    ensures { meaning result ≡ word_of word }
+{
+    let number = number(word);
+    match word / 0x100 {
+        VEHICLE_KIND => Some(PlanWord::Vehicle(number)),
+        STOP_KIND => Some(PlanWord::Stop(number as usize)),
+        TIP_KIND => Some(PlanWord::Tip(number as usize)),
+        LEFT_KIND => Some(PlanWord::Left(number)),
+        _ => match word {
+            REST => Some(PlanWord::Rest),
+            BACK => Some(PlanWord::Back),
+            _ => None,
+        },
+    }
+}
+
+// A word of one kind, for those who take no word apart.
 pub fn is_stop(word: u32) -> bool
     ensures { result ≡ (kind_of word == stop_kind) }
 {
     word / 0x100 == STOP_KIND
-}
-
-pub fn is_tip(word: u32) -> bool
-    ensures { result ≡ (kind_of word == tip_kind) }
-{
-    word / 0x100 == TIP_KIND
 }
 
 pub fn is_rest(word: u32) -> bool
@@ -63,12 +81,6 @@ pub fn is_back(word: u32) -> bool
     ensures { result ≡ (word == back_word) }
 {
     word == BACK
-}
-
-pub fn is_left(word: u32) -> bool
-    ensures { result ≡ (kind_of word == left_kind) }
-{
-    word / 0x100 == LEFT_KIND
 }
 
 // Whether two words have the same kind and the same number: between them these are the whole word.

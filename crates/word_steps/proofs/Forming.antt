@@ -1,5 +1,5 @@
 -- Laws of a word's form: which word a number is, whether it has the form where it stands, and its step then. Assumes nothing.
-use Rattle.std.specs.Prelude.{Result, Ok, Err, OnOk}
+use Rattle.std.specs.Prelude.{Some, Result, Ok, Err, OnOk}
 use Prim.Native.Nat.{ℕ, ◌+◌, ◌<◌, ◌≤◌}
 use mathlib.Core.Path.{◌≡◌, refl, sym, ◌∙◌}
 use mathlib.Core.Bool.{Bool, true, false, not, ◌&&◌}
@@ -16,6 +16,8 @@ use Rattle.word_steps.specs.Steps.{is_met_in, marked, met_behind, formed_fault, 
 use Rattle.word_steps.specs.declared.steps.State.{State}
 use Rattle.word_steps.proofs.Stepping.{step_fault}
 use Rattle.plan_words.specs.Indexes.{IndexFrom}
+use Rattle.plan_words.specs.Reading.{meaning}
+use Rattle.plan_words.specs.declared.PlanWord.{PlanWord}
 use Rattle.plan_words.proofs.WordForms.{stop_indexed, tip_indexed}
 use Rattle.plan_laws.proofs.Passing.{within_both}
 
@@ -86,26 +88,21 @@ module _ (day : List ℕ) (met : List Bool) (s : State) (w : Word) (b : Bool) (e
   unfolding fault_by
   goes_on_lem r h m x = rw (← e, h, m) x
 
--- the step of the word that a number is
-module _ (day : List ℕ) (met : List Bool) (s : State) (w : ℕ) (r : Result State PlanFault) where
-  pub as_word : (x : Word) → word_of w ≡ x → StepOf (fault_by day met s x) day s x r → StepOf (fault_by day met s (word_of w)) day s (word_of w) r
-  as_word x e h = rw e h
-
-pub as_stray : (day : List ℕ) (met : List Bool) (s : State) (w : ℕ) → word_of w ≡ stray → StepOf (fault_by day met s (word_of w)) day s (word_of w) (Err Faults.Form)
+pub as_stray : (day : List ℕ) (met : List Bool) (s : State) (w : ℕ) → stray ≡ word_of w → StepOf (fault_by day met s (word_of w)) day s (word_of w) (Err Faults.Form)
 unfolding well_formed
-as_stray day met s w e = rw e (misformed day met s stray false refl refl)
+as_stray day met s w e = rw (← e) (misformed day met s stray false refl refl)
 
--- and the marks behind it
-module _ (met : List Bool) (r : Result State PlanFault) where
-  pub met_as : (w : ℕ) (x : Word) {m : List Bool} → word_of w ≡ x → m ≡ met_behind met x r → m ≡ met_behind met (word_of w) r
-  met_as w x e h = rw e h
+-- the step of a word that the code has taken apart, where it marks no stop, whatever stops were met; and the marks behind it
+module _ (met : List Bool) (w : ℕ) (r : Result State PlanFault) {read word : PlanWord} (e : meaning (Some read) ≡ word_of w) (is : read ≡ word) where
+  pub any_word : (day : List ℕ) (s : State) → ((met : List Bool) → StepOf (fault_by day met s (meaning (Some word))) day s (meaning (Some word)) r)
+      → StepOf (fault_by day met s (word_of w)) day s (word_of w) r
+  any_word day s h = rw (← e, is) (h met)
 
-  -- a word that names no stop leaves them as they were
-  pub unmarked : (x : Word) → met ≡ marked met x → met ≡ met_behind met x r
-  unmarked x e = go r
+  pub unmarked : met ≡ marked met (meaning (Some word)) → met ≡ met_behind met (word_of w) r
+  unmarked same = rw (← e, is) (go r)
     where
-      go : (r : Result State PlanFault) → met ≡ met_behind met x r
-      go (Ok next) = e
+      go : (r : Result State PlanFault) → met ≡ met_behind met (meaning (Some word)) r
+      go (Ok next) = same
       go (Err f) = refl
 
 -- a fact that holds at any result holds of one without a fault
@@ -113,20 +110,26 @@ on_ok : (P : Type 0) (r : Result State PlanFault) → P → OnOk r P
 on_ok P (Ok next) p = p
 on_ok P (Err f) p = tt
 
--- the same of a word of a vehicle that is out
-module _ (day : List ℕ) (met : List Bool) (s : State) (w : ℕ) (r : Result State PlanFault) (x : Word) (e : word_of w ≡ x) where
-  -- whatever stops were met
-  pub any_word : ((met : List Bool) → StepOf (fault_by day met s x) day s x r) → StepOf (fault_by day met s (word_of w)) day s (word_of w) r
-  any_word h = as_word day met s w r x e (h met)
+-- the step of a word of a vehicle that is out, and the marks behind it
+module _ (met : List Bool) (w : ℕ) (r : Result State PlanFault) (x : Word) (e : word_of w ≡ x) where
+  module _ (day : List ℕ) (s : State) where
+    pub task_word : StepOf (fault_by day met s x) day s x r → OnOk r (StepOf (fault_by day met s (word_of w)) day s (word_of w) r)
+    task_word h = on_ok (StepOf (fault_by day met s (word_of w)) day s (word_of w) r) r (rw e h)
 
-  pub task_word : StepOf (fault_by day met s x) day s x r → OnOk r (StepOf (fault_by day met s (word_of w)) day s (word_of w) r)
-  task_word h = on_ok (StepOf (fault_by day met s (word_of w)) day s (word_of w) r) r (as_word day met s w r x e h)
+    -- whatever stops were met
+    pub task_any : ((met : List Bool) → StepOf (fault_by day met s x) day s x r) → OnOk r (StepOf (fault_by day met s (word_of w)) day s (word_of w) r)
+    task_any h = task_word (h met)
 
-  pub task_any : ((met : List Bool) → StepOf (fault_by day met s x) day s x r) → OnOk r (StepOf (fault_by day met s (word_of w)) day s (word_of w) r)
-  task_any h = task_word (h met)
+  pub task_met : {m : List Bool} → m ≡ met_behind met x r → OnOk r (m ≡ met_behind met (word_of w) r)
+  task_met {m} h = on_ok (m ≡ met_behind met (word_of w) r) r (rw e h)
 
-pub task_met : (met : List Bool) (r : Result State PlanFault) (w : ℕ) (x : Word) {m : List Bool} → word_of w ≡ x → m ≡ met_behind met x r → OnOk r (m ≡ met_behind met (word_of w) r)
-task_met met r w x {m} e h = on_ok (m ≡ met_behind met (word_of w) r) r (met_as met r w x e h)
+  -- where it marks no stop
+  pub task_unmarked : met ≡ marked met x → OnOk r (met ≡ met_behind met (word_of w) r)
+  task_unmarked same = task_met (go r)
+    where
+      go : (r : Result State PlanFault) → met ≡ met_behind met x r
+      go (Ok next) = same
+      go (Err f) = refl
 
 -- a word by its distance from the first stop's word, or from the first tip's
 module _ (w n r : ℕ) where

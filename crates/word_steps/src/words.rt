@@ -6,14 +6,16 @@ ghost use Rattle.word_steps.specs.Steps.{fault_by, met_behind, StepOf, Within};
 
 use crate::steps::{State, come_back, empty_out, leave_out, serve, set_out, take_rest};
 use day::days::Day;
+use plan_words::{PlanWord, read_word};
 use rules::faults::PlanFault;
 use trips::limits::LimitedDay;
 
 // A number from 1 to the most.
+#[tactic(auto, unfolding(rules::specs::Check::within))]
 fn is_within(most: usize, k: usize) -> bool
     ensures { result ≡ within most k }
 {
-    (1 <= k) & (k <= most)
+    (1..=most).contains(&k)
 }
 
 fn stop_word(
@@ -98,7 +100,7 @@ pub fn left_word(
     Ok(leave_out(s, number))
 }
 
-// The step of a word, the frequent kinds first. An enum of words would be made by the same chain of tests, and matched behind it.
+// The step of a word.
 pub fn word_step(
     limited: &LimitedDay,
     s: State,
@@ -109,30 +111,20 @@ pub fn word_step(
     ensures step { StepOf (fault_by limited.now.day.now met.old s (word_of w)) limited.now.day.now s (word_of w) result }
     ensures met { met.new ≡ met_behind met.old (word_of w) result }
 {
-    let k = plan_words::number(w);
-    if plan_words::is_stop(w) {
-        return stop_word(limited, s, met, k as usize);
+    match read_word(w) {
+        Some(PlanWord::Vehicle(number)) => vehicle_word(limited.day, s, number),
+        Some(PlanWord::Stop(stop)) => stop_word(limited, s, met, stop),
+        Some(PlanWord::Tip(tip)) => tip_word(limited.day, s, tip),
+        Some(PlanWord::Rest) => rest_word(limited.day, s),
+        Some(PlanWord::Back) => back_word(limited.day, s),
+        Some(PlanWord::Left(stop)) => left_word(limited.day, s, met, stop),
+        None => Err(PlanFault::Form),
     }
-    if plan_words::is_tip(w) {
-        return tip_word(limited.day, s, k as usize);
-    }
-    if plan_words::is_rest(w) {
-        return rest_word(limited.day, s);
-    }
-    if plan_words::is_back(w) {
-        return back_word(limited.day, s);
-    }
-    if plan_words::is_vehicle(w) {
-        return vehicle_word(limited.day, s, k);
-    }
-    if plan_words::is_left(w) {
-        return left_word(limited.day, s, met, k);
-    }
-    Err(PlanFault::Form)
 }
 
 // The step of a word of a vehicle that is out, the frequent kinds first. Another word's step is at fault here, whatever it is. No word is
-// decoded: kind and number are one range of words, so that one test tells both.
+// taken apart: kind and number are one range of words, so that one test tells both. By `read_word`, in three forms of it, the check of one
+// plan took from 8 to 70 % longer.
 pub fn task_step(
     limited: &LimitedDay,
     s: State,

@@ -3,7 +3,7 @@ use Prim.Native.Nat.{◌+◌}
 use mathlib.Core.Path.{refl}
 use Rattle.rules.specs.PlanWords.{tip, rest, back}
 use Rattle.plan_words.proofs.WordForms.{rest_told, back_told}
-use Rattle.word_steps.proofs.Forming.{stop_ranged, tip_ranged, task_word, task_any, task_met, unmarked}
+use Rattle.word_steps.proofs.Forming.{stop_ranged, tip_ranged, task_word, task_any, task_met, task_unmarked}
 use Rattle.word_steps.specs.Steps.{marked}
 use Rattle.word_steps.proofs.words.task_step.Goals as goal
 
@@ -14,24 +14,22 @@ pub returns-then-stop-stops-clause-met : goal.returns-then-stop-stops-clause-met
 returns-then-stop-stops-clause-met c = search (task_met, stop_ranged)
 
 pub returns-then-tip-tips-clause-step : goal.returns-then-tip-tips-clause-step
-returns-then-tip-tips-clause-step c = task_any _ _ _ _ _ (tip (c.tip_index-tip.result + 1)) (search tip_ranged) c.tip_word.ensures
+returns-then-tip-tips-clause-step c = task_any _ _ _ (tip (c.tip_index-tip.result + 1)) (search tip_ranged) _ _ c.tip_word.ensures
 
 pub returns-then-tip-tips-clause-met : goal.returns-then-tip-tips-clause-met
 unfolding marked
-returns-then-tip-tips-clause-met c =
-    task_met c.args.met.now c.tip_word.result c.args.w (tip (c.tip_index-tip.result + 1)) (search tip_ranged)
-    (unmarked c.args.met.now c.tip_word.result (tip (c.tip_index-tip.result + 1)) refl)
+returns-then-tip-tips-clause-met c = task_unmarked _ c.args.w _ (tip (c.tip_index-tip.result + 1)) (search tip_ranged) refl
 
 pub returns-then-is_rest-clause-step : goal.returns-then-is_rest-clause-step
-returns-then-is_rest-clause-step c = task_any _ _ _ _ _ rest (search rest_told) c.rest_word.ensures
+returns-then-is_rest-clause-step c = task_any _ _ _ rest (search rest_told) _ _ c.rest_word.ensures
 
 pub returns-then-is_rest-clause-met : goal.returns-then-is_rest-clause-met
 unfolding marked
-returns-then-is_rest-clause-met c = task_met c.args.met.now c.rest_word.result c.args.w rest (search rest_told) (unmarked c.args.met.now c.rest_word.result rest refl)
+returns-then-is_rest-clause-met c = task_unmarked _ c.args.w _ rest (search rest_told) refl
 
 pub returns-then-is_back-clause-step : goal.returns-then-is_back-clause-step
-returns-then-is_back-clause-step c = task_any _ _ _ _ _ back (search back_told) c.back_word.ensures
+returns-then-is_back-clause-step c = task_any _ _ _ back (search back_told) _ _ c.back_word.ensures
 
 pub returns-then-is_back-clause-met : goal.returns-then-is_back-clause-met
 unfolding marked
-returns-then-is_back-clause-met c = task_met c.args.met.now c.back_word.result c.args.w back (search back_told) (unmarked c.args.met.now c.back_word.result back refl)
+returns-then-is_back-clause-met c = task_unmarked _ c.args.w _ back (search back_told) refl
