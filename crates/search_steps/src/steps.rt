@@ -10,7 +10,7 @@ use crate::held::make_tables;
 use candidates::copy_words;
 use day::days::Day;
 use tracks::plan_tables::{Held, Tables};
-use trial_list::listing::{Cursor, Listed, first_trial, next_trial};
+use trial_list::listing::{Cursor, Listed, Listing, first_trial, next_trial};
 
 // What is asked for: K, whether 5, 10 and 25 come before it, and how many trials may be made.
 #[derive(Clone, Copy)]
@@ -157,7 +157,7 @@ pub fn list_next(
     requires { (s.stage < length (sets_of set)) × PlanTables (stops day.now) (tips day.now) (k_at (sets_of set) s.stage) table.now tables.now.starts tables.now.vehicles (take (s.words - 0) (drop 0 plan.now)) s.count × CursorFits tables.now.starts s.count s.cursor × (s.words ≤ length plan.now) }
     ensures { ListAnswer (stops day.now) (tips day.now) (k_at (sets_of set) s.stage) table.now tables.now.starts tables.now.vehicles (take (s.words - 0) (drop 0 plan.now)) s.count s.cursor result }
 {
-    let listing = trial_list::tables::Tables {
+    let listing = Listing {
         stops: day.stops(),
         tips: day.tips(),
         k: k_at(set, s.stage),

@@ -11,21 +11,19 @@ use Rattle.rules.specs.Fields.{stops, tips, IsAccepted}
 use Rattle.rules.specs.Plan.{Round, plan_words, Known}
 use Rattle.rules.specs.Edits.{Trial}
 use Rattle.rules.specs.TrialList.{stop_trials, trial_list}
-use Rattle.day.specs.Layout.{LayoutOf}
-use Rattle.day.specs.declared.fields.Layout.{Layout}
 use Rattle.day.proofs.Ranges.{accepted_ranges}
 use Rattle.neighbours.specs.Tables.{TableOf}
 use Rattle.edits.specs.EditWords.{Named, EditKnown, EditSmall}
 use Rattle.edits.specs.declared.Edit as Code
 use Rattle.edits.specs.declared.Edit.TheVariants as Edits
-use Rattle.trial_list.specs.Listing.{PairAnswer, TipAnswer, PlanTables, CursorFits, Answers}
+use Rattle.trial_list.specs.Listing.{NextListed, pair_part, tip_part, PlanTables, CursorFits, Answers}
 use Rattle.trial_list.specs.Survey.{Surveyed}
 use Rattle.trial_list.specs.TrialRest.{listed_trial, pair_rest, tip_rest, rest_of, list_start}
 use Rattle.trial_list.specs.declared.listing.Cursor.{Cursor}
 use Rattle.trial_list.specs.declared.listing.Listed.{Listed}
-use Rattle.trial_list.specs.declared.listing.PairPlace.{PairPlace}
-use Rattle.trial_list.specs.declared.listing.TipPlace.{TipPlace}
-use Rattle.trial_list.specs.declared.tables.Tables.{Tables}
+use Rattle.trial_list.specs.declared.pairs.PairPlace.{PairPlace}
+use Rattle.trial_list.specs.declared.tips.TipPlace.{TipPlace}
+use Rattle.trial_list.specs.declared.listing.Listing.{Listing}
 use Rattle.trial_list.specs.declared.listing.Trial as Made
 use Rattle.trial_list.proofs.LaidLaws.{start_next}
 use Rattle.trial_list.proofs.Listed.{listed_all}
@@ -72,7 +70,7 @@ module _ (stop_count tip_count K : ℕ) (table starts vehicles plan : List ℕ) 
       }
 
 -- the next trial of the list is that of its pairs, or else of its tips
-module _ (t : Tables) (c : Cursor) (r : Listed Cursor) (a : Listed PairPlace) (fits : CursorFits t.starts.now t.count c) (pair : PairAnswer t c.pairs a) where
+module _ (t : Listing) (c : Cursor) (r : Listed Cursor) (a : Listed PairPlace) (fits : CursorFits t.starts.now t.count c) (pair : NextListed pair_part t c.pairs a) where
   pub lists_pair : (a.trial ≡ None → ⊥) → r.trial ≡ a.trial → r.next ≡ record { pairs = a.next; tips = c.tips } → Answers t c r
   unfolding rest_of
   lists_pair f m n =
@@ -83,10 +81,10 @@ module _ (t : Tables) (c : Cursor) (r : Listed Cursor) (a : Listed PairPlace) (f
               some = λ k e. ap (λ (ms : List Trial). ms ++ others) ((pair.tells s).some k (sym m ∙ e)) ∙ rw n refl;
               none = λ e. absurd (f (sym m ∙ e));
             };
-        fits = rw n (record { first = pair.first; tip_fits = fits.tip_fits });
+        fits = rw n (record { first = pair.fits; tip_fits = fits.tip_fits });
       }
 
-  pub lists_tip : (b : Listed TipPlace) → a.trial ≡ None → TipAnswer t c.tips b
+  pub lists_tip : (b : Listed TipPlace) → a.trial ≡ None → NextListed tip_part t c.tips b
       → r.trial ≡ b.trial → r.next ≡ record { pairs = a.next; tips = b.next } → Answers t c r
   unfolding rest_of
   lists_tip b f tip m n =
@@ -97,7 +95,7 @@ module _ (t : Tables) (c : Cursor) (r : Listed Cursor) (a : Listed PairPlace) (f
               some = λ k e. rw (none_left.0, n, none_left.1) ((tip.tells s).some k (sym m ∙ e));
               none = λ e. rw (none_left.0, n, none_left.1) ((tip.tells s).none (sym m ∙ e));
             };
-        fits = rw n (record { first = pair.first; tip_fits = tip.fits });
+        fits = rw n (record { first = pair.fits; tip_fits = tip.fits });
       }
 
 -- what a trial names: stops and tips of the day

@@ -21,12 +21,12 @@ use Rattle.rules.specs.TrialList.{each, rising, pair_trials}
 use Rattle.neighbours.proofs.NeighbourLaws.{neighbours_are}
 use Rattle.laws.proofs.Decided.{known}
 use Rattle.laws.proofs.Lists.{every_at}
-use Rattle.trial_list.specs.Listing.{Goes, Tells, NumberAt, next_rank, halfway, next_stop, PairTells, no_trial, last_trial, first_trial, TablesOf, PairStep}
+use Rattle.trial_list.specs.Listing.{Goes, Tells, NumberAt, next_rank, halfway, next_stop, PairTells, no_trial, last_trial, first_trial, ListingOf, Step, pair_part}
 use Rattle.trial_list.specs.TrialRest.{listed_trial, pair_on, from_half, neighbours_from, stops_from, pair_rest}
 use Rattle.trial_list.specs.declared.listing.Listed.{Listed}
-use Rattle.trial_list.specs.declared.listing.PairPlace.{PairPlace}
+use Rattle.trial_list.specs.declared.pairs.PairPlace.{PairPlace}
 use Rattle.trial_list.specs.declared.listing.Trial as Code
-use Rattle.trial_list.specs.declared.tables.Tables.{Tables}
+use Rattle.trial_list.specs.declared.listing.Listing.{Listing}
 
 -- a list passes on, or goes on with a trial
 pub none_some : {A : Type 0} {o : Option A} {m : A} → o ≡ None → o ≡ Some m → ⊥
@@ -163,36 +163,36 @@ module _ (day : List ℕ) (K : ℕ) (rounds : List Round) where
   pair_goes p r within h (first_trial _ m o f s e n) = goes_with f (rw (rank_at p within h, s, n, rank_at (halfway p) within h, e) refl)
 
 -- by the tables
-module _ (t : Tables) (p : PairPlace) (r : Listed PairPlace) (h : TablesOf t) (stop_first : 1 ≤ p.stop) (stop_within : p.stop ≤ t.stops) where
-  its_stop : (s : TablesOf t) → p.stop ≤ stops s.day
+module _ (t : Listing) (p : PairPlace) (r : Listed PairPlace) (h : ListingOf t) (stop_first : 1 ≤ p.stop) (stop_within : p.stop ≤ t.stops) where
+  its_stop : (s : ListingOf t) → p.stop ≤ stops s.day
   its_stop s = omega (arith, s.stops_is)
 
   -- the next stop
-  stop_over : ((s : TablesOf t) → length (neighbours s.day t.k p.stop) ≤ p.rank) → r.trial ≡ None → r.next ≡ next_stop p → PairStep t p r
+  stop_over : ((s : ListingOf t) → length (neighbours s.day t.k p.stop) ≤ p.rank) → r.trial ≡ None → r.next ≡ next_stop p → Step pair_part t p r
   stop_over l f n =
       record {
         goes = λ s. goes_past f (rw (rank_over s.day t.k s.rounds p (its_stop s) (l s), n) refl);
-        first = rw n (omega arith);
+        fits = rw n (omega arith);
         falls = λ _. rw n (omega (arith, h.close));
       }
 
-  pub ranks_over : t.k ≤ p.rank → r.trial ≡ None → r.next ≡ next_stop p → PairStep t p r
+  pub ranks_over : t.k ≤ p.rank → r.trial ≡ None → r.next ≡ next_stop p → Step pair_part t p r
   ranks_over l = stop_over (λ s. omega (arith, (neighbours_are s.day t.k p.stop).few))
 
   module _ (rank_few : p.rank < t.k) (j : ℕ) (ej : j ≡ get_or t.neighbours.now (50 * p.stop + p.rank) 0) where
-    its_neighbour : (s : TablesOf t) → j ≡ get_or (neighbours s.day t.k p.stop) p.rank 0
+    its_neighbour : (s : ListingOf t) → j ≡ get_or (neighbours s.day t.k p.stop) p.rank 0
     its_neighbour s = ej ∙ s.table_is.rows p.stop p.rank stop_first (its_stop s) rank_few
 
-    pub neighbours_over : j ≡ 0 → r.trial ≡ None → r.next ≡ next_stop p → PairStep t p r
+    pub neighbours_over : j ≡ 0 → r.trial ≡ None → r.next ≡ next_stop p → Step pair_part t p r
     neighbours_over z = stop_over (λ s. rank_beyond s.day t.k p.stop p.rank (sym (its_neighbour s) ∙ z))
 
     -- a pair, by the vehicles of its stops
-    same_pair : (s : TablesOf t) (i j : ℕ) → 1 ≤ i → i ≤ stops s.day → 1 ≤ j → j ≤ stops s.day
+    same_pair : (s : ListingOf t) (i j : ℕ) → 1 ≤ i → i ≤ stops s.day → 1 ≤ j → j ≤ stops s.day
         → pair_on i j (get_or t.vehicles.now i 0) (get_or t.vehicles.now j 0) ≡ pair_trials s.rounds i j
     unfolding pair_on pair_trials
     same_pair s i j a b c d = rw (s.surveyed.routed i a b, s.surveyed.routed j c d) refl
 
-    pub pair_steps : (one two : ℕ) → 0 < j → one ≡ get_or t.vehicles.now p.stop 0 → two ≡ get_or t.vehicles.now j 0 → PairTells (pair_on p.stop j one two) p r → PairStep t p r
+    pub pair_steps : (one two : ℕ) → 0 < j → one ≡ get_or t.vehicles.now p.stop 0 → two ≡ get_or t.vehicles.now j 0 → PairTells (pair_on p.stop j one two) p r → Step pair_part t p r
     pair_steps one two n eo et tells =
         record {
           goes = λ s.
@@ -201,16 +201,16 @@ module _ (t : Tables) (p : PairPlace) (r : Listed PairPlace) (h : TablesOf t) (s
               let stop = every_at (λ j. (1 ≤ j) × (j ≤ stops s.day)) (neighbours s.day t.k p.stop) p.rank 0 (neighbours_are s.day t.k p.stop).known inside in
               let same = same_pair s p.stop (get_or (neighbours s.day t.k p.stop) p.rank 0) stop_first (its_stop s) stop.0 stop.1 in
               pair_goes s.day t.k s.rounds p r (its_stop s) inside (rw (eo, et, e, same) at tells);
-          first = rw (tells_next r tells).0 stop_first;
+          fits = rw (tells_next r tells).0 stop_first;
           falls = λ f. rw ((tells_next r tells).1 f) (omega (arith, h.close));
         }
 
     -- a pair of which one stop is on no vehicle
     module _ (n : 0 < j) {o : Option ℕ} (e : o ≡ None) (f : r.trial ≡ None) (next : r.next ≡ next_rank p) where
-      pub one_loose : NumberAt (get_or t.vehicles.now p.stop 0) o → PairStep t p r
+      pub one_loose : NumberAt (get_or t.vehicles.now p.stop 0) o → Step pair_part t p r
       one_loose a = pair_steps 0 (get_or t.vehicles.now j 0) n (number_none a e) refl (loose_one p.stop j 0 (get_or t.vehicles.now j 0) p r refl f next)
 
-      pub two_loose : NumberAt (get_or t.vehicles.now j 0) o → PairStep t p r
+      pub two_loose : NumberAt (get_or t.vehicles.now j 0) o → Step pair_part t p r
       two_loose a = elim (known (eqb (get_or t.vehicles.now p.stop 0) 0)) [
         | inl z ↦ pair_steps (get_or t.vehicles.now p.stop 0) 0 n refl (number_none a e) (loose_one p.stop j (get_or t.vehicles.now p.stop 0) 0 p r (eqb-true _ _ z) f next)
         | inr z ↦ pair_steps (get_or t.vehicles.now p.stop 0) 0 n refl (number_none a e) (loose_two p.stop j (get_or t.vehicles.now p.stop 0) 0 p r (eqb-false _ _ z) refl f next)

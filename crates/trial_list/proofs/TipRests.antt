@@ -19,14 +19,14 @@ use Rattle.rules.specs.Plan.{Task, serve, empty, lunch, Round, task_word, Known}
 use Rattle.rules.specs.Edits.{remove, replace, on_one}
 use Rattle.rules.specs.TrialList.{rising, other_tip, task_trials, round_trials, tip_trials}
 use Rattle.trial_list.specs.declared.listing.Trial as Code
-use Rattle.trial_list.specs.declared.tables.Tables.{Tables}
+use Rattle.trial_list.specs.declared.listing.Listing.{Listing}
 use Rattle.laws.proofs.Decided.{known}
 use Rattle.laws.proofs.Lists.{every_at}
-use Rattle.trial_list.specs.Listing.{Goes, at_tip, next_task, next_vehicle, TipTells, tells_no_tip, tells_tip, TipFits, TablesOf, SomeTip, tips_left, TipStep}
+use Rattle.trial_list.specs.Listing.{Goes, at_tip, next_task, next_vehicle, TipTells, tells_no_tip, tells_tip, TipFits, ListingOf, SomeTip, Step, tip_part}
 use Rattle.trial_list.specs.Survey.{Laid, VehicleIn}
 use Rattle.trial_list.specs.TrialRest.{listed_trial, tip_from, task_from, tasks_from, tip_rest}
 use Rattle.trial_list.specs.declared.listing.Listed.{Listed}
-use Rattle.trial_list.specs.declared.listing.TipPlace.{TipPlace}
+use Rattle.trial_list.specs.declared.tips.TipPlace.{TipPlace}
 use Rattle.trial_list.proofs.LaidLaws.{start_next, vehicle_in, vehicle_inside, task_word_lem}
 use Rattle.trial_list.proofs.PairRests.{none_some, goes_past, goes_with}
 
@@ -141,7 +141,7 @@ tip_word_lem day w number t x (empty y) m n h l e =
 tip_word_lem day w number t x lunch m n h l e = absurd (omega arith)
 
 -- by the tables
-module _ (t : Tables) (s : TablesOf t) where
+module _ (t : Listing) (s : ListingOf t) where
   among : {v : ℕ} → v < t.count → v < length s.rounds
   among h = omega (arith, s.surveyed.counted)
 
@@ -180,8 +180,8 @@ module _ (t : Tables) (s : TablesOf t) where
         goes_with f (rw (task_at s.day s.rounds q l, same q.tip, e, n, task_at s.day s.rounds (at_tip q x) l, same (Some x)) refl)
 
 -- one step over the tips
-module _ (t : Tables) (q : TipPlace) (r : Listed TipPlace) (some : SomeTip t q) (a b : ℕ) (ea : a ≡ get_or t.starts.now q.vehicle 0) (eb : b ≡ get_or t.starts.now (q.vehicle + 1) 0) where
-  pub vehicle_ends : a + 1 + q.task + 1 ≡ b → r.trial ≡ None → r.next ≡ next_vehicle q → TipStep t q r
+module _ (t : Listing) (q : TipPlace) (r : Listed TipPlace) (some : SomeTip t q) (a b : ℕ) (ea : a ≡ get_or t.starts.now q.vehicle 0) (eb : b ≡ get_or t.starts.now (q.vehicle + 1) 0) where
+  pub vehicle_ends : a + 1 + q.task + 1 ≡ b → r.trial ≡ None → r.next ≡ next_vehicle q → Step tip_part t q r
   vehicle_ends e f n =
       record {
         goes = λ s. goes_past f (rw (tasks_over s.day s.rounds q (omega (arith, end_at t s some.within)), n) refl);
@@ -191,21 +191,21 @@ module _ (t : Tables) (q : TipPlace) (r : Listed TipPlace) (some : SomeTip t q) 
 
   -- at a task
   module _ (w : ℕ) (more : a + 1 + q.task + 1 ≡ b → ⊥) (ew : w ≡ get_or t.plan.now (a + 1 + q.task) 0) where
-    inside : (s : TablesOf t) → q.task < length (get_or s.rounds q.vehicle [])
+    inside : (s : ListingOf t) → q.task < length (get_or s.rounds q.vehicle [])
     inside s = omega (arith, some.fits, end_at t s some.within)
 
-    its_word : (s : TablesOf t) → w ≡ task_word (task t s q some.within (inside s))
+    its_word : (s : ListingOf t) → w ≡ task_word (task t s q some.within (inside s))
     its_word s = ew ∙ ap (λ (k : ℕ). get_or t.plan.now (k + 1 + q.task) 0) ea ∙ task_word_lem (laid t s) (among t s some.within) q.task (inside s)
 
     -- the next task fits, and there are fewer words behind it
     next_fits : r.next ≡ next_task q → TipFits t.starts.now t.count r.next
     next_fits n = rw n (λ l. omega (arith, some.fits))
 
-    next_falls : r.next ≡ next_task q → tips_left t r.next < tips_left t q
+    next_falls : r.next ≡ next_task q → tip_part.left t r.next < tip_part.left t q
     next_falls n = rw n (omega (arith, some.fits, end_within t some.tables some.within))
 
     -- it is no tip
-    pub idle_passes : ((tip_word 0) ≤ w → w < rest_word → ⊥) → r.trial ≡ None → r.next ≡ next_task q → TipStep t q r
+    pub idle_passes : ((tip_word 0) ≤ w → w < rest_word → ⊥) → r.trial ≡ None → r.next ≡ next_task q → Step tip_part t q r
     idle_passes idle f n =
         record {
           goes = λ s. passes t s q some.within (inside s) r (idle_word s.day w (suc q.vehicle) q.task q.tip (task t s q some.within (inside s)) (is_known t s q some.within (inside s)) idle (its_word s)) f n;
@@ -222,7 +222,7 @@ module _ (t : Tables) (q : TipPlace) (r : Listed TipPlace) (some : SomeTip t q) 
     tells_next y (tells_no_tip _ e n m) f = m
     tells_next y (tells_tip _ m x e n g) f = absurd (none_some f e)
 
-    pub tip_steps : (tip_word 0) ≤ w → w < rest_word → TipTells t.tips (w - tip_word 0) q r → TipStep t q r
+    pub tip_steps : (tip_word 0) ≤ w → w < rest_word → TipTells t.tips (w - tip_word 0) q r → Step tip_part t q r
     tip_steps low high tells =
         record {
           goes = λ s.

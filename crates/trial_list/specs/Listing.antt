@@ -11,10 +11,10 @@ use Rattle.trial_list.specs.Survey.{VehicleIn, Surveyed}
 use Rattle.trial_list.specs.TrialRest.{listed_trial, from_half, pair_rest, tip_from, tip_rest, rest_of}
 use Rattle.trial_list.specs.declared.listing.Cursor.{Cursor}
 use Rattle.trial_list.specs.declared.listing.Listed.{Listed}
-use Rattle.trial_list.specs.declared.listing.PairPlace.{PairPlace}
-use Rattle.trial_list.specs.declared.listing.TipPlace.{TipPlace}
+use Rattle.trial_list.specs.declared.pairs.PairPlace.{PairPlace}
+use Rattle.trial_list.specs.declared.tips.TipPlace.{TipPlace}
 use Rattle.trial_list.specs.declared.listing.Trial as Code
-use Rattle.trial_list.specs.declared.tables.Tables.{Tables}
+use Rattle.trial_list.specs.declared.listing.Listing.{Listing}
 
 -- a list that goes on behind a place: with a trial or, passing on, without
 pub record Goes {P : Type 0} (rest : P → List Trial) (at : P) (r : Listed P) : Type 0 where
@@ -47,10 +47,6 @@ pub data PairTells (trials : List Trial) (p : PairPlace) : Listed PairPlace → 
   last_trial : (r : Listed PairPlace) (m : Code.Trial) → r.trial ≡ Some m → from_half p.second trials ≡ listed_trial m ∷ [] → r.next ≡ next_rank p → PairTells trials p r
   first_trial : (r : Listed PairPlace) (m : Code.Trial) (other : Trial) → r.trial ≡ Some m → p.second ≡ false → trials ≡ listed_trial m ∷ other ∷ []
       → r.next ≡ halfway p → PairTells trials p r
-
--- how many pairs there may be yet
-abbrev pub pairs_left : ℕ → ℕ → PairPlace → ℕ
-pairs_left most K p = 64 * (suc most - p.stop) + (K - p.rank)
 
 -- the next tip to try, the next task, the next vehicle
 abbrev pub at_tip : TipPlace → ℕ → TipPlace
@@ -88,41 +84,50 @@ pub record PlanTables (stop_count tip_count K : ℕ) (table starts vehicles plan
   pub surveyed : Surveyed day rounds starts vehicles distances count
   pub text : plan ≡ plan_words rounds lefts
 
-abbrev pub TablesOf : Tables → Type 0
-TablesOf t = PlanTables t.stops t.tips t.k t.neighbours.now t.starts.now t.vehicles.now t.plan.now t.count
+abbrev pub ListingOf : Listing → Type 0
+ListingOf t = PlanTables t.stops t.tips t.k t.neighbours.now t.starts.now t.vehicles.now t.plan.now t.count
 
--- one step over the pairs: the list goes on, and there are fewer places yet
-pub record PairStep (t : Tables) (p : PairPlace) (r : Listed PairPlace) : Type 0 where
-  pub goes : (s : TablesOf t) → Goes (pair_rest s.day t.k s.rounds) p r
-  pub first : 1 ≤ r.next.stop
-  pub falls : r.trial ≡ None → pairs_left t.stops t.k r.next < pairs_left t.stops t.k p
+-- a part of the list: what is left of it behind a place, where it can go on, where there is more to look at, and how much there may be yet
+pub record Part (P : Type 0) : Type 1 where
+  pub rest : (t : Listing) → ListingOf t → P → List Trial
+  pub fits : Listing → P → Type 0
+  pub inside : Listing → P → Type 0
+  pub left : Listing → P → ℕ
 
--- the next trial of a pair, if there is one
-pub record PairAnswer (t : Tables) (p : PairPlace) (r : Listed PairPlace) : Type 0 where
-  pub tells : (s : TablesOf t) → Tells (pair_rest s.day t.k s.rounds) p r
-  pub first : 1 ≤ r.next.stop
+-- one step over the places: the list goes on, and there is less of it yet
+pub record Step {P : Type 0} (part : Part P) (t : Listing) (p : P) (r : Listed P) : Type 0 where
+  pub goes : (s : ListingOf t) → Goes (part.rest t s) p r
+  pub fits : part.fits t r.next
+  pub falls : r.trial ≡ None → part.left t r.next < part.left t p
+
+-- the next trial, if there is one
+pub record NextListed {P : Type 0} (part : Part P) (t : Listing) (p : P) (r : Listed P) : Type 0 where
+  pub tells : (s : ListingOf t) → Tells (part.rest t s) p r
+  pub fits : part.fits t r.next
 
 -- the place is one of a vehicle of the plan
-pub record SomeTip (t : Tables) (q : TipPlace) : Type 0 where
-  pub tables : TablesOf t
+pub record SomeTip (t : Listing) (q : TipPlace) : Type 0 where
+  pub tables : ListingOf t
   pub within : q.vehicle < t.count
   pub vehicle : VehicleIn t.plan.now t.starts.now q.vehicle
   pub fits : get_or t.starts.now q.vehicle 0 + q.task + 2 ≤ get_or t.starts.now (q.vehicle + 1) 0
 
--- how many words there are yet
-abbrev pub tips_left : Tables → TipPlace → ℕ
-tips_left t q = length t.plan.now - (get_or t.starts.now q.vehicle 0 + q.task)
+-- of the pairs there are stops and ranks left, of the tips words
+abbrev pub pair_part : Part PairPlace
+pair_part = record {
+  rest = λ t s. pair_rest s.day t.k s.rounds;
+  fits = λ t p. 1 ≤ p.stop;
+  inside = λ t p. ListingOf t × (1 ≤ p.stop) × (p.stop ≤ t.stops);
+  left = λ t p. 64 * (suc t.stops - p.stop) + (t.k - p.rank);
+}
 
--- one step over the tips: the list goes on, and there are fewer words yet
-pub record TipStep (t : Tables) (q : TipPlace) (r : Listed TipPlace) : Type 0 where
-  pub goes : (s : TablesOf t) → Goes (tip_rest s.day s.rounds) q r
-  pub fits : TipFits t.starts.now t.count r.next
-  pub falls : r.trial ≡ None → tips_left t r.next < tips_left t q
-
--- the next trial of a tip, if there is one
-pub record TipAnswer (t : Tables) (q : TipPlace) (r : Listed TipPlace) : Type 0 where
-  pub tells : (s : TablesOf t) → Tells (tip_rest s.day s.rounds) q r
-  pub fits : TipFits t.starts.now t.count r.next
+abbrev pub tip_part : Part TipPlace
+tip_part = record {
+  rest = λ t s. tip_rest s.day s.rounds;
+  fits = λ t q. TipFits t.starts.now t.count q;
+  inside = SomeTip;
+  left = λ t q. length t.plan.now - (get_or t.starts.now q.vehicle 0 + q.task);
+}
 
 -- where the list can go on
 pub record CursorFits (starts : List ℕ) (count : ℕ) (c : Cursor) : Type 0 where
@@ -134,5 +139,5 @@ pub record ListAnswer (stop_count tip_count K : ℕ) (table starts vehicles plan
   pub tells : (s : PlanTables stop_count tip_count K table starts vehicles plan count) → Tells (rest_of s.day K s.rounds) c r
   pub fits : CursorFits starts count r.next
 
-abbrev pub Answers : Tables → Cursor → Listed Cursor → Type 0
+abbrev pub Answers : Listing → Cursor → Listed Cursor → Type 0
 Answers t = ListAnswer t.stops t.tips t.k t.neighbours.now t.starts.now t.vehicles.now t.plan.now t.count

@@ -7,8 +7,8 @@ use Rattle.rules.specs.Edits.{before, after, swap, remove, Trial, on_one, on_two
 use Rattle.rules.specs.TrialList.{each, rising, pair_trials, other_tip, round_trials, tip_trials}
 use Rattle.edits.specs.EditWords.{trial_of}
 use Rattle.trial_list.specs.declared.listing.Cursor.{Cursor}
-use Rattle.trial_list.specs.declared.listing.PairPlace.{PairPlace}
-use Rattle.trial_list.specs.declared.listing.TipPlace.{TipPlace}
+use Rattle.trial_list.specs.declared.pairs.PairPlace.{PairPlace}
+use Rattle.trial_list.specs.declared.tips.TipPlace.{TipPlace}
 use Rattle.trial_list.specs.declared.listing.Trial as Code
 
 -- the trial that the code lists

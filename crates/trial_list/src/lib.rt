@@ -2,5 +2,7 @@
 #![tactic(auto)]
 
 pub mod listing;
+pub mod pairs;
+pub mod places;
 pub mod survey;
-pub mod tables;
+pub mod tips;

@@ -1,7 +1,7 @@
--- `trial_list::listing::tip_trial` meets its contract.
+-- `trial_list::tips::tip_trial` meets its contract.
 use mathlib.Core.Path.{refl, ◌∙◌}
 use Rattle.trial_list.proofs.TipRests.{tells_removal, tells_other, tells_none}
-use Rattle.trial_list.proofs.listing.tip_trial.Goals as goal
+use Rattle.trial_list.proofs.tips.tip_trial.Goals as goal
 
 pub returns-in_default : goal.returns-in_default
 returns-in_default c =

@@ -1,7 +1,7 @@
--- `trial_list::listing::pair_trial` meets its contract.
+-- `trial_list::pairs::pair_trial` meets its contract.
 use mathlib.Core.Path.{refl, ◌∙◌}
 use Rattle.trial_list.proofs.PairRests.{tells_before, tells_after, tells_swap, tells_no_second}
-use Rattle.trial_list.proofs.listing.pair_trial.Goals as goal
+use Rattle.trial_list.proofs.pairs.pair_trial.Goals as goal
 
 pub returns-in-true-false : goal.returns-in-true-false
 returns-in-true-false c =

@@ -1,8 +1,8 @@
--- `trial_list::listing::tip_at` meets its contract.
+-- `trial_list::tips::TipPlace::look` meets its contract.
 use borrow.Author.Rules.{rules}
 use mathlib.Core.Path.{refl, ◌∙◌}
 use Rattle.trial_list.proofs.TipRests.{vehicle_ends, idle_passes, tip_steps}
-use Rattle.trial_list.proofs.listing.tip_at.Goals as goal
+use Rattle.trial_list.proofs.tips.TipPlacePlace.look.Goals as goal
 
 pub returns-then-at-end : goal.returns-then-at-end
 returns-then-at-end c =
