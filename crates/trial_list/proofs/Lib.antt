@@ -3,6 +3,7 @@ pub mod ListLength
 pub mod ListRests
 pub mod Listed
 pub mod PairRests
+pub mod Passing
 pub mod RideLaws
 pub mod Shapes
 pub mod SurveyLaws

@@ -28,7 +28,7 @@ use Rattle.trial_list.specs.TrialRest.{listed_trial, tip_from, task_from, tasks_
 use Rattle.trial_list.specs.declared.listing.Listed.{Listed}
 use Rattle.trial_list.specs.declared.tips.TipPlace.{TipPlace}
 use Rattle.trial_list.proofs.LaidLaws.{start_next, vehicle_in, vehicle_inside, task_word_lem}
-use Rattle.trial_list.proofs.PairRests.{none_some, goes_past, goes_with}
+use Rattle.trial_list.proofs.Passing.{none_some, goes_past, goes_with}
 
 -- the trials of one tip
 module _ (most number t y : ℕ) where

@@ -1,6 +1,6 @@
 -- `trial_list::listing::next_trial` meets its contract.
 use mathlib.Core.Path.{refl}
-use Rattle.trial_list.proofs.PairRests.{some_tested, none_tested}
+use Rattle.trial_list.proofs.Passing.{some_tested, none_tested}
 use Rattle.trial_list.proofs.ListRests.{lists_pair, lists_tip}
 use Rattle.trial_list.proofs.listing.next_trial.Goals as goal
 

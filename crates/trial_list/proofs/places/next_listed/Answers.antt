@@ -1,5 +1,5 @@
 -- `trial_list::places::next_listed` meets its contract.
-use Rattle.trial_list.proofs.PairRests.{next_none}
+use Rattle.trial_list.proofs.Passing.{next_none}
 use Rattle.trial_list.proofs.places.next_listed.Goals as goal
 
 pub returns : goal.returns

@@ -1,6 +1,6 @@
 -- `trial_list::places::next_listed` meets its contract.
 use Rattle.trial_list.specs.Listing.{ListingOf}
-use Rattle.trial_list.proofs.PairRests.{Passed}
+use Rattle.trial_list.proofs.Passing.{Passed}
 use Rattle.trial_list.proofs.places.next_listed.Given as goal
 
 abbrev pub invariant-loop-place : goal.invariant-loop-place
