@@ -4,7 +4,7 @@
 use Rattle.std.specs.Prelude.{Option, Some, None}
 use Prim.Native.Nat.{ℕ, zero, suc, ◌+◌, ◌*◌, ◌-◌, ◌≤◌, ◌<◌}
 use mathlib.Core.Path.{◌≡◌, refl, sym, ap, ◌∙◌}
-use mathlib.Core.Bool.{Bool, true, false}
+use mathlib.Core.Bool.{false}
 use mathlib.Core.List.{List, [], ◌∷◌, ◌++◌, append_assoc}
 use mathlib.Core.Logic.{inl, inr}
 use native.Mathlib.Numerals.{add-one}
@@ -24,6 +24,8 @@ use Rattle.laws.proofs.Lists.{every_at}
 use Rattle.trial_list.specs.Listing.{Goes, NumberAt, next_rank, halfway, next_stop, PairTells, no_trial, last_trial, first_trial, ListingOf, Step, pair_part}
 use Rattle.trial_list.specs.TrialRest.{listed_trial, pair_on, from_half, neighbours_from, stops_from, pair_rest}
 use Rattle.trial_list.specs.declared.listing.Listed.{Listed}
+use Rattle.trial_list.specs.declared.pairs.Half.{Half}
+use Rattle.trial_list.specs.declared.pairs.Half.TheVariants as Halves
 use Rattle.trial_list.specs.declared.pairs.PairPlace.{PairPlace}
 use Rattle.trial_list.specs.declared.listing.Trial as Code
 use Rattle.trial_list.specs.declared.listing.Listing.{Listing}
@@ -36,20 +38,20 @@ number_none a e = rw e at a.number_is
 pub number_some : {k x : ℕ} {o : Option ℕ} → NumberAt k o → o ≡ Some x → (x ≡ k) × (0 < x)
 number_some a e = (rw e at a.number_is, (rw e at a.some).0)
 
-half_none : (b : Bool) → from_half {A = Trial} b [] ≡ []
+half_none : (half : Half) → from_half {A = Trial} half [] ≡ []
 unfolding from_half
-half_none true = refl
-half_none false = refl
+half_none Halves.First = refl
+half_none Halves.Second = refl
 
 -- what is said of a pair, by the vehicles of its stops
 module _ (i j one two : ℕ) (p : PairPlace) (r : Listed PairPlace) where
   pub loose_one : one ≡ 0 → r.trial ≡ None → r.next ≡ next_rank p → PairTells (pair_on i j one two) p r
   unfolding pair_on
-  loose_one e f n = no_trial r f (rw (eq-eqb one 0 e) (half_none p.second)) n
+  loose_one e f n = no_trial r f (rw (eq-eqb one 0 e) (half_none p.half)) n
 
   pub loose_two : (one ≡ 0 → ⊥) → two ≡ 0 → r.trial ≡ None → r.next ≡ next_rank p → PairTells (pair_on i j one two) p r
   unfolding pair_on
-  loose_two h e f n = no_trial r f (rw (ne_eqb one 0 h, eq-eqb two 0 e) (half_none p.second)) n
+  loose_two h e f n = no_trial r f (rw (ne_eqb one 0 h, eq-eqb two 0 e) (half_none p.half)) n
 
   module _ (a : 0 < one) (b : 0 < two) where
     apart_one : eqb one 0 ≡ false
@@ -58,21 +60,21 @@ module _ (i j one two : ℕ) (p : PairPlace) (r : Listed PairPlace) where
     apart_two : eqb two 0 ≡ false
     apart_two = ne_eqb two 0 (λ e. omega arith)
 
-    pub tells_no_second : (one ≡ two → ⊥) → p.second ≡ true → r.trial ≡ None → r.next ≡ next_rank p → PairTells (pair_on i j one two) p r
+    pub tells_no_second : (one ≡ two → ⊥) → p.half ≡ Halves.Second → r.trial ≡ None → r.next ≡ next_rank p → PairTells (pair_on i j one two) p r
     unfolding pair_on from_half
     tells_no_second d s f n = no_trial r f (rw (s, apart_one, apart_two, ne_eqb one two d) refl) n
 
-    pub tells_swap : {m : Code.Trial} → (one ≡ two → ⊥) → p.second ≡ false → r.trial ≡ Some m → listed_trial m ≡ on_two (swap i j) one two
+    pub tells_swap : {m : Code.Trial} → (one ≡ two → ⊥) → p.half ≡ Halves.First → r.trial ≡ Some m → listed_trial m ≡ on_two (swap i j) one two
         → r.next ≡ next_rank p → PairTells (pair_on i j one two) p r
     unfolding pair_on from_half
     tells_swap {m} d s f e n = last_trial r m f (rw (s, apart_one, apart_two, ne_eqb one two d, e) refl) n
 
-    pub tells_after : {m : Code.Trial} → one ≡ two → p.second ≡ true → r.trial ≡ Some m → listed_trial m ≡ on_one (after i j) one
+    pub tells_after : {m : Code.Trial} → one ≡ two → p.half ≡ Halves.Second → r.trial ≡ Some m → listed_trial m ≡ on_one (after i j) one
         → r.next ≡ next_rank p → PairTells (pair_on i j one two) p r
     unfolding pair_on from_half
     tells_after {m} d s f e n = last_trial r m f (rw (s, apart_one, apart_two, eq-eqb one two d, e) refl) n
 
-    pub tells_before : {m : Code.Trial} → one ≡ two → p.second ≡ false → r.trial ≡ Some m → listed_trial m ≡ on_one (before i j) one
+    pub tells_before : {m : Code.Trial} → one ≡ two → p.half ≡ Halves.First → r.trial ≡ Some m → listed_trial m ≡ on_one (before i j) one
         → r.next ≡ halfway p → PairTells (pair_on i j one two) p r
     unfolding pair_on
     tells_before {m} d s f e n = first_trial r m (on_one (after i j) one) f s (rw (apart_one, apart_two, eq-eqb one two d, e) refl) n
@@ -99,12 +101,12 @@ rank_beyond day K i rank z = elim (known (ltb rank (length (neighbours day K i))
 
 -- the pairs of a plan
 module _ (day : List ℕ) (K : ℕ) (rounds : List Round) where
-  all_neighbours : (i : ℕ) (js : List ℕ) → neighbours_from rounds i false js ≡ each (pair_trials rounds i) js
+  all_neighbours : (i : ℕ) (js : List ℕ) → neighbours_from rounds i Halves.First js ≡ each (pair_trials rounds i) js
   unfolding neighbours_from from_half each
   all_neighbours i [] = refl
   all_neighbours i (j ∷ js) = refl
 
-  pub all_stops : (i more : ℕ) → stops_from day K rounds i 0 false more ≡ rising (λ i. each (pair_trials rounds i) (neighbours day K i)) i more
+  pub all_stops : (i more : ℕ) → stops_from day K rounds i 0 Halves.First more ≡ rising (λ i. each (pair_trials rounds i) (neighbours day K i)) i more
   unfolding stops_from rising
   all_stops i zero = refl
   all_stops i (suc more) = rw (all_neighbours i (neighbours day K i)) refl
@@ -127,7 +129,7 @@ module _ (day : List ℕ) (K : ℕ) (rounds : List Round) where
     -- a neighbour
     rank_at : p.rank < length (neighbours day K p.stop)
         → pair_rest day K rounds p
-        ≡ from_half p.second (pair_trials rounds p.stop (get_or (neighbours day K p.stop) p.rank 0)) ++ pair_rest day K rounds (next_rank p)
+        ≡ from_half p.half (pair_trials rounds p.stop (get_or (neighbours day K p.stop) p.rank 0)) ++ pair_rest day K rounds (next_rank p)
     unfolding pair_rest stops_from neighbours_from
     rank_at h =
         let here : suc (stops day) - p.stop ≡ suc (stops day - p.stop) = omega arith in

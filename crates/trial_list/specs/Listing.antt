@@ -1,6 +1,6 @@
 -- What the code says of the trial list, which it never writes down: a step over it, the next trial, and the tables that it goes by. It serves
 -- the contracts of the functions that make trials. Assumes nothing.
-use Rattle.std.specs.Prelude.{ℕ, suc, ◌+◌, ◌*◌, ◌-◌, ◌≤◌, ◌<◌, ◌≡◌, true, false, List, [], ◌∷◌, Option, Some, None, IfSome, length, get_or}
+use Rattle.std.specs.Prelude.{ℕ, suc, ◌+◌, ◌*◌, ◌-◌, ◌≤◌, ◌<◌, ◌≡◌, List, [], ◌∷◌, Option, Some, None, IfSome, length, get_or}
 use Rattle.rules.specs.Lists.{Every}
 use Rattle.rules.specs.Tests.{number_or_none}
 use Rattle.rules.specs.Fields.{stops, tips}
@@ -11,6 +11,7 @@ use Rattle.trial_list.specs.Survey.{VehicleIn, Surveyed}
 use Rattle.trial_list.specs.TrialRest.{listed_trial, from_half, pair_rest, tip_from, tip_rest, rest_of}
 use Rattle.trial_list.specs.declared.listing.Cursor.{Cursor}
 use Rattle.trial_list.specs.declared.listing.Listed.{Listed}
+use Rattle.trial_list.specs.declared.pairs.Half.TheVariants as Halves
 use Rattle.trial_list.specs.declared.pairs.PairPlace.{PairPlace}
 use Rattle.trial_list.specs.declared.tips.TipPlace.{TipPlace}
 use Rattle.trial_list.specs.declared.listing.Trial as Code
@@ -33,19 +34,19 @@ pub record NumberAt (number : ℕ) (choice : Option ℕ) : Type 0 where
 
 -- the next pair, the second trial of this one, the next stop
 abbrev pub next_rank : PairPlace → PairPlace
-next_rank p = record { stop = p.stop; rank = p.rank + 1; second = false }
+next_rank p = record { stop = p.stop; rank = p.rank + 1; half = Halves.First }
 
 abbrev pub halfway : PairPlace → PairPlace
-halfway p = record { stop = p.stop; rank = p.rank; second = true }
+halfway p = record { stop = p.stop; rank = p.rank; half = Halves.Second }
 
 abbrev pub next_stop : PairPlace → PairPlace
-next_stop p = record { stop = p.stop + 1; rank = 0; second = false }
+next_stop p = record { stop = p.stop + 1; rank = 0; half = Halves.First }
 
 -- what is said of a pair with these trials
 pub data PairTells (trials : List Trial) (p : PairPlace) : Listed PairPlace → Type 0 where
-  no_trial : (r : Listed PairPlace) → r.trial ≡ None → from_half p.second trials ≡ [] → r.next ≡ next_rank p → PairTells trials p r
-  last_trial : (r : Listed PairPlace) (m : Code.Trial) → r.trial ≡ Some m → from_half p.second trials ≡ listed_trial m ∷ [] → r.next ≡ next_rank p → PairTells trials p r
-  first_trial : (r : Listed PairPlace) (m : Code.Trial) (other : Trial) → r.trial ≡ Some m → p.second ≡ false → trials ≡ listed_trial m ∷ other ∷ []
+  no_trial : (r : Listed PairPlace) → r.trial ≡ None → from_half p.half trials ≡ [] → r.next ≡ next_rank p → PairTells trials p r
+  last_trial : (r : Listed PairPlace) (m : Code.Trial) → r.trial ≡ Some m → from_half p.half trials ≡ listed_trial m ∷ [] → r.next ≡ next_rank p → PairTells trials p r
+  first_trial : (r : Listed PairPlace) (m : Code.Trial) (other : Trial) → r.trial ≡ Some m → p.half ≡ Halves.First → trials ≡ listed_trial m ∷ other ∷ []
       → r.next ≡ halfway p → PairTells trials p r
 
 -- the next tip to try, the next task, the next vehicle

@@ -1,5 +1,5 @@
 -- The trial list of a plan from a place on. Assumes nothing.
-use Rattle.std.specs.Prelude.{ℕ, zero, suc, ◌-◌, Bool, false, ◌||◌, List, [], ◌∷◌, ◌++◌, eqb, Option, Some, None, get_or, drop, if◌then◌else◌}
+use Rattle.std.specs.Prelude.{ℕ, zero, suc, ◌-◌, ◌||◌, List, [], ◌∷◌, ◌++◌, eqb, Option, Some, None, get_or, drop, if◌then◌else◌}
 use Rattle.rules.specs.Fields.{stops, tips}
 use Rattle.rules.specs.Plan.{Task, serve, empty, lunch, Round}
 use Rattle.rules.specs.Neighbours.{neighbours}
@@ -7,6 +7,8 @@ use Rattle.rules.specs.Edits.{before, after, swap, remove, Trial, on_one, on_two
 use Rattle.rules.specs.TrialList.{each, rising, pair_trials, other_tip, round_trials, tip_trials}
 use Rattle.edits.specs.EditWords.{trial_of}
 use Rattle.trial_list.specs.declared.listing.Cursor.{Cursor}
+use Rattle.trial_list.specs.declared.pairs.Half.{Half}
+use Rattle.trial_list.specs.declared.pairs.Half.TheVariants as Halves
 use Rattle.trial_list.specs.declared.pairs.PairPlace.{PairPlace}
 use Rattle.trial_list.specs.declared.tips.TipPlace.{TipPlace}
 use Rattle.trial_list.specs.declared.listing.Trial as Code
@@ -23,24 +25,25 @@ pair_on i j one other =
     else on_two (swap i j) one other ∷ []
 
 -- all of a list, or what stands behind its first
-unfoldable pub from_half : {A : Type 0} → Bool → List A → List A
-from_half second xs = if second then drop 1 xs else xs
+unfoldable pub from_half : {A : Type 0} → Half → List A → List A
+from_half Halves.First xs = xs
+from_half Halves.Second xs = drop 1 xs
 
 -- a stop and the neighbours that are left
-unfoldable pub neighbours_from : List Round → ℕ → Bool → List ℕ → List Trial
-neighbours_from rounds i second [] = []
-neighbours_from rounds i second (j ∷ js) = from_half second (pair_trials rounds i j) ++ each (pair_trials rounds i) js
+unfoldable pub neighbours_from : List Round → ℕ → Half → List ℕ → List Trial
+neighbours_from rounds i half [] = []
+neighbours_from rounds i half (j ∷ js) = from_half half (pair_trials rounds i j) ++ each (pair_trials rounds i) js
 
 -- so many stops that are left, of the first the neighbours from a rank on
-unfoldable pub stops_from : List ℕ → ℕ → List Round → ℕ → ℕ → Bool → ℕ → List Trial
-stops_from day K rounds i rank second zero = []
-stops_from day K rounds i rank second (suc more) =
-    neighbours_from rounds i second (drop rank (neighbours day K i))
+unfoldable pub stops_from : List ℕ → ℕ → List Round → ℕ → ℕ → Half → ℕ → List Trial
+stops_from day K rounds i rank half zero = []
+stops_from day K rounds i rank half (suc more) =
+    neighbours_from rounds i half (drop rank (neighbours day K i))
     ++ rising (λ i. each (pair_trials rounds i) (neighbours day K i)) (suc i) more
 
 -- the pairs that are left
 unfoldable pub pair_rest : List ℕ → ℕ → List Round → PairPlace → List Trial
-pair_rest day K rounds p = stops_from day K rounds p.stop p.rank p.second (suc (stops day) - p.stop)
+pair_rest day K rounds p = stops_from day K rounds p.stop p.rank p.half (suc (stops day) - p.stop)
 
 -- of tip y, the task number t of a vehicle: its removal and every other tip, or the other tips from x on
 unfoldable pub tip_from : ℕ → ℕ → ℕ → ℕ → Option ℕ → List Trial
@@ -68,4 +71,4 @@ rest_of day K rounds c = pair_rest day K rounds c.pairs ++ tip_rest day rounds c
 
 -- where the list begins
 abbrev pub list_start : Cursor
-list_start = record { pairs = record { stop = 1; rank = 0; second = false }; tips = record { vehicle = 0; task = 0; tip = None } }
+list_start = record { pairs = record { stop = 1; rank = 0; half = Halves.First }; tips = record { vehicle = 0; task = 0; tip = None } }

@@ -3,7 +3,7 @@ ghost use Rattle.std.specs.Prelude.{◌≡◌};
 ghost use Rattle.trial_list.specs.TrialRest.{list_start};
 ghost use Rattle.trial_list.specs.Listing.{ListingOf, CursorFits, Answers};
 
-use crate::pairs::PairPlace;
+use crate::pairs::{Half, PairPlace};
 use crate::places::next_listed;
 use crate::tips::TipPlace;
 use edits::Edit;
@@ -54,7 +54,7 @@ pub fn first_trial() -> Cursor
         pairs: PairPlace {
             stop: 1,
             rank: 0,
-            second: false,
+            half: Half::First,
         },
         tips: TipPlace {
             vehicle: 0,

@@ -7,13 +7,19 @@ use crate::listing::{Listed, Listing};
 use crate::places::{Place, found, passed};
 use edits::Edit;
 
-// A stop, the rank of a neighbour, and whether the first trial of the pair is passed: it is matched as a yes or no
-// beside whether both stops are on one vehicle.
+// A pair may have two trials, one after the other.
+#[derive(Clone, Copy)]
+pub enum Half {
+    First,
+    Second,
+}
+
+// A stop, the rank of a neighbour, and which trial of the pair is next.
 #[derive(Clone, Copy)]
 pub struct PairPlace {
     pub stop: usize,
     pub rank: usize,
-    pub second: bool,
+    pub half: Half,
 }
 
 impl PairPlace {
@@ -24,7 +30,7 @@ impl PairPlace {
         PairPlace {
             stop: self.stop,
             rank: self.rank + 1,
-            second: false,
+            half: Half::First,
         }
     }
 
@@ -32,7 +38,7 @@ impl PairPlace {
         ensures { result ≡ halfway self }
     {
         PairPlace {
-            second: true,
+            half: Half::Second,
             ..self
         }
     }
@@ -44,7 +50,7 @@ impl PairPlace {
         PairPlace {
             stop: self.stop + 1,
             rank: 0,
-            second: false,
+            half: Half::First,
         }
     }
 }
@@ -65,21 +71,21 @@ fn pair_trial(place: PairPlace, stop: u32, other: u32, one: usize, two: usize) -
     requires { (place.rank < 50) × (0 < one) × (0 < two) }
     ensures { PairTells (pair_on stop other one two) place result }
 {
-    match (one == two, place.second) {
-        (true, false) => found(
+    match (one == two, place.half) {
+        (true, Half::First) => found(
             Edit::Before { stop, moved: other },
             one,
             one,
             place.halfway(),
         ),
-        (true, true) => found(
+        (true, Half::Second) => found(
             Edit::After { stop, moved: other },
             one,
             one,
             place.next_rank(),
         ),
-        (false, false) => found(Edit::Swap { stop, other }, one, two, place.next_rank()),
-        (false, true) => passed(place.next_rank()),
+        (false, Half::First) => found(Edit::Swap { stop, other }, one, two, place.next_rank()),
+        (false, Half::Second) => passed(place.next_rank()),
     }
 }
 
