@@ -7,7 +7,7 @@ use crate::listing::{Listed, Listing};
 use crate::places::{Place, found, passed};
 use edits::Edit;
 
-// A pair may have two trials, one after the other.
+// Which trial of a pair: stops of one vehicle have two, one after the other, and stops of two vehicles have one.
 #[derive(Clone, Copy)]
 pub enum Half {
     First,
