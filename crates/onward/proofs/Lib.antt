@@ -1,4 +1,3 @@
 pub mod FillLaws
 pub mod FirstLaws
 pub mod OnwardLaws
-pub mod RowLaws

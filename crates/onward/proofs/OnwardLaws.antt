@@ -7,12 +7,12 @@ use mathlib.Core.Bool.{Bool, true, false}
 use mathlib.Core.List.{List, [], ◌∷◌}
 use native.Mathlib.Omega.{arith}
 use lib.Dec.{eqb, leb}
-use lib.ListN.{length, drop}
+use lib.ListN.{length, get_or, drop}
 use Rattle.rules.specs.Lists.{Every}
 use Rattle.rules.specs.Fields.{stop_place, load_limit, quantity, leg_distance}
 use Rattle.rules.specs.Plan.{Task, serve, empty, lunch, Round, Known}
 use Rattle.rules.specs.Lawful.{distance_from}
-use Rattle.onward.specs.Behind.{distance_onward, stop_first, tip_first, task_first, onward_of, OnwardWithin, BehindOf, row_at}
+use Rattle.onward.specs.Behind.{homeward, distance_onward, stop_first, tip_first, task_first, onward_of, OnwardWithin, BehindOf}
 use Rattle.onward.specs.declared.Onward.{Onward}
 
 -- the distance from a place on
@@ -73,6 +73,6 @@ onward_bounds day (task ∷ tasks) (suc i) h =
     let w = onward_bounds day tasks i h.1 in record { least = w.least; most = w.most; next = w.next; distance = omega (arith, w.distance) }
 
 -- a vehicle's rows are within these bounds
-pub row_bounds : {day behind : List ℕ} {from : ℕ} {tasks : Round} → BehindOf day behind from tasks → Every (Known day) tasks → (i : ℕ) → i ≤ length tasks
-    → OnwardWithin day (length tasks) (row_at behind (from + i))
+pub row_bounds : {day : List ℕ} {behind : List Onward} {from : ℕ} {tasks : Round} → BehindOf day behind from tasks → Every (Known day) tasks → (i : ℕ) → i ≤ length tasks
+    → OnwardWithin day (length tasks) (get_or behind (from + i) homeward)
 row_bounds {day} {tasks = tasks} b h i l = rw (b.row i l) (onward_bounds day tasks i h)

@@ -47,23 +47,9 @@ pub record OnwardWithin (day : List ℕ) (legs : ℕ) (o : Onward) : Type 0 wher
   pub next : o.next < places day
   pub distance : o.distance ≤ 65535 * legs
 
--- how long the table is: four words for each place of a plan of at most 1200 words and the one behind it
-abbrev pub behind_words : ℕ
-behind_words = 4804
-
--- a row of the table
-unfoldable pub row_at : List ℕ → ℕ → Onward
-row_at behind p =
-    record { least = get_or behind (4 * p) 0; most = get_or behind (4 * p + 1) 0; next = get_or behind (4 * p + 2) 0; distance = get_or behind (4 * p + 3) 0 }
-
--- one row is written, and the others stay
-pub record RowPut (before after : List ℕ) (at : ℕ) (o : Onward) : Type 0 where
-  pub is : row_at after at ≡ o
-  pub others : (q : ℕ) → (q ≡ at → ⊥) → row_at after q ≡ row_at before q
-
 -- the rows of a vehicle whose tasks stand from a place on, up to that of its E word
-pub record BehindOf (day behind : List ℕ) (from : ℕ) (tasks : Round) : Type 0 where
-  pub row : (i : ℕ) → i ≤ length tasks → row_at behind (from + i) ≡ onward_of day (drop i tasks)
+pub record BehindOf (day : List ℕ) (behind : List Onward) (from : ℕ) (tasks : Round) : Type 0 where
+  pub row : (i : ℕ) → i ≤ length tasks → get_or behind (from + i) homeward ≡ onward_of day (drop i tasks)
 
 -- a word is that of a known task
 pub record SomeTask (day : List ℕ) (w : ℕ) : Type 0 where
@@ -87,6 +73,6 @@ pub record SomeRoundTo (day plan : List ℕ) (from end : ℕ) : Type 0 where
   pub round_to : RoundTo day plan from end tasks rest
 
 -- its rows are right whatever its tasks are, and all other rows stay
-pub record FillsBehind (day plan : List ℕ) (from end : ℕ) (before after : List ℕ) : Type 0 where
+pub record FillsBehind (day plan : List ℕ) (from end : ℕ) (before after : List Onward) : Type 0 where
   pub rows : (tasks : Round) (rest : List ℕ) → RoundTo day plan from end tasks rest → BehindOf day after from tasks
-  pub others : (q : ℕ) → (q < from) ⊎ (end < q) → row_at after q ≡ row_at before q
+  pub others : (q : ℕ) → (q < from) ⊎ (end < q) → get_or after q homeward ≡ get_or before q homeward

@@ -1,44 +1,24 @@
-// What is left of a vehicle from each word of the plan on, in a table that is lent: four words for each word of the plan.
+// What is left of a vehicle from each word of the plan on, in a table that is lent: a row for each word of the plan.
 #![tactic(auto)]
 
-ghost use Rattle.std.specs.Prelude.{◌≡◌, ◌&&◌, ◌+◌, ◌-◌, ◌*◌, ◌<◌, ◌≤◌, leb, length};
+ghost use Rattle.std.specs.Prelude.{◌≡◌, ◌&&◌, ◌-◌, ◌<◌, ◌≤◌, leb, length};
 ghost use Rattle.rules.specs.Fields.{stops, tips, places};
-ghost use Rattle.onward.specs.Behind.{behind_words, distance_onward, stop_first, tip_first, row_at, RowPut, SomeTask, PutsFirst, SomeRoundTo, FillsBehind};
+ghost use Rattle.onward.specs.Behind.{distance_onward, stop_first, tip_first, SomeTask, PutsFirst, SomeRoundTo, FillsBehind};
 
 use day::days::Day;
 use plan_words::{REST, STOP, TIP};
 
+// How many rows a table of a plan has: one for each place of a plan of at most 1200 words, and the one behind it.
+pub const ROWS: usize = 1201;
+
 // The loads that a vehicle may come with, so that all that is left is driven as it stands; the place that comes next; the distance behind it.
-#[derive(Clone, Copy)]
+// By default nothing is left but the way back, for an empty vehicle.
+#[derive(Clone, Copy, Default)]
 pub struct Onward {
     pub least: u32,
     pub most: u32,
     pub next: u32,
     pub distance: u32,
-}
-
-// A row of the table.
-pub fn onward_at(behind: &[u32], at: usize) -> Onward
-    requires { 4 * at + 3 < length behind.now }
-    ensures { result ≡ row_at behind.now at }
-{
-    Onward {
-        least: behind[4 * at],
-        most: behind[4 * at + 1],
-        next: behind[4 * at + 2],
-        distance: behind[4 * at + 3],
-    }
-}
-
-// A row is written.
-fn put_row(behind: &mut [u32], at: usize, o: Onward)
-    requires { 4 * at + 3 < length behind.old }
-    ensures { RowPut behind.old behind.new at o }
-{
-    behind[4 * at] = o.least;
-    behind[4 * at + 1] = o.most;
-    behind[4 * at + 2] = o.next;
-    behind[4 * at + 3] = o.distance;
 }
 
 // Whether all that is left is driven as it stands by a vehicle that comes with this load.
@@ -120,19 +100,14 @@ fn onward_before(day: &Day, o: Onward, w: u32) -> Onward
 }
 
 // The rows of the vehicle whose tasks stand from a place to another, where its E word is.
-pub fn fill_behind(day: &Day, plan: &[u32], from: usize, end: usize, behind: &mut [u32])
-    requires { (length plan.now ≤ 1200) × SomeRoundTo day.now plan.now from end × (length behind.old ≡ behind_words) }
+pub fn fill_behind(day: &Day, plan: &[u32], from: usize, end: usize, behind: &mut [Onward])
+    requires { (length plan.now ≤ 1200) × SomeRoundTo day.now plan.now from end × (length behind.old ≡ ROWS) }
     ensures { FillsBehind day.now plan.now from end behind.old behind.new }
 {
-    let mut o = Onward {
-        least: 0,
-        most: 0,
-        next: 0,
-        distance: 0,
-    };
-    put_row(behind, end, o);
+    let mut o = Onward::default();
+    behind[end] = o;
     for at in (from..end).rev() {
         o = onward_before(day, o, plan[at]);
-        put_row(behind, at, o);
+        behind[at] = o;
     }
 }

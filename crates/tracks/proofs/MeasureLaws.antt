@@ -24,7 +24,7 @@ use Rattle.laws.proofs.Buffer.{wrote_same}
 use Rattle.laws.proofs.Tests.{both_true}
 use Rattle.laws.proofs.Plan.{stops_append}
 use Rattle.edits.specs.Kept.{kept}
-use Rattle.onward.specs.Behind.{OnwardWithin, row_at, distance_onward, onward_of}
+use Rattle.onward.specs.Behind.{OnwardWithin, homeward, distance_onward, onward_of}
 use Rattle.onward.specs.declared.Onward.{Onward}
 use Rattle.onward.proofs.OnwardLaws.{onward_distance, row_bounds}
 use Rattle.walks.specs.Cabs.{Riding, Start}
@@ -57,9 +57,9 @@ unfolding walk_home
 drives_none day e tasks n = again_none day (changed e 0 tasks) (rw n refl)
 
 -- what is left is driven as it stands
-module _ {day : List ℕ} {e : Edit} {start : Start} {words p part behind : List ℕ} {from first last : ℕ} {tasks : Round} {i : ℕ} {c : Cab}
+module _ {day : List ℕ} {e : Edit} {start : Start} {words p part : List ℕ} {behind : List Onward} {from first last : ℕ} {tasks : Round} {i : ℕ} {c : Cab}
     (h : Cuttable day e words p from behind first last tasks) (m : Midway day e start p part tasks i c) (l : i < length words)
-    {o : Onward} (is : o ≡ row_at behind (from + i)) (k : is_cut i last c.load o ≡ true) where
+    {o : Onward} (is : o ≡ get_or behind (from + i) homeward) (k : is_cut i last c.load o ≡ true) where
   within : i ≤ length tasks
   within = omega (arith, l, ap length h.walkable.are, length-map tasks task_word)
 
@@ -137,7 +137,7 @@ pub record Started (day : List ℕ) (e : Edit) (p part : List ℕ) (tasks : Roun
   pub start : Start
   pub midway : Midway day e start p part tasks first c
 
-module _ {day : List ℕ} {e : Edit} {words p behind : List ℕ} {before : List (Option Row)} {from first last : ℕ} {tasks : Round}
+module _ {day : List ℕ} {e : Edit} {words p : List ℕ} {before : List (Option Row)} {behind : List Onward} {from first last : ℕ} {tasks : Round}
     (h : Measurable day e words p from before behind first last tasks) where
   abbrev ahead : Round
   ahead = kept (take first tasks)

@@ -12,6 +12,8 @@ use Rattle.rules.specs.Lists.{Every}
 use Rattle.rules.specs.Plan.{Round, task_word, Known}
 use Rattle.laws.proofs.Lists.{every_at}
 use Rattle.onward.specs.Behind.{BehindOf, RoundTo, SomeRoundTo, FillsBehind}
+use Rattle.onward.specs.declared.Onward.{Onward}
+use Rattle.onward.specs.declared.TheConstants.{ROWS}
 use Rattle.trial_list.specs.Survey.{Laid}
 use Rattle.trial_list.proofs.LaidLaws.{behind, starts_rise, start_next, tasks_text, vehicle_in, vehicle_inside, words_are}
 use Rattle.tracks.specs.Before.{Walks, BeforeOf, FilledBefore}
@@ -48,7 +50,7 @@ module _ {day plan starts : List ℕ} {room : ℕ} {rounds : List Round} {lefts 
       record { are = words_are laid l; known = placed.round_at.known; few = (t.fits v l).few; room = omega (arith, (t.fits v l).words) }
 
   -- its rows are within the tables
-  pub vehicle_short : get_or starts v 0 + 1 + length (take (get_or starts (v + 1) 0 - 1 - (get_or starts v 0 + 1)) (drop (get_or starts v 0 + 1) plan)) < 1201
+  pub vehicle_short : get_or starts v 0 + 1 + length (take (get_or starts (v + 1) 0 - 1 - (get_or starts v 0 + 1)) (drop (get_or starts v 0 + 1) plan)) < ROWS
   vehicle_short =
       omega (
         arith,
@@ -60,7 +62,7 @@ module _ {day plan starts : List ℕ} {room : ℕ} {rounds : List Round} {lefts 
       )
 
   -- its rows are filled
-  pub vehicle_tracked : {before walks : List (Option Row)} {behind onwards part now : List ℕ} → room ≡ length part
+  pub vehicle_tracked : {before walks : List (Option Row)} {behind onwards : List Onward} {part now : List ℕ} → room ≡ length part
       → FilledBefore day (take (get_or starts (v + 1) 0 - 1 - (get_or starts v 0 + 1)) (drop (get_or starts v 0 + 1) plan)) (get_or starts v 0 + 1) before walks part now
       → FillsBehind day plan (get_or starts v 0 + 1) (get_or starts (v + 1) 0 - 1) behind onwards → TracksOne day rounds v before walks behind onwards
   vehicle_tracked {walks = walks} {onwards = onwards} h f g =
@@ -74,12 +76,12 @@ module _ {day plan starts : List ℕ} {room : ℕ} {rounds : List Round} {lefts 
       }
 
 -- the first v vehicles have their rows
-pub record Tracking (day : List ℕ) (rounds : List Round) (v : ℕ) (before : List (Option Row)) (behind : List ℕ) : Type 0 where
+pub record Tracking (day : List ℕ) (rounds : List Round) (v : ℕ) (before : List (Option Row)) (behind : List Onward) : Type 0 where
   pub walked : (u : ℕ) → u < v → BeforeOf day before (first_task rounds u) (get_or rounds u [])
   pub onward : (u : ℕ) → u < v → BehindOf day behind (first_task rounds u) (get_or rounds u [])
 
 -- one vehicle more
-tracking_next : (day : List ℕ) (rounds : List Round) (v : ℕ) (before walks : List (Option Row)) (behind onwards : List ℕ) → v < length rounds → Tracking day rounds v before behind
+tracking_next : (day : List ℕ) (rounds : List Round) (v : ℕ) (before walks : List (Option Row)) (behind onwards : List Onward) → v < length rounds → Tracking day rounds v before behind
     → TracksOne day rounds v before walks behind onwards → Tracking day rounds (v + 1) walks onwards
 tracking_next day rounds v before walks behind onwards l t o =
     record {

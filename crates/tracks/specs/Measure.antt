@@ -19,13 +19,13 @@ abbrev pub is_cut : (i last load : ℕ) → Onward → Bool
 is_cut i last load o = ltb last i && (leb o.least load && leb load o.most)
 
 -- these are the tasks of a vehicle, the edit changes none outside the span, and the rows are those of what is left
-pub record Cuttable (day : List ℕ) (e : Edit) (words part : List ℕ) (from : ℕ) (behind : List ℕ) (first last : ℕ) (tasks : Round) : Type 0 where
+pub record Cuttable (day : List ℕ) (e : Edit) (words part : List ℕ) (from : ℕ) (behind : List Onward) (first last : ℕ) (tasks : Round) : Type 0 where
   pub walkable : Walkable day e words part tasks
   pub outside : Outside e tasks first last
   pub rows : BehindOf day behind from tasks
 
 -- a vehicle that has come to the first task that changes
-pub record SomeCuttable (day : List ℕ) (e : Edit) (words part : List ℕ) (from : ℕ) (behind : List ℕ) (first last : ℕ) (c : Cab) : Type 0 where
+pub record SomeCuttable (day : List ℕ) (e : Edit) (words part : List ℕ) (from : ℕ) (behind : List Onward) (first last : ℕ) (c : Cab) : Type 0 where
   pub tasks : Round
   pub start : Start
   pub p : List ℕ
@@ -38,17 +38,17 @@ DrivesAgain day tasks None = walked_again day tasks ≡ none
 DrivesAgain day tasks (Some distance) = Again day tasks distance
 
 -- it is walked on until what is left is known, whatever the tasks are
-abbrev pub CutsAll : (day : List ℕ) (e : Edit) (words part : List ℕ) (from : ℕ) (behind : List ℕ) (first last : ℕ) (c : Cab) (r : Option ℕ) → Type 0
+abbrev pub CutsAll : (day : List ℕ) (e : Edit) (words part : List ℕ) (from : ℕ) (behind : List Onward) (first last : ℕ) (c : Cab) (r : Option ℕ) → Type 0
 CutsAll day e words part from behind first last c r =
     (tasks : Round) (start : Start) (p : List ℕ) → Cuttable day e words p from behind first last tasks → Midway day e start p part tasks first c
     → DrivesAgain day (changed e 0 tasks) r
 
 -- these are the tasks of a vehicle of the present plan, in its tables
-pub record Measurable (day : List ℕ) (e : Edit) (words part : List ℕ) (from : ℕ) (before : List (Option Row)) (behind : List ℕ) (first last : ℕ) (tasks : Round) : Type 0 where
+pub record Measurable (day : List ℕ) (e : Edit) (words part : List ℕ) (from : ℕ) (before : List (Option Row)) (behind : List Onward) (first last : ℕ) (tasks : Round) : Type 0 where
   pub cuttable : Cuttable day e words part from behind first last tasks
   pub same : length (stops_on (changed e 0 tasks)) ≡ length (stops_on tasks)
   pub walked : BeforeOf day before from tasks
 
-pub record SomeMeasurable (day : List ℕ) (e : Edit) (words part : List ℕ) (from : ℕ) (before : List (Option Row)) (behind : List ℕ) (first last : ℕ) : Type 0 where
+pub record SomeMeasurable (day : List ℕ) (e : Edit) (words part : List ℕ) (from : ℕ) (before : List (Option Row)) (behind : List Onward) (first last : ℕ) : Type 0 where
   pub tasks : Round
   pub measurable : Measurable day e words part from before behind first last tasks

@@ -3,7 +3,9 @@ use Rattle.std.specs.Prelude.{ℕ, ◌+◌, ◌*◌, ◌≤◌, ◌<◌, ◌≡�
 use Rattle.rules.specs.Lists.{Every}
 use Rattle.rules.specs.PlanWords.{kind_of, number_of, stop_kind}
 use Rattle.rules.specs.Plan.{Round, rounds_words, stops_on, Known}
-use Rattle.onward.specs.Behind.{BehindOf, row_at, behind_words}
+use Rattle.onward.specs.Behind.{homeward, BehindOf}
+use Rattle.onward.specs.declared.Onward.{Onward}
+use Rattle.onward.specs.declared.TheConstants.{ROWS}
 use Rattle.trial_list.specs.Survey.{Laid, VehicleIn}
 use Rattle.tracks.specs.Before.{BeforeOf, RowsKept}
 use Rattle.tracks.specs.declared.before.Row.{Row}
@@ -13,16 +15,12 @@ use Rattle.tracks.specs.declared.plan_tables.Tracks.{Tracks}
 abbrev pub first_task : List Round → ℕ → ℕ
 first_task rounds v = length (rounds_words 0 (take v rounds)) + 1
 
--- how long the table of the vehicles before their words is: a row for each place of a plan of at most 1200 words and the one behind it
-abbrev pub before_rows : ℕ
-before_rows = 1201
-
 -- the tables of the present plan's vehicles; what `spots` says is tested where it is used
-pub record Tracked (day : List ℕ) (rounds : List Round) (before : List (Option Row)) (behind spots : List ℕ) : Type 0 where
+pub record Tracked (day : List ℕ) (rounds : List Round) (before : List (Option Row)) (behind : List Onward) (spots : List ℕ) : Type 0 where
   pub walked : (v : ℕ) → v < length rounds → BeforeOf day before (first_task rounds v) (get_or rounds v [])
   pub onward : (v : ℕ) → v < length rounds → BehindOf day behind (first_task rounds v) (get_or rounds v [])
-  pub before_size : length before ≡ before_rows
-  pub behind_size : length behind ≡ behind_words
+  pub before_size : length before ≡ ROWS
+  pub behind_size : length behind ≡ ROWS
   pub spots_size : length spots ≡ 256
 
 -- the code's tables are those
@@ -64,11 +62,11 @@ pub record SomeVehicle (day plan starts : List ℕ) (room v : ℕ) : Type 0 wher
   pub short : length plan ≤ 1200
 
 -- the rows of vehicle v are filled, and those of the vehicles in front of it are as they were
-pub record TracksOne (day : List ℕ) (rounds : List Round) (v : ℕ) (before walks : List (Option Row)) (behind onwards : List ℕ) : Type 0 where
+pub record TracksOne (day : List ℕ) (rounds : List Round) (v : ℕ) (before walks : List (Option Row)) (behind onwards : List Onward) : Type 0 where
   pub walked : BeforeOf day walks (first_task rounds v) (get_or rounds v [])
   pub onward : BehindOf day onwards (first_task rounds v) (get_or rounds v [])
   pub walked_kept : RowsKept (first_task rounds v) before walks
-  pub onward_kept : (at : ℕ) → at < first_task rounds v → row_at onwards at ≡ row_at behind at
+  pub onward_kept : (at : ℕ) → at < first_task rounds v → get_or onwards at homeward ≡ get_or behind at homeward
 
 -- so it is whatever vehicles the plan has
 abbrev pub TracksVehicle : (day plan starts : List ℕ) (room v : ℕ) (tracks after : Tracks) → Type 0

@@ -1,10 +1,10 @@
 // The vehicles of the present plan before each of their words, so that a trial starts where it changes something.
 ghost use Rattle.std.specs.Prelude.{◌≡◌, ◌+◌, ◌<◌, length, IfSome};
 ghost use Rattle.rules.specs.Fields.{IsAccepted};
-ghost use Rattle.tracks.specs.Tables.{before_rows};
 ghost use Rattle.tracks.specs.Before.{row_of, cab_of, cab_at, RowHolds, RowsKept, SomeWalks, TaskAhead, WalksTask, FilledBefore};
 
 use day::days::Day;
+use onward::ROWS;
 use plan_words::{REST, VEHICLE};
 use rules::walk::Trip;
 use walks::cabs::Cab;
@@ -54,7 +54,7 @@ impl Row {
 
 // The row of a vehicle is written, or of one that has failed that there is none.
 fn put_cab(before: &mut [Option<Row>], at: usize, cab: Option<Cab>)
-    requires { (length before.old ≡ before_rows) × (at < before_rows) × IfSome cab (λ c. c.trip.place < 4294967296) }
+    requires { (length before.old ≡ ROWS) × (at < ROWS) × IfSome cab (λ c. c.trip.place < 4294967296) }
     ensures holds { RowHolds before.new at cab }
     ensures others { RowsKept at before.old before.new }
 {
@@ -63,7 +63,7 @@ fn put_cab(before: &mut [Option<Row>], at: usize, cab: Option<Cab>)
 
 // The vehicle that a row holds; none where it has failed.
 pub(crate) fn cab_at(before: &[Option<Row>], at: usize) -> Option<Cab>
-    requires { (length before.now ≡ before_rows) × (at < before_rows) }
+    requires { (length before.now ≡ ROWS) × (at < ROWS) }
     ensures { result ≡ cab_at before.now at }
 {
     before[at].map(Row::cab)
@@ -88,7 +88,7 @@ pub(crate) fn fill_before(
     before: &mut [Option<Row>],
     part: &mut [u32],
 )
-    requires { IsAccepted day.now × SomeWalks day.now words.now part.old × (length before.old ≡ before_rows) × (from + length words.now < before_rows) }
+    requires { IsAccepted day.now × SomeWalks day.now words.now part.old × (length before.old ≡ ROWS) × (from + length words.now < ROWS) }
     ensures { FilledBefore day.now words.now from before.old before.new part.old part.new }
 {
     part[0] = VEHICLE;

@@ -4,14 +4,14 @@ ghost use Rattle.rules.specs.Fields.{places, IsAccepted};
 ghost use Rattle.rules.specs.Plan.{Round};
 ghost use Rattle.rules.specs.Edits.{changed};
 ghost use Rattle.edits.specs.EditWords.{edit_of, EditKnown, EditSmall};
-ghost use Rattle.onward.specs.Behind.{distance_onward, behind_words};
+ghost use Rattle.onward.specs.Behind.{distance_onward};
 ghost use Rattle.tracks.specs.Measure.{is_cut, SomeCuttable, CutsAll, Measurable, SomeMeasurable, DrivesAgain};
 
 use crate::before::cab_at;
 use crate::plan_tables::Tracks;
 use day::days::Day;
 use edits::Edit;
-use onward::{Onward, is_smooth, onward_at, onward_distance};
+use onward::{Onward, ROWS, is_smooth, onward_distance};
 use plan_words::VEHICLE;
 use spans::Span;
 use walks::cabs::Cab;
@@ -39,16 +39,16 @@ fn walk_span(
     span: Span,
     from: usize,
     tasks: &[u32],
-    behind: &[u32],
+    behind: &[Onward],
     first: Cab,
     part: &mut [u32],
 ) -> Option<u32>
-    requires { IsAccepted day.now × EditSmall edit × EditKnown day.now edit × (length behind.now ≡ behind_words) × (from + length tasks.now ≤ 1200) × SomeCuttable day.now (edit_of edit) tasks.now part.old from behind.now span.first span.last first }
+    requires { IsAccepted day.now × EditSmall edit × EditKnown day.now edit × (length behind.now ≡ ROWS) × (from + length tasks.now ≤ 1200) × SomeCuttable day.now (edit_of edit) tasks.now part.old from behind.now span.first span.last first }
     ensures { CutsAll day.now (edit_of edit) tasks.now part.old from behind.now span.first span.last first result }
 {
     let mut cab = first;
     for task in span.first..tasks.len() {
-        let onward = onward_at(behind, from + task);
+        let onward = behind[from + task];
         if is_cut(task, span.last, cab.load, onward) {
             return Some(drive_onward(day, cab, onward));
         }

@@ -1,17 +1,19 @@
 // The tables of the present plan, by which its trials are listed and measured.
 ghost use Rattle.std.specs.Prelude.{◌≡◌, length};
+ghost use Rattle.onward.specs.declared.TheConstants.{ROWS};
 
 use crate::before::Row;
+use onward::{Onward, ROWS};
 
-// What its vehicles are before each word, a row for each of 1201 places of a plan and none where the walk has failed; what is left of them
-// from each word on, four words for each place; and the place of each stop.
+// What its vehicles are before each word, or none where the walk has failed; what is left of them from each word on; and the place of each
+// stop.
 #[derive(Drop)]
 pub struct Tracks {
-    pub before: [Option<Row>; 1201],
-    pub behind: [u32; 4804],
+    pub before: [Option<Row>; ROWS],
+    pub behind: [Onward; ROWS],
     pub spots: [u32; 256],
-    pub ghost before_size: { length before ≡ 1201 },
-    pub ghost behind_size: { length behind ≡ 4804 },
+    pub ghost before_size: { length before ≡ ROWS },
+    pub ghost behind_size: { length behind ≡ ROWS },
     pub ghost spots_size: { length spots ≡ 256 },
 }
 
@@ -35,8 +37,8 @@ impl Tables {
             vehicles: [0; 256],
             distances: [0; 256],
             tracks: Tracks {
-                before: [None; 1201],
-                behind: [0; 4804],
+                before: [None; ROWS],
+                behind: [Onward::default(); ROWS],
                 spots: [0; 256],
             },
         }

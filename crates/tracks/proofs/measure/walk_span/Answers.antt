@@ -1,6 +1,6 @@
 -- `tracks::measure::walk_span` meets its contract.
 use native.Mathlib.Omega.{arith}
-use mathlib.Core.Path.{sym, ◌∙◌}
+use mathlib.Core.Path.{refl, sym, ◌∙◌}
 use Rattle.walks.proofs.CabLaws.{some_standing}
 use Rattle.walks.proofs.HomeLaws.{again_back}
 use Rattle.walks.proofs.MidwayLaws.{midway_task, midway_step, midway_fails, midway_done, midway_whole}
@@ -10,10 +10,10 @@ use Rattle.tracks.proofs.measure.walk_span.Goals as goal
 pub drive_onward-requires : goal.drive_onward-requires
 drive_onward-requires c =
     let s = c.requires.5 in
-    left_small s.cuttable (c.loop-task.invariant s.tasks s.start s.p s.cuttable s.midway) c.loop-task-test.true c.onward_at-onward.ensures (sym c.is_cut.ensures ∙ c.if-is_cut.true) c.requires.4
+    left_small s.cuttable (c.loop-task.invariant s.tasks s.start s.p s.cuttable s.midway) c.loop-task-test.true refl (sym c.is_cut.ensures ∙ c.if-is_cut.true) c.requires.4
 
 pub returns-then-is_cut : goal.returns-then-is_cut
-returns-then-is_cut c = λ ts start p h m. left_drives h (c.loop-task.invariant ts start p h m) c.loop-task-test.true c.onward_at-onward.ensures (sym c.is_cut.ensures ∙ c.if-is_cut.true) c.drive_onward.ensures
+returns-then-is_cut c = λ ts start p h m. left_drives h (c.loop-task.invariant ts start p h m) c.loop-task-test.true refl (sym c.is_cut.ensures ∙ c.if-is_cut.true) c.drive_onward.ensures
 
 pub walk_task-requires : goal.walk_task-requires
 walk_task-requires c =
