@@ -26,7 +26,7 @@ use Rattle.day.proofs.Ranges.{accepted_ranges}
 use Rattle.plan_laws.proofs.Theorems.{told_totals}
 use Rattle.trial_list.specs.Shapes.{Shaped}
 use Rattle.trial_list.proofs.Shapes.{shaped_formed}
-use Rattle.candidates.specs.Candidates.{SomeTrying, Candidate, WritesCandidate}
+use Rattle.candidates.specs.Candidates.{SomeTrying, CandidatePlan, WritesCandidate}
 use Rattle.candidates.proofs.NextRounds.{few_vehicles}
 use Rattle.candidates.proofs.ShapeKept.{valid_shaped}
 use Rattle.candidates.proofs.WrittenLaws.{ends_inside}
@@ -131,7 +131,7 @@ module _ {day plan : List ℕ} {tables : Tables} {m : Trial} {count distance : �
     abbrev words : List ℕ
     words = take n part
 
-    candidate : Candidate day m rounds p part n
+    candidate : CandidatePlan day m rounds p part n
     candidate = (f rounds h.measured.trying h.counted).written
 
     shaped : Shaped day candidate.q

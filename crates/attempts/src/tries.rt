@@ -2,7 +2,7 @@
 ghost use Rattle.std.specs.Prelude.{◌≡◌, false, List, ◌≤◌, ◌*◌, length};
 ghost use Rattle.rules.specs.Fields.{stops, IsAccepted};
 ghost use Rattle.rules.specs.Plan.{Round};
-ghost use Rattle.edits.specs.EditWords.{EditKnown, EditSmall};
+ghost use Rattle.edits.specs.EditWords.{EditKnown};
 ghost use Rattle.trial_list.specs.TrialRest.{listed_trial};
 ghost use Rattle.attempts.specs.Tries.{SomeTouched, Retries, SomeMeasured, NoneKept, TriedAs, Judged, Made, SomeMade};
 
@@ -24,7 +24,7 @@ fn retry(
     v: usize,
     work: &mut [u32],
 ) -> Option<u32>
-    requires { IsAccepted day.now × EditSmall trial.edit × EditKnown day.now trial.edit × SomeTouched day.now plan.now tables.now (listed_trial trial) v × (5 * stops day.now ≤ length work.old) }
+    requires { IsAccepted day.now × EditKnown day.now trial.edit × SomeTouched day.now plan.now tables.now (listed_trial trial) v × (5 * stops day.now ≤ length work.old) }
     ensures { Retries day.now plan.now tables.now (listed_trial trial) v result }
 {
     let tracks = &tables.tracks;
@@ -37,7 +37,7 @@ fn retry(
 
 // Whether the touched vehicles, walked again, drive less than before. Where they do not, or the trial fails, no lawful, shorter plan comes of it.
 fn is_shorter(day: &Day, trial: Trial, plan: &[u32], tables: &Tables, work: &mut [u32]) -> bool
-    requires { IsAccepted day.now × EditSmall trial.edit × EditKnown day.now trial.edit × SomeMeasured day.now plan.now tables.now (listed_trial trial) × (5 * stops day.now ≤ length work.old) }
+    requires { IsAccepted day.now × EditKnown day.now trial.edit × SomeMeasured day.now plan.now tables.now (listed_trial trial) × (5 * stops day.now ≤ length work.old) }
     ensures { result ≡ false → NoneKept day.now plan.now tables.now (listed_trial trial) }
 {
     let v = trial.one - 1;
@@ -81,7 +81,7 @@ pub fn make_trial(
     distance: u32,
     work: &mut [u32],
 ) -> Option<Held>
-    requires { IsAccepted day.now × EditSmall trial.edit × EditKnown day.now trial.edit × SomeMade day.now plan.now tables.now (listed_trial trial) count distance × (5 * stops day.now ≤ length work.old) }
+    requires { IsAccepted day.now × EditKnown day.now trial.edit × SomeMade day.now plan.now tables.now (listed_trial trial) count distance × (5 * stops day.now ≤ length work.old) }
     ensures { (rounds : List Round) → Made day.now plan.now tables.now (listed_trial trial) count distance rounds → TriedAs day.now (listed_trial trial) rounds work.new result }
 {
     if !is_shorter(day, trial, plan, tables, work) {

@@ -97,7 +97,7 @@ WritesRounds day plan starts m count p part r =
     (rounds : List Round) → Trying day plan starts m rounds → count ≡ length rounds → RoundsAs day m rounds p part count r
 
 -- the candidate: the plan's words stand at the front of the part
-pub record Candidate (day : List ℕ) (m : Trial) (rounds : List Round) (p part : List ℕ) (words : ℕ) : Type 0 where
+pub record CandidatePlan (day : List ℕ) (m : Trial) (rounds : List Round) (p part : List ℕ) (words : ℕ) : Type 0 where
   pub q : List Round
   pub is : tried day rounds m ≡ some q
   pub text : Wrote (plan_words q (greedy_lefts day)) p part words
@@ -105,7 +105,7 @@ pub record Candidate (day : List ℕ) (m : Trial) (rounds : List Round) (p part 
 -- or the trial has failed
 abbrev pub CandidateBy : List ℕ → Trial → List Round → List ℕ → List ℕ → Code.Option ℕ → Type 0
 CandidateBy day m rounds p part Code.None = tried day rounds m ≡ none
-CandidateBy day m rounds p part (Code.Some words) = Candidate day m rounds p part words
+CandidateBy day m rounds p part (Code.Some words) = CandidatePlan day m rounds p part words
 
 pub record CandidateAs (day : List ℕ) (m : Trial) (rounds : List Round) (p part : List ℕ) (words : Code.Option ℕ) : Type 0 where
   pub size : length part ≡ length p

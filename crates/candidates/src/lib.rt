@@ -4,7 +4,7 @@
 ghost use Rattle.std.specs.Prelude.{◌≡◌, ◌||◌, ◌<◌, ◌≤◌, ◌*◌, eqb, length};
 ghost use Rattle.rules.specs.Fields.{stops, IsAccepted};
 ghost use Rattle.laws.specs.Buffer.{Wrote};
-ghost use Rattle.edits.specs.EditWords.{edit_of, EditKnown, EditSmall};
+ghost use Rattle.edits.specs.EditWords.{edit_of, EditKnown};
 ghost use Rattle.trial_list.specs.TrialRest.{listed_trial};
 ghost use Rattle.candidates.specs.Candidates.{SomeRoundable, WritesRound, SomeTrying, SomeNext, WritesNext, WritesRounds, WritesCandidate};
 
@@ -30,7 +30,7 @@ fn write_round(
     words: &[u32],
     part: &mut [u32],
 ) -> Option<usize>
-    requires { IsAccepted day.now × EditSmall edit × EditKnown day.now edit × (number < 256) × SomeRoundable day.now (edit_of edit) touched number words.now part.old }
+    requires { IsAccepted day.now × EditKnown day.now edit × (number < 256) × SomeRoundable day.now (edit_of edit) touched number words.now part.old }
     ensures { WritesRound day.now (edit_of edit) touched number words.now part.old part.new result }
 {
     if touched {
@@ -58,7 +58,7 @@ fn next_round(
     v: usize,
     part: &mut [u32],
 ) -> Option<usize>
-    requires { IsAccepted day.now × EditSmall trial.edit × EditKnown day.now trial.edit × SomeNext day.now plan.now starts.now (listed_trial trial) v part.old }
+    requires { IsAccepted day.now × EditKnown day.now trial.edit × SomeNext day.now plan.now starts.now (listed_trial trial) v part.old }
     ensures { WritesNext day.now plan.now starts.now (listed_trial trial) v part.old part.new result }
 {
     let from = starts[v] as usize;
@@ -83,7 +83,7 @@ fn write_rounds(
     count: usize,
     work: &mut [u32],
 ) -> Option<usize>
-    requires { IsAccepted day.now × EditSmall trial.edit × EditKnown day.now trial.edit × SomeTrying day.now plan.now starts.now (listed_trial trial) count × (5 * stops day.now ≤ length work.old) }
+    requires { IsAccepted day.now × EditKnown day.now trial.edit × SomeTrying day.now plan.now starts.now (listed_trial trial) count × (5 * stops day.now ≤ length work.old) }
     ensures { WritesRounds day.now plan.now starts.now (listed_trial trial) count work.old work.new result }
 {
     let mut at: usize = 0;
@@ -102,7 +102,7 @@ pub fn write_candidate(
     count: usize,
     work: &mut [u32],
 ) -> Option<usize>
-    requires { IsAccepted day.now × EditSmall trial.edit × EditKnown day.now trial.edit × SomeTrying day.now plan.now starts.now (listed_trial trial) count × (5 * stops day.now ≤ length work.old) }
+    requires { IsAccepted day.now × EditKnown day.now trial.edit × SomeTrying day.now plan.now starts.now (listed_trial trial) count × (5 * stops day.now ≤ length work.old) }
     ensures { WritesCandidate day.now plan.now starts.now (listed_trial trial) count work.old work.new result }
 {
     let at = write_rounds(day, trial, plan, starts, count, work)?;

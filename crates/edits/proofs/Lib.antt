@@ -1,3 +1,4 @@
 pub mod ChangeLaws
 pub mod EditLaws
 pub mod EditSuits
+pub mod SmallEdits

@@ -9,7 +9,8 @@ ghost use Rattle.edits.specs.EditWords.{edit_of, EditKnown, EditSmall, Becomes};
 use plan_words::{REST, STOP, TIP};
 
 // A stop moved before or behind another, two interchanged, a tip removed or replaced. A tip is named by its number among the vehicle's tasks.
-// That the numbers are below 256 is a clause (EditSmall): as bytes, every walk, span and list of trials would cast them.
+// That the numbers are below 256 follows from the day that knows them (EditKnown), and is a clause (EditSmall) where no day is at hand: as
+// bytes, every walk, span and list of trials would cast them.
 #[derive(Clone, Copy)]
 pub enum Edit {
     Before { stop: u32, moved: u32 },

@@ -12,7 +12,7 @@ use Rattle.rules.specs.Fields.{places}
 use Rattle.rules.specs.PlanWords.{back_word}
 use Rattle.rules.specs.Plan.{lunch, Round, task_word, Known}
 use Rattle.laws.proofs.Lists.{every_at, get_map}
-use Rattle.onward.specs.Behind.{homeward, task_first, onward_of, SomeTask, PutsFirst, RoundTo, SomeRoundTo, FillsBehind}
+use Rattle.onward.specs.Behind.{homeward, task_first, onward_of, SomeTaskWord, PutsFirst, RoundTo, SomeRoundTo, FillsBehind}
 use Rattle.onward.specs.declared.TheConstants.{ROWS}
 use Rattle.onward.specs.declared.Onward.{Onward}
 use Rattle.onward.proofs.OnwardLaws.{onward_bounds}
@@ -84,7 +84,7 @@ filled_next day behind from at p o r tasks f inside e l puts =
 
 -- what the code asks for where a row is written
 pub record Writes (day plan : List ℕ) (p : ℕ) (o : Onward) : Type 0 where
-  pub word : SomeTask day (get_or plan p 0)
+  pub word : SomeTaskWord day (get_or plan p 0)
   pub inside : p < length plan
   pub next : o.next < places day
   pub few : o.distance ≤ 65535 * length plan

@@ -8,7 +8,7 @@ use borrow.Author.Tests.{le-leb, lt-leb, eq-eqb, ne_eqb}
 use Rattle.rules.specs.Fields.{tips, stops, stop_place, load_limit, quantity}
 use Rattle.rules.specs.PlanWords.{rest_word, stop_word, tip_word}
 use Rattle.rules.specs.Plan.{Task, serve, empty, lunch, task_word, Known}
-use Rattle.onward.specs.Behind.{distance_onward, stop_first, tip_first, SomeTask, PutsFirst}
+use Rattle.onward.specs.Behind.{distance_onward, stop_first, tip_first, SomeTaskWord, PutsFirst}
 use Rattle.onward.specs.declared.Onward.{Onward}
 
 -- what is left, by its four parts
@@ -51,7 +51,7 @@ tip_of day w (serve k) n e l h = absurd (omega (arith, n.1))
 tip_of day w (empty x) n e l h = omega (arith, n.1)
 tip_of day w lunch n e l h = absurd (omega arith)
 
-module _ (day : List ℕ) (w : ℕ) (s : SomeTask day w) where
+module _ (day : List ℕ) (w : ℕ) (s : SomeTaskWord day w) where
   pub stop_number : w < tip_word 0 → ((stop_word 0) ≤ w) × (0 < w - stop_word 0) × (w - stop_word 0 ≤ stops day)
   stop_number = stop_of day w s.task s.known s.is
 

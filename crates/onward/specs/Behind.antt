@@ -52,7 +52,7 @@ pub record BehindOf (day : List ℕ) (behind : List Onward) (from : ℕ) (tasks 
   pub row : (i : ℕ) → i ≤ length tasks → get_or behind (from + i) homeward ≡ onward_of day (drop i tasks)
 
 -- a word is that of a known task
-pub record SomeTask (day : List ℕ) (w : ℕ) : Type 0 where
+pub record SomeTaskWord (day : List ℕ) (w : ℕ) : Type 0 where
   pub task : Task
   pub known : Known day task
   pub is : w ≡ task_word task

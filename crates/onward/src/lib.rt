@@ -3,7 +3,7 @@
 
 ghost use Rattle.std.specs.Prelude.{◌≡◌, ◌&&◌, ◌-◌, ◌<◌, ◌≤◌, leb, length};
 ghost use Rattle.rules.specs.Fields.{stops, tips, places};
-ghost use Rattle.onward.specs.Behind.{distance_onward, stop_first, tip_first, SomeTask, PutsFirst, SomeRoundTo, FillsBehind};
+ghost use Rattle.onward.specs.Behind.{distance_onward, stop_first, tip_first, SomeTaskWord, PutsFirst, SomeRoundTo, FillsBehind};
 
 use day::days::Day;
 use plan_words::{REST, STOP, TIP};
@@ -87,7 +87,7 @@ fn tip_first(day: &Day, o: Onward, x: usize) -> Onward
 
 // One word more in front of what is left.
 fn onward_before(day: &Day, o: Onward, w: u32) -> Onward
-    requires { SomeTask day.now w × (o.next < places day.now) × (o.distance < 2147483648) }
+    requires { SomeTaskWord day.now w × (o.next < places day.now) × (o.distance < 2147483648) }
     ensures { PutsFirst day.now w o result }
 {
     if w < TIP {

@@ -30,7 +30,7 @@ use Rattle.walks.proofs.RewalkLaws.{walk_append}
 use Rattle.walks.proofs.Walking.{failed_on}
 use Rattle.walks.proofs.WalkLaws.{stands_goes, stands_failed}
 use Rattle.tracks.specs.declared.before.Row.{Row}
-use Rattle.tracks.specs.Before.{cab_at, RowHolds, Rides, halted, rides, truck_before, BeforeTo, BeforeOf, RowsKept, Walks, TaskAhead, WalksTask}
+use Rattle.tracks.specs.Before.{cab_at, RowHolds, RidesIf, halted, rides, truck_before, BeforeTo, BeforeOf, RowsKept, VehicleTasks, TaskToWalk, WalksOrPasses}
 
 -- it may serve as many stops or fewer
 stands_fewer : {day : List ℕ} {start : Start} {most more less : ℕ} {p part : List ℕ} {o : maybe.Option Truck} {c : Option Cab} → less ≤ more
@@ -45,14 +45,14 @@ stands_size (failed z) = z
 stands_size (on_road v c s) = s.text.size
 
 -- a rest is passed over
-pub task_passed : {day part : List ℕ} {c : Option Cab} {w : ℕ} → w ≡ rest_word → WalksTask day part c w part c
+pub task_passed : {day part : List ℕ} {c : Option Cab} {w : ℕ} → w ≡ rest_word → WalksOrPasses day part c w part c
 unfolding task_word Known kept stops_on walk_on
 task_passed z start most more p o (serve k) e n s = absurd (omega (arith, z, e, n.1))
 task_passed z start most more p o (empty x) e n s = absurd (omega (arith, z, e, n.1))
 task_passed z start most more p o lunch e n s = stands_fewer (omega arith) s
 
 -- a trial that has failed stays so
-pub task_failed : {day part : List ℕ} {w : ℕ} → WalksTask day part None w part None
+pub task_failed : {day part : List ℕ} {w : ℕ} → WalksOrPasses day part None w part None
 task_failed {day} start most more p o task e n s =
     let f = stands_failed o s in rw (f.0, failed_on day (kept (task ∷ []))) (failed f.1)
 
@@ -64,7 +64,7 @@ task_means {day} (empty x) z e n = (refl, subst (λ (w : ℕ). Means day w (empt
 task_means lunch z e n = absurd (z e)
 
 -- the vehicle before that word
-pub task_word_lem : {day part : List ℕ} {c : Cab} {w : ℕ} → (w ≡ rest_word → ⊥) → TaskAhead day part (Some c) w → SomeWord day part c w
+pub task_word_lem : {day part : List ℕ} {c : Cab} {w : ℕ} → (w ≡ rest_word → ⊥) → TaskToWalk day part (Some c) w → SomeWord day part c w
 task_word_lem z s =
     record {
       task = s.task;
@@ -73,7 +73,7 @@ task_word_lem z s =
     }
 
 -- the word is walked as the task is
-pub task_walked : {day part now : List ℕ} {c : Cab} {r : Option Cab} {w : ℕ} → (w ≡ rest_word → ⊥) → WalksWord day part c w now r → WalksTask day part (Some c) w now r
+pub task_walked : {day part now : List ℕ} {c : Cab} {r : Option Cab} {w : ℕ} → (w ≡ rest_word → ⊥) → WalksWord day part c w now r → WalksOrPasses day part (Some c) w now r
 task_walked z h start most more p o task e n s =
     let t = task_means task z e n in
     let g = stands_goes o s in
@@ -87,7 +87,7 @@ place_small (on_road v c s) = omega (arith, (riding_trip s.riding).place)
 
 -- the row of a vehicle
 row_rides : {day p part : List ℕ} {before : List (Option Row)} {start : Start} {most more at : ℕ} {o : maybe.Option Truck} {c : Option Cab}
-    → Stands day start most more p part o c → RowHolds before at c → Rides day most more o (cab_at before at)
+    → Stands day start most more p part o c → RowHolds before at c → RidesIf day most more o (cab_at before at)
 row_rides (failed z) h = rw h.is halted
 row_rides (on_road v c s) h =
     let r = s.riding in
@@ -106,13 +106,13 @@ kept_append (empty x ∷ xs) ys = ap (λ (ts : Round). empty x ∷ ts) (kept_app
 kept_append (lunch ∷ xs) ys = kept_append xs ys
 
 -- the rows up to the one before task number i, and the vehicle there
-pub record Filling (day : List ℕ) (before : List (Option Row)) (from : ℕ) (p part : List ℕ) (tasks : Round) (i : ℕ) (c : Option Cab) : Type 0 where
+pub record FillingBefore (day : List ℕ) (before : List (Option Row)) (from : ℕ) (p part : List ℕ) (tasks : Round) (i : ℕ) (c : Option Cab) : Type 0 where
   pub rows : BeforeTo day before from tasks i
   pub stands : Stands day (at_depot 0) (length (stops_on tasks)) (length (stops_on (drop i tasks))) p part (truck_before day tasks i) c
 
 -- before the first task
 pub filling_start : {day words p part : List ℕ} {before : List (Option Row)} {from : ℕ} {tasks : Round} {c : Cab} → Wrote (vehicle_word 0 ∷ []) p part 1
-    → Walks day words p tasks → c.trip ≡ leaving day → c.load ≡ 0 → c.at ≡ 1 → RowHolds before from (Some c) → Filling day before from p part tasks 0 (Some c)
+    → VehicleTasks day words p tasks → c.trip ≡ leaving day → c.load ≡ 0 → c.at ≡ 1 → RowHolds before from (Some c) → FillingBefore day before from p part tasks 0 (Some c)
 unfolding kept walk_on
 filling_start {day} {words} {p} {part} {before} {from} {tasks} {c} w h t l n r =
     let s : Stands day (at_depot 0) (length (stops_on tasks)) (length (stops_on tasks)) p part (some (fresh day [])) (Some c) = on_road _ c (fresh_stands w h.few h.room t l n) in
@@ -120,7 +120,7 @@ filling_start {day} {words} {p} {part} {before} {from} {tasks} {c} w h t l n r =
     record { rows = λ j k. let z : j ≡ 0 = omega arith in rw (z, here) (row_rides s r); stands = s }
 
 -- the next task: its word, the stops behind it, and the vehicle behind it
-module _ {day words p : List ℕ} {tasks : Round} (h : Walks day words p tasks) {i : ℕ} (l : i < length words) where
+module _ {day words p : List ℕ} {tasks : Round} (h : VehicleTasks day words p tasks) {i : ℕ} (l : i < length words) where
   abbrev task : Task
   task = get_or tasks i lunch
 
@@ -145,9 +145,9 @@ module _ {day words p : List ℕ} {tasks : Round} (h : Walks day words p tasks) 
       ∙ ap (λ (ts : Round). walk_on day ts (some (fresh day [])))
       (sym (kept_append (take i tasks) (task ∷ [])) ∙ ap kept (sym (take-suc tasks i lunch task_within)) ∙ ap (λ (n : ℕ). kept (take n tasks)) (sym (add-one i)))
 
-  module _ {before : List (Option Row)} {part : List ℕ} {from : ℕ} {c : Option Cab} (f : Filling day before from p part tasks i c) where
+  module _ {before : List (Option Row)} {part : List ℕ} {from : ℕ} {c : Option Cab} (f : FillingBefore day before from p part tasks i c) where
     -- it can be walked
-    pub filling_task : TaskAhead day part c (get_or words i 0)
+    pub filling_task : TaskToWalk day part c (get_or words i 0)
     filling_task =
         record {
           start = at_depot 0;
@@ -161,7 +161,7 @@ module _ {day words p : List ℕ} {tasks : Round} (h : Walks day words p tasks) 
           stands = stands_fewer (omega (arith, stops_left)) f.stands;
         }
 
-    module _ {now : List ℕ} {r : Option Cab} (g : WalksTask day part c (get_or words i 0) now r) where
+    module _ {now : List ℕ} {r : Option Cab} (g : WalksOrPasses day part c (get_or words i 0) now r) where
       -- the vehicle behind it
       pub filling_stands : Stands day (at_depot 0) (length (stops_on tasks)) (length (stops_on (drop (i + 1) tasks))) p now (truck_before day tasks (i + 1)) r
       filling_stands =
@@ -169,19 +169,19 @@ module _ {day words p : List ℕ} {tasks : Round} (h : Walks day words p tasks) 
           (g (at_depot 0) _ _ p (truck_before day tasks i) task task_is task_known (stands_fewer (omega (arith, stops_left)) f.stands))
 
       -- its row is written
-      pub filling_step : {after : List (Option Row)} {at : ℕ} → at ≡ from + (i + 1) → RowHolds after at r → RowsKept at before after → Filling day after from p now tasks (i + 1) r
+      pub filling_step : {after : List (Option Row)} {at : ℕ} → at ≡ from + (i + 1) → RowHolds after at r → RowsKept at before after → FillingBefore day after from p now tasks (i + 1) r
       filling_step {after} e holds others =
           record {
             rows = λ j k. elim (ℕ_discrete j (i + 1)) [
               | yes q ↦ rw (q, ← e) (row_rides filling_stands holds)
               | no q ↦
-                  subst (Rides day (length (stops_on tasks)) (length (stops_on (drop j tasks))) (truck_before day tasks j)) (sym (others (from + j) (omega arith)))
+                  subst (RidesIf day (length (stops_on tasks)) (length (stops_on (drop j tasks))) (truck_before day tasks j)) (sym (others (from + j) (omega arith)))
                   (f.rows j (omega arith))
             ];
             stands = filling_stands;
           }
 
 -- all rows are there
-pub filling_whole : {day words p part : List ℕ} {before : List (Option Row)} {from i : ℕ} {tasks : Round} {c : Option Cab} → Walks day words p tasks → length words ≤ i
-    → Filling day before from p part tasks i c → BeforeOf day before from tasks
+pub filling_whole : {day words p part : List ℕ} {before : List (Option Row)} {from i : ℕ} {tasks : Round} {c : Option Cab} → VehicleTasks day words p tasks → length words ≤ i
+    → FillingBefore day before from p part tasks i c → BeforeOf day before from tasks
 filling_whole {tasks = tasks} h l f j k = f.rows j (omega (arith, l, ap length h.are, length-map tasks task_word))

@@ -35,7 +35,7 @@ use Rattle.walks.proofs.HomeLaws.{again_by, again_none}
 use Rattle.walks.proofs.RewalkLaws.{walk_append}
 use Rattle.walks.proofs.Walking.{failed_on}
 use Rattle.tracks.proofs.SmoothLaws.{Smooth, onward_smooth}
-use Rattle.tracks.specs.Before.{cab_of, cab_if, cab_at, Rides, halted, rides, truck_before}
+use Rattle.tracks.specs.Before.{cab_of, cab_if, cab_at, RidesIf, halted, rides, truck_before}
 use Rattle.tracks.specs.Measure.{is_cut, Cuttable, DrivesAgain, Measurable}
 use Rattle.tracks.specs.declared.before.Row.{Row}
 
@@ -116,15 +116,15 @@ kept_stops (empty x ∷ tasks) = kept_stops tasks
 kept_stops (lunch ∷ tasks) = kept_stops tasks
 
 -- a vehicle that a row holds, and one that has failed
-record Goes (day : List ℕ) (most more : ℕ) (o : maybe.Option Truck) (c : Cab) : Type 0 where
+record RowGoes (day : List ℕ) (most more : ℕ) (o : maybe.Option Truck) (c : Cab) : Type 0 where
   pub v : Truck
   pub is : o ≡ some v
   pub riding : Riding day most more v c
 
-rides_goes : {day : List ℕ} {most more : ℕ} {o : maybe.Option Truck} {c : Cab} → Rides day most more o (Some c) → Goes day most more o c
+rides_goes : {day : List ℕ} {most more : ℕ} {o : maybe.Option Truck} {c : Cab} → RidesIf day most more o (Some c) → RowGoes day most more o c
 rides_goes (rides v c r) = record { v = v; is = refl; riding = r }
 
-rides_failed : {day : List ℕ} {most more : ℕ} {o : maybe.Option Truck} → Rides day most more o None → o ≡ none
+rides_failed : {day : List ℕ} {most more : ℕ} {o : maybe.Option Truck} → RidesIf day most more o None → o ≡ none
 rides_failed halted = refl
 
 -- the vehicle of a row has written its A word
@@ -163,8 +163,8 @@ module _ {day : List ℕ} {e : Edit} {words p : List ℕ} {before : List (Option
   walk_parts : walk_on day (changed e 0 tasks) (some (fresh day [])) ≡ walk_on day (changed e first (drop first tasks)) (truck_before day tasks first)
   walk_parts = ap (λ (ts : Round). walk_on day ts (some (fresh day []))) parts ∙ walk_append day ahead (changed e first (drop first tasks)) (some (fresh day []))
 
-  walked_to : {c : Option Cab} → c ≡ cab_at before (from + first) → Rides day (length (stops_on tasks)) (length (stops_on (drop first tasks))) (truck_before day tasks first) c
-  walked_to k = subst (Rides day (length (stops_on tasks)) (length (stops_on (drop first tasks))) (truck_before day tasks first)) (sym k) (h.walked first h.cuttable.outside.within)
+  walked_to : {c : Option Cab} → c ≡ cab_at before (from + first) → RidesIf day (length (stops_on tasks)) (length (stops_on (drop first tasks))) (truck_before day tasks first) c
+  walked_to k = subst (RidesIf day (length (stops_on tasks)) (length (stops_on (drop first tasks))) (truck_before day tasks first)) (sym k) (h.walked first h.cuttable.outside.within)
 
   pub measure_failed : None ≡ cab_at before (from + first) → DrivesAgain day (changed e 0 tasks) None
   measure_failed k =

@@ -16,7 +16,7 @@ use Rattle.onward.specs.declared.Onward.{Onward}
 use Rattle.onward.specs.declared.TheConstants.{ROWS}
 use Rattle.trial_list.specs.Survey.{Laid}
 use Rattle.trial_list.proofs.LaidLaws.{behind, starts_rise, start_next, tasks_text, vehicle_in, vehicle_inside, words_are}
-use Rattle.tracks.specs.Before.{Walks, BeforeOf, FilledBefore}
+use Rattle.tracks.specs.Before.{VehicleTasks, BeforeOf, FilledBefore}
 use Rattle.tracks.specs.Tables.{first_task, Trackable, SomeTrackable, TracksIn, SomeVehicle, TracksOne, TracksVehicle}
 use Rattle.tracks.specs.declared.before.Row.{Row}
 use Rattle.tracks.specs.declared.plan_tables.Tracks.{Tracks}
@@ -45,7 +45,7 @@ module _ {day plan starts : List ℕ} {room : ℕ} {rounds : List Round} {lefts 
 
   -- it can be walked
   pub vehicle_walks : {part : List ℕ} → room ≡ length part
-      → Walks day (take (get_or starts (v + 1) 0 - 1 - (get_or starts v 0 + 1)) (drop (get_or starts v 0 + 1) plan)) part (get_or rounds v [])
+      → VehicleTasks day (take (get_or starts (v + 1) 0 - 1 - (get_or starts v 0 + 1)) (drop (get_or starts v 0 + 1) plan)) part (get_or rounds v [])
   vehicle_walks h =
       record { are = words_are laid l; known = placed.round_at.known; few = (t.fits v l).few; room = omega (arith, (t.fits v l).words) }
 

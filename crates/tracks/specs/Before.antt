@@ -42,9 +42,9 @@ pub record RowHolds (before : List (Option Row)) (at : ℕ) (c : Option Cab) : T
   pub is : get_or before at None ≡ row_if c
 
 -- a vehicle on its way, or none where the walk has failed
-pub data Rides (day : List ℕ) (most more : ℕ) : maybe.Option Truck → Option Cab → Type 0 where
-  halted : Rides day most more none None
-  rides : (v : Truck) (c : Cab) → Riding day most more v c → Rides day most more (some v) (Some c)
+pub data RidesIf (day : List ℕ) (most more : ℕ) : maybe.Option Truck → Option Cab → Type 0 where
+  halted : RidesIf day most more none None
+  rides : (v : Truck) (c : Cab) → Riding day most more v c → RidesIf day most more (some v) (Some c)
 
 -- the vehicle before its task number i
 abbrev pub truck_before : List ℕ → Round → ℕ → maybe.Option Truck
@@ -53,7 +53,7 @@ truck_before day tasks i = walk_on day (kept (take i tasks)) (some (fresh day []
 -- the rows of a vehicle whose first task stands at a place of the plan, up to the one before task number n
 abbrev pub BeforeTo : (day : List ℕ) (before : List (Option Row)) (from : ℕ) (tasks : Round) (n : ℕ) → Type 0
 BeforeTo day before from tasks n =
-    (i : ℕ) → i ≤ n → Rides day (length (stops_on tasks)) (length (stops_on (drop i tasks))) (truck_before day tasks i) (cab_at before (from + i))
+    (i : ℕ) → i ≤ n → RidesIf day (length (stops_on tasks)) (length (stops_on (drop i tasks))) (truck_before day tasks i) (cab_at before (from + i))
 
 -- all its rows; the last one is that of its E word
 abbrev pub BeforeOf : (day : List ℕ) (before : List (Option Row)) (from : ℕ) (tasks : Round) → Type 0
@@ -64,18 +64,18 @@ abbrev pub RowsKept : (from : ℕ) (before after : List (Option Row)) → Type 0
 RowsKept from before after = (at : ℕ) → at < from → cab_at after at ≡ cab_at before at
 
 -- these are the tasks of a vehicle, and there is room for their words
-pub record Walks (day words part : List ℕ) (tasks : Round) : Type 0 where
+pub record VehicleTasks (day words part : List ℕ) (tasks : Round) : Type 0 where
   pub are : words ≡ map task_word tasks
   pub known : Every (Known day) tasks
   pub few : length (stops_on tasks) ≤ 240
   pub room : 3 + 2 * length (stops_on tasks) ≤ length part
 
-pub record SomeWalks (day words part : List ℕ) : Type 0 where
+pub record SomeVehicleTasks (day words part : List ℕ) : Type 0 where
   pub tasks : Round
-  pub walks : Walks day words part tasks
+  pub walks : VehicleTasks day words part tasks
 
 -- a vehicle or a failed trial, with a task before it
-pub record TaskAhead (day part : List ℕ) (c : Option Cab) (w : ℕ) : Type 0 where
+pub record TaskToWalk (day part : List ℕ) (c : Option Cab) (w : ℕ) : Type 0 where
   pub start : Start
   pub most : ℕ
   pub more : ℕ
@@ -87,8 +87,8 @@ pub record TaskAhead (day part : List ℕ) (c : Option Cab) (w : ℕ) : Type 0 w
   pub stands : Stands day start most (length (stops_on (task ∷ [])) + more) p part o c
 
 -- it has walked the task, which is passed over where it is a rest
-abbrev pub WalksTask : List ℕ → List ℕ → Option Cab → ℕ → List ℕ → Option Cab → Type 0
-WalksTask day part c w now r =
+abbrev pub WalksOrPasses : List ℕ → List ℕ → Option Cab → ℕ → List ℕ → Option Cab → Type 0
+WalksOrPasses day part c w now r =
     (start : Start) (most more : ℕ) (p : List ℕ) (o : maybe.Option Truck) (task : Task) → w ≡ task_word task → Known day task
     → Stands day start most (length (stops_on (task ∷ [])) + more) p part o c → Stands day start most more p now (walk_on day (kept (task ∷ [])) o) r
 
@@ -97,4 +97,4 @@ pub record FilledBefore (day words : List ℕ) (from : ℕ) (before after : List
   pub size : length after ≡ length before
   pub part_size : length now ≡ length part
   pub kept : RowsKept from before after
-  pub rows : (tasks : Round) → Walks day words part tasks → BeforeOf day after from tasks
+  pub rows : (tasks : Round) → VehicleTasks day words part tasks → BeforeOf day after from tasks

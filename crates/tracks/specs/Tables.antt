@@ -28,7 +28,7 @@ pub record TrackedIn (day : List ℕ) (rounds : List Round) (tracks : Tracks) : 
   pub tracked : Tracked day rounds tracks.before tracks.behind tracks.spots
 
 -- a vehicle has few stops, and there is room for its words
-pub record Fits (room : ℕ) (tasks : Round) : Type 0 where
+pub record HasRoom (room : ℕ) (tasks : Round) : Type 0 where
   pub few : length (stops_on tasks) ≤ 240
   pub words : 3 + 2 * length (stops_on tasks) ≤ room
 
@@ -38,7 +38,7 @@ pub record Trackable (day plan starts : List ℕ) (room : ℕ) (rounds : List Ro
   pub known : Every (Every (Known day)) rounds
   pub few : length rounds ≤ 240
   pub short : length plan ≤ 1200
-  pub fits : (v : ℕ) → v < length rounds → Fits room (get_or rounds v [])
+  pub fits : (v : ℕ) → v < length rounds → HasRoom room (get_or rounds v [])
 
 -- there are such vehicles, so many of them
 pub record SomeTrackable (day plan starts : List ℕ) (room count : ℕ) : Type 0 where

@@ -1,7 +1,7 @@
 // The vehicles of the present plan before each of their words, so that a trial starts where it changes something.
 ghost use Rattle.std.specs.Prelude.{◌≡◌, ◌+◌, ◌<◌, length, IfSome};
 ghost use Rattle.rules.specs.Fields.{IsAccepted};
-ghost use Rattle.tracks.specs.Before.{row_of, cab_of, cab_at, RowHolds, RowsKept, SomeWalks, TaskAhead, WalksTask, FilledBefore};
+ghost use Rattle.tracks.specs.Before.{row_of, cab_of, cab_at, RowHolds, RowsKept, SomeVehicleTasks, TaskToWalk, WalksOrPasses, FilledBefore};
 
 use day::days::Day;
 use onward::ROWS;
@@ -71,8 +71,8 @@ pub(crate) fn cab_at(before: &[Option<Row>], at: usize) -> Option<Cab>
 
 // One task is walked; a rest is passed over.
 fn walk_task(day: &Day, cab: Option<Cab>, word: u32, part: &mut [u32]) -> Option<Cab>
-    requires { IsAccepted day.now × TaskAhead day.now part.old cab word }
-    ensures { WalksTask day.now part.old cab word part.new result }
+    requires { IsAccepted day.now × TaskToWalk day.now part.old cab word }
+    ensures { WalksOrPasses day.now part.old cab word part.new result }
 {
     if word == REST {
         return cab;
@@ -88,7 +88,7 @@ pub(crate) fn fill_before(
     before: &mut [Option<Row>],
     part: &mut [u32],
 )
-    requires { IsAccepted day.now × SomeWalks day.now words.now part.old × (length before.old ≡ ROWS) × (from + length words.now < ROWS) }
+    requires { IsAccepted day.now × SomeVehicleTasks day.now words.now part.old × (length before.old ≡ ROWS) × (from + length words.now < ROWS) }
     ensures { FilledBefore day.now words.now from before.old before.new part.old part.new }
 {
     part[0] = VEHICLE;

@@ -3,7 +3,7 @@ ghost use Rattle.std.specs.Prelude.{◌≡◌, ◌+◌, ◌<◌, ◌≤◌, leng
 ghost use Rattle.rules.specs.Fields.{places, IsAccepted};
 ghost use Rattle.rules.specs.Plan.{Round};
 ghost use Rattle.rules.specs.Edits.{changed};
-ghost use Rattle.edits.specs.EditWords.{edit_of, EditKnown, EditSmall};
+ghost use Rattle.edits.specs.EditWords.{edit_of, EditKnown};
 ghost use Rattle.onward.specs.Behind.{distance_onward};
 ghost use Rattle.tracks.specs.Measure.{is_cut, SomeCuttable, CutsAll, Measurable, SomeMeasurable, DrivesAgain};
 
@@ -43,7 +43,7 @@ fn walk_span(
     first: Cab,
     part: &mut [u32],
 ) -> Option<u32>
-    requires { IsAccepted day.now × EditSmall edit × EditKnown day.now edit × (length behind.now ≡ ROWS) × (from + length tasks.now ≤ 1200) × SomeCuttable day.now (edit_of edit) tasks.now part.old from behind.now span.first span.last first }
+    requires { IsAccepted day.now × EditKnown day.now edit × (length behind.now ≡ ROWS) × (from + length tasks.now ≤ 1200) × SomeCuttable day.now (edit_of edit) tasks.now part.old from behind.now span.first span.last first }
     ensures { CutsAll day.now (edit_of edit) tasks.now part.old from behind.now span.first span.last first result }
 {
     let mut cab = first;
@@ -68,7 +68,7 @@ pub fn measure(
     tracks: &Tracks,
     part: &mut [u32],
 ) -> Option<u32>
-    requires { IsAccepted day.now × EditSmall edit × EditKnown day.now edit × (from + length tasks.now ≤ 1200) × SomeMeasurable day.now (edit_of edit) tasks.now part.old from tracks.now.before tracks.now.behind span.first span.last }
+    requires { IsAccepted day.now × EditKnown day.now edit × (from + length tasks.now ≤ 1200) × SomeMeasurable day.now (edit_of edit) tasks.now part.old from tracks.now.before tracks.now.behind span.first span.last }
     ensures { (ts : Round) → Measurable day.now (edit_of edit) tasks.now part.old from tracks.now.before tracks.now.behind span.first span.last ts → DrivesAgain day.now (changed (edit_of edit) 0 ts) result }
 {
     let cab = cab_at(&tracks.before, from + span.first)?;

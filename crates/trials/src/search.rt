@@ -5,7 +5,7 @@ ghost use Rattle.rules.specs.Plan.{Round};
 ghost use Rattle.rules.specs.Build.{greedy_rounds};
 ghost use Rattle.rules.specs.Attempts.{distance_of};
 ghost use Rattle.neighbours.specs.Tables.{TableOf};
-ghost use Rattle.edits.specs.EditWords.{EditKnown, EditSmall};
+ghost use Rattle.edits.specs.EditWords.{EditKnown};
 ghost use Rattle.trial_list.specs.TrialRest.{listed_trial};
 ghost use Rattle.attempts.specs.Tries.{Made, SomeMade, TriedAs};
 ghost use Rattle.search_steps.specs.Searches.{PlanAt, NextTrial, Searching, sets_of, SetsFit, steps_left};
@@ -52,7 +52,7 @@ fn try_next(
     s: Search,
     work: &mut [u32],
 ) -> Option<Held>
-    requires { IsAccepted day.now × EditSmall t.edit × EditKnown day.now t.edit × SomeMade day.now (take (s.words - 0) (drop 0 plan.now)) tables.now (listed_trial t) s.count s.distance × (5 * stops day.now ≤ length work.old) × (s.words ≤ length plan.now) }
+    requires { IsAccepted day.now × EditKnown day.now t.edit × SomeMade day.now (take (s.words - 0) (drop 0 plan.now)) tables.now (listed_trial t) s.count s.distance × (5 * stops day.now ≤ length work.old) × (s.words ≤ length plan.now) }
     ensures { (rounds : List Round) → Made day.now (take (s.words - 0) (drop 0 plan.now)) tables.now (listed_trial t) s.count s.distance rounds → TriedAs day.now (listed_trial t) rounds work.new result }
 {
     let words = s.words;

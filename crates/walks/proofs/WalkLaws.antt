@@ -21,13 +21,13 @@ use Rattle.walks.specs.declared.cabs.Cab.{Cab}
 use Rattle.walks.proofs.CabLaws.{standing_fewer, some_standing, on_road_lem}
 
 -- a vehicle, where there is one
-pub record Goes (day : List ℕ) (start : Start) (most more : ℕ) (p part : List ℕ) (o : maybe.Option Truck) (c : Cab) : Type 0 where
+pub record StillGoes (day : List ℕ) (start : Start) (most more : ℕ) (p part : List ℕ) (o : maybe.Option Truck) (c : Cab) : Type 0 where
   pub v : Truck
   pub is : o ≡ some v
   pub standing : Standing day start most more p part v c
 
 module _ {day : List ℕ} {start : Start} {most more : ℕ} {p part : List ℕ} where
-  pub stands_goes : {c : Cab} (o : maybe.Option Truck) → Stands day start most more p part o (Some c) → Goes day start most more p part o c
+  pub stands_goes : {c : Cab} (o : maybe.Option Truck) → Stands day start most more p part o (Some c) → StillGoes day start most more p part o c
   stands_goes o (on_road v c s) = record { v = v; is = refl; standing = s }
 
   pub stands_failed : (o : maybe.Option Truck) → Stands day start most more p part o None → (o ≡ none) × (length part ≡ length p)

@@ -29,7 +29,7 @@ use Rattle.greedy_laws.proofs.NextTasks.{nearest_open}
 use Rattle.greedy_laws.proofs.VehicleStops.{visits_task}
 
 -- a vehicle on its way that has walked these tasks
-pub record Walked (day : List ℕ) (ts : Round) (v : Truck) : Type 0 where
+pub record WalkedSoFar (day : List ℕ) (ts : Round) (v : Truck) : Type 0 where
   pub paid : Paid v
   -- it has the stops of the tasks walked, in order
   pub stops : stops_on v.tasks ≡ stops_on ts
@@ -40,14 +40,14 @@ pub record Walked (day : List ℕ) (ts : Round) (v : Truck) : Type 0 where
 
 module _ (day : List ℕ) where
   -- the way back included, it drives what its tasks ask for
-  pub walked_distance : (ts : Round) (v : Truck) → Walked day ts v → v.trip.distance + leg_distance day v.trip.place 0 ≡ distance_from day 0 v.tasks
+  pub walked_distance : (ts : Round) (v : Truck) → WalkedSoFar day ts v → v.trip.distance + leg_distance day v.trip.place 0 ≡ distance_from day 0 v.tasks
   unfolding distance_from
   walked_distance ts v w = w.driven [] ∙ ap (distance_from day 0) (append-nil v.tasks)
 
-  pub walked_room : (ts : Round) (v : Truck) → Walked day ts v → Room v.tasks
+  pub walked_room : (ts : Round) (v : Truck) → WalkedSoFar day ts v → Room v.tasks
   walked_room ts v w = paid_room v (w.visits ∙ ap length (sym w.stops)) w.paid
 
-  pub walked_fresh : Walked day [] (fresh day [])
+  pub walked_fresh : WalkedSoFar day [] (fresh day [])
   unfolding stops_on Every
   walked_fresh = record { paid = paid_fresh day []; stops = refl; visits = refl; known = tt; driven = λ rest. omega arith }
 
@@ -59,7 +59,7 @@ module _ (day : List ℕ) where
   doing_driven v (empty x) rest = omega arith
   doing_driven v lunch rest = refl
 
-  walked_doing : (ts : Round) (v : Truck) (task : Task) → Paid (doing day v task) → Every (Known day) (task ∷ []) → Walked day ts v → Walked day (ts ++ (task ∷ [])) (doing day v task)
+  walked_doing : (ts : Round) (v : Truck) (task : Task) → Paid (doing day v task) → Every (Known day) (task ∷ []) → WalkedSoFar day ts v → WalkedSoFar day (ts ++ (task ∷ [])) (doing day v task)
   walked_doing ts v task p k w =
       record {
         paid = p;
@@ -72,7 +72,7 @@ module _ (day : List ℕ) where
       }
 
   -- which tasks were walked counts only by their stops
-  pub walked_same : (ts us : Round) (v : Truck) → stops_on ts ≡ stops_on us → Walked day ts v → Walked day us v
+  pub walked_same : (ts us : Round) (v : Truck) → stops_on ts ≡ stops_on us → WalkedSoFar day ts v → WalkedSoFar day us v
   walked_same ts us v e w =
       record { paid = w.paid; stops = w.stops ∙ e; visits = w.visits ∙ ap length e; known = w.known; driven = w.driven }
 
@@ -80,62 +80,62 @@ module _ (day : List ℕ) where
   plus_none ts task e = stops_append ts (task ∷ []) ∙ ap (λ (ks : List ℕ). stops_on ts ++ ks) e ∙ append-nil (stops_on ts)
 
   -- a rest, a stop, and a tip at a load
-  pub walked_resting : (ts : Round) (v : Truck) → Walked day ts v → Walked day ts (resting day v)
+  pub walked_resting : (ts : Round) (v : Truck) → WalkedSoFar day ts v → WalkedSoFar day ts (resting day v)
   unfolding Every Known stops_on
-  walked_resting ts = resting_keeps day (Walked day ts)
+  walked_resting ts = resting_keeps day (WalkedSoFar day ts)
       (λ v e w. walked_same (ts ++ (lunch ∷ [])) ts (doing day v lunch) (plus_none ts lunch refl) (walked_doing ts v lunch (paid_rest day v e w.paid) (tt, tt) w))
 
-  pub walked_serve : (ts : Round) (v : Truck) (k : ℕ) → Known day (serve k) → Walked day ts v → Walked day (ts ++ (serve k ∷ [])) (doing day v (serve k))
+  pub walked_serve : (ts : Round) (v : Truck) (k : ℕ) → Known day (serve k) → WalkedSoFar day ts v → WalkedSoFar day (ts ++ (serve k ∷ [])) (doing day v (serve k))
   unfolding Every
   walked_serve ts v k n w = walked_doing ts v (serve k) (paid_serve day v k w.paid) (n, tt) w
 
-  pub walked_empty : (ts : Round) (v : Truck) (x : ℕ) → Known day (empty x) → 0 < v.cargo.load → Walked day ts v → Walked day ts (doing day v (empty x))
+  pub walked_empty : (ts : Round) (v : Truck) (x : ℕ) → Known day (empty x) → 0 < v.cargo.load → WalkedSoFar day ts v → WalkedSoFar day ts (doing day v (empty x))
   unfolding Every stops_on
   walked_empty ts v x n l w =
       walked_same (ts ++ (empty x ∷ [])) ts (doing day v (empty x)) (plus_none ts (empty x) refl) (walked_doing ts v (empty x) (paid_empty day v x l w.paid) (n, tt) w)
 
   -- a tip that is put in is the day's
-  pub walked_inserting : (ts : Round) (v u : Truck) → 0 < v.cargo.load → Walked day ts v
-      → inserting day v (nearest_tip day v.trip.place v.trip.minute) ≡ some u → Walked day ts u
+  pub walked_inserting : (ts : Round) (v u : Truck) → 0 < v.cargo.load → WalkedSoFar day ts v
+      → inserting day v (nearest_tip day v.trip.place v.trip.minute) ≡ some u → WalkedSoFar day ts u
   unfolding inserting Known
   walked_inserting ts v u l w e =
       let x = nearest_tip day v.trip.place v.trip.minute in
       let p = only_second (eqb x 0) (none-ne-some u) e in
       let o = nearest_open day v.trip.place v.trip.minute (omega (arith, eqb-false x 0 p.0)) in
       let next = walked_resting ts (doing day v (empty x)) (walked_empty ts v x (o.first, o.within) l w) in
-      subst (Walked day ts) (some-injective _ _ p.1) next
+      subst (WalkedSoFar day ts) (some-injective _ _ p.1) next
 
-  pub walked_emptied : (ts : Round) (must : Bool) (v u : Truck) → (must ≡ true → 0 < v.cargo.load) → Walked day ts v
-      → emptied_first day must v ≡ some u → Walked day ts u
+  pub walked_emptied : (ts : Round) (must : Bool) (v u : Truck) → (must ≡ true → 0 < v.cargo.load) → WalkedSoFar day ts v
+      → emptied_first day must v ≡ some u → WalkedSoFar day ts u
   unfolding emptied_first
   walked_emptied ts true v u l w e = walked_inserting ts v u (l refl) w e
-  walked_emptied ts false v u l w e = subst (Walked day ts) (some-injective _ _ e) w
+  walked_emptied ts false v u l w e = subst (WalkedSoFar day ts) (some-injective _ _ e) w
 
   exceeds_load : (v : Truck) (k : ℕ) → exceeds day v k ≡ true → 0 < v.cargo.load
   unfolding exceeds
   exceeds_load v k e = ltb-true _ _ (both_true (ltb 0 v.cargo.load) (ltb (load_limit day) (v.cargo.load + quantity day (stop_place day k))) e).0
 
   -- one task, of a vehicle that has rested if due
-  pub walked_task : (ts : Round) (task : Task) (v u : Truck) → Known day task → Walked day ts v → walk_task day v task ≡ some u → Walked day (ts ++ (task ∷ [])) u
+  pub walked_task : (ts : Round) (task : Task) (v u : Truck) → Known day task → WalkedSoFar day ts v → walk_task day v task ≡ some u → WalkedSoFar day (ts ++ (task ∷ [])) u
   unfolding walk_task serving_then stops_on
   walked_task ts (serve k) v u n w e = elim (known_option (emptied_first day (exceeds day v k) v)) [
     | inl z ↦ absurd (none-ne-some u (rw z at e))
-    | inr s ↦ subst (Walked day (ts ++ (serve k ∷ []))) (some-injective _ _ (rw s.1 at e))
+    | inr s ↦ subst (WalkedSoFar day (ts ++ (serve k ∷ []))) (some-injective _ _ (rw s.1 at e))
         (walked_serve ts s.0 k n (walked_emptied ts (exceeds day v k) v s.0 (exceeds_load v k) w s.1))
   ]
   walked_task ts (empty x) v u n w e = elim (known (ltb 0 v.cargo.load)) [
     | inl t ↦
         let same : doing day v (empty x) ≡ u = some-injective _ _ (rw t at e) in
-        subst (Walked day (ts ++ (empty x ∷ []))) same
+        subst (WalkedSoFar day (ts ++ (empty x ∷ []))) same
         (walked_same ts (ts ++ (empty x ∷ [])) (doing day v (empty x)) (sym (plus_none ts (empty x) refl)) (walked_empty ts v x n (ltb-true _ _ t) w))
     | inr f ↦
         let same : v ≡ u = some-injective _ _ (rw f at e) in
-        subst (Walked day (ts ++ (empty x ∷ []))) same (walked_same ts (ts ++ (empty x ∷ [])) v (sym (plus_none ts (empty x) refl)) w)
+        subst (WalkedSoFar day (ts ++ (empty x ∷ []))) same (walked_same ts (ts ++ (empty x ∷ [])) v (sym (plus_none ts (empty x) refl)) w)
   ]
   walked_task ts lunch v u n w e =
-      subst (Walked day (ts ++ (lunch ∷ []))) (some-injective _ _ e) (walked_same ts (ts ++ (lunch ∷ [])) v (sym (plus_none ts lunch refl)) w)
+      subst (WalkedSoFar day (ts ++ (lunch ∷ []))) (some-injective _ _ e) (walked_same ts (ts ++ (lunch ∷ [])) v (sym (plus_none ts lunch refl)) w)
 
-  pub walked_next : (ts : Round) (task : Task) (v u : Truck) → Known day task → Walked day ts v → walk_next day task (some v) ≡ some u → Walked day (ts ++ (task ∷ [])) u
+  pub walked_next : (ts : Round) (task : Task) (v u : Truck) → Known day task → WalkedSoFar day ts v → walk_next day task (some v) ≡ some u → WalkedSoFar day (ts ++ (task ∷ [])) u
   unfolding walk_next
   walked_next ts task v u n w e = walked_task ts task (resting day v) u n (walked_resting ts v w) e
 
@@ -146,20 +146,20 @@ module _ (day : List ℕ) where
   failed_on (task ∷ tasks) = failed_on tasks
 
   -- the tasks from a vehicle in the middle
-  pub walked_from : (ts tasks : Round) (v u : Truck) → Every (Known day) tasks → Walked day ts v → walk_on day tasks (some v) ≡ some u → Walked day (ts ++ tasks) u
+  pub walked_from : (ts tasks : Round) (v u : Truck) → Every (Known day) tasks → WalkedSoFar day ts v → walk_on day tasks (some v) ≡ some u → WalkedSoFar day (ts ++ tasks) u
   unfolding walk_on Every
-  walked_from ts [] v u n w e = rw append-nil (subst (Walked day ts) (some-injective _ _ e) w)
+  walked_from ts [] v u n w e = rw append-nil (subst (WalkedSoFar day ts) (some-injective _ _ e) w)
   walked_from ts (task ∷ tasks) v u n w e = elim (known_option (walk_next day task (some v))) [
     | inl f ↦ absurd (none-ne-some u (sym (failed_on tasks) ∙ rw f at e))
-    | inr s ↦ subst (λ (us : Round). Walked day us u) (append_assoc ts (task ∷ []) tasks)
+    | inr s ↦ subst (λ (us : Round). WalkedSoFar day us u) (append_assoc ts (task ∷ []) tasks)
         (walked_from (ts ++ (task ∷ [])) tasks s.0 u n.1 (walked_next ts task v s.0 n.0 w s.1) (rw s.1 at e))
   ]
 
-  pub walked_on : (tasks : Round) (v : Truck) → Every (Known day) tasks → walk_on day tasks (some (fresh day [])) ≡ some v → Walked day tasks v
+  pub walked_on : (tasks : Round) (v : Truck) → Every (Known day) tasks → walk_on day tasks (some (fresh day [])) ≡ some v → WalkedSoFar day tasks v
   walked_on tasks v n e = walked_from [] tasks (fresh day []) v n walked_fresh e
 
   -- before the vehicle comes back
-  pub walked_home : (ts : Round) (v u : Truck) → Walked day ts v → walk_home day (some v) ≡ some u → Walked day ts u
+  pub walked_home : (ts : Round) (v u : Truck) → WalkedSoFar day ts v → walk_home day (some v) ≡ some u → WalkedSoFar day ts u
   unfolding walk_home
   walked_home ts v u w e = walked_emptied ts (ltb 0 (resting day v).cargo.load) (resting day v) u (ltb-true _ _) (walked_resting ts v w) e
 

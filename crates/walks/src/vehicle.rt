@@ -4,7 +4,7 @@ ghost use Rattle.rules.specs.Fields.{IsAccepted};
 ghost use Rattle.rules.specs.Plan.{Round};
 ghost use Rattle.rules.specs.Trip.{leaving};
 ghost use Rattle.rules.specs.Edits.{changed};
-ghost use Rattle.edits.specs.EditWords.{edit_of, EditKnown, EditSmall};
+ghost use Rattle.edits.specs.EditWords.{edit_of, EditKnown};
 ghost use Rattle.walks.specs.Cabs.{SomeStanding};
 ghost use Rattle.walks.specs.Rewalks.{SomeWord, WalksWord, SomeChange, WalksChange, SomeTask, WalksTask, Walkable, SomeWalkable, WalksAll, ComesBack, WalkedAs};
 
@@ -27,7 +27,8 @@ pub fn walk_word(day: &Day, cab: Cab, word: u32, part: &mut [u32]) -> Option<Cab
     Some(walk_tip(day, rested, (word - TIP) as usize, part))
 }
 
-// What a word has become is walked.
+// What a word has become is walked. In line, as `walk_stop` is.
+#[inline(always)]
 fn walk_change(day: &Day, cab: Cab, change: Change, part: &mut [u32]) -> Option<Cab>
     requires { IsAccepted day.now × SomeChange day.now part.old cab change }
     ensures { WalksChange day.now part.old cab change part.new result }
@@ -42,7 +43,8 @@ fn walk_change(day: &Day, cab: Cab, change: Change, part: &mut [u32]) -> Option<
     }
 }
 
-// The word of a task is changed and walked, by the task's number.
+// The word of a task is changed and walked, by the task's number. In line, as `walk_stop` is: a trial of long rounds takes a fifth less.
+#[inline(always)]
 pub fn walk_task(
     day: &Day,
     edit: Edit,
@@ -51,7 +53,7 @@ pub fn walk_task(
     word: u32,
     part: &mut [u32],
 ) -> Option<Cab>
-    requires { IsAccepted day.now × EditSmall edit × EditKnown day.now edit × SomeTask day.now (edit_of edit) task part.old cab word }
+    requires { IsAccepted day.now × EditKnown day.now edit × SomeTask day.now (edit_of edit) task part.old cab word }
     ensures { WalksTask day.now (edit_of edit) task part.old cab word part.new result }
 {
     walk_change(day, cab, change_word(edit, task, word), part)
@@ -70,7 +72,7 @@ pub fn fresh_cab(day: &Day) -> Cab
 
 // The tasks of a vehicle, changed and walked again behind its A word.
 fn walk_tasks(day: &Day, edit: Edit, number: u32, tasks: &[u32], part: &mut [u32]) -> Option<Cab>
-    requires { IsAccepted day.now × EditSmall edit × EditKnown day.now edit × (number < 256) × SomeWalkable day.now (edit_of edit) tasks.now part.old }
+    requires { IsAccepted day.now × EditKnown day.now edit × (number < 256) × SomeWalkable day.now (edit_of edit) tasks.now part.old }
     ensures { WalksAll day.now (edit_of edit) number tasks.now part.old part.new result }
 {
     part[0] = VEHICLE + number;
@@ -109,7 +111,7 @@ pub fn walk_vehicle(
     tasks: &[u32],
     part: &mut [u32],
 ) -> Option<Walked>
-    requires { IsAccepted day.now × EditSmall edit × EditKnown day.now edit × (number < 256) × SomeWalkable day.now (edit_of edit) tasks.now part.old }
+    requires { IsAccepted day.now × EditKnown day.now edit × (number < 256) × SomeWalkable day.now (edit_of edit) tasks.now part.old }
     ensures { (ts : Round) → Walkable day.now (edit_of edit) tasks.now part.old ts → WalkedAs day.now number (changed (edit_of edit) 0 ts) part.old part.new result }
 {
     let cab = walk_tasks(day, edit, number, tasks, part)?;

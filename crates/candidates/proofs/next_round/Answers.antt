@@ -7,10 +7,9 @@ use Rattle.candidates.proofs.next_round.Goals as goal
 
 pub write_round-requires : goal.write_round-requires
 write_round-requires c =
-    let s = c.requires.3 in (
+    let s = c.requires.2 in (
       c.requires.0,
       c.requires.1,
-      c.requires.2,
       omega (arith, s.vehicle.few),
       some_roundable s c.requires.0 (is_touches _ _ c.is_touched-touched.ensures) refl,
     )

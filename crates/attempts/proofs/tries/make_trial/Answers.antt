@@ -13,16 +13,16 @@ is_shorter-requires c = search (rules, some_measured)
 pub write_candidate-requires : goal.write_candidate-requires
 write_candidate-requires c =
     let p = c.requires in
-    (p.0, p.1, p.2, trying_made p.0 p.3.made, omega (arith, p.4, c.is_shorter.auto.work))
+    (p.0, p.1, trying_made p.0 p.2.made, omega (arith, p.3, c.is_shorter.auto.work))
 
 pub returns-in_err-words : goal.returns-in_err-words
 returns-in_err-words c = λ rounds h. rw c.from_residual.ensures (made_fails h c.in_err-words.ensures)
 
 pub slice_bounds-judge_candidate-end : goal.slice_bounds-judge_candidate-end
-slice_bounds-judge_candidate-end c = candidate_fits c.requires.3 c.in_ok-words.ensures
+slice_bounds-judge_candidate-end c = candidate_fits c.requires.2 c.in_ok-words.ensures
 
 pub slice_bounds-judge_candidate-end-2 : goal.slice_bounds-judge_candidate-end-2
-slice_bounds-judge_candidate-end-2 c = sym (length-take-le _ _ (candidate_fits c.requires.3 c.in_ok-words.ensures))
+slice_bounds-judge_candidate-end-2 c = sym (length-take-le _ _ (candidate_fits c.requires.2 c.in_ok-words.ensures))
 
 pub returns : goal.returns
 returns c = λ rounds h. tried_judged c.requires.0 h c.in_ok-words.ensures _ c.judge_candidate.ensures

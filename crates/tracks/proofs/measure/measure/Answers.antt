@@ -9,13 +9,12 @@ returns-in_err-cab c = λ ts h. rw c.from_residual.ensures (measure_failed h c.i
 
 pub walk_span-requires : goal.walk_span-requires
 walk_span-requires c =
-    let s = c.requires.4 in
+    let s = c.requires.3 in
     let w = measure_starts s.measurable c.in_ok-cab.ensures (wrote_put (wrote_none _) _ (omega (arith, s.measurable.cuttable.walkable.room))) in (
       c.requires.0,
       c.requires.1,
-      c.requires.2,
       c.args.tracks.now.behind_size,
-      c.requires.3,
+      c.requires.2,
       record { tasks = s.tasks; start = w.start; p = _; cuttable = s.measurable.cuttable; midway = w.midway },
     )
 

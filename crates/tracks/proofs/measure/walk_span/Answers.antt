@@ -9,18 +9,17 @@ use Rattle.tracks.proofs.measure.walk_span.Goals as goal
 
 pub drive_onward-requires : goal.drive_onward-requires
 drive_onward-requires c =
-    let s = c.requires.5 in
-    left_small s.cuttable (c.loop-task.invariant s.tasks s.start s.p s.cuttable s.midway) c.loop-task-test.true refl (sym c.is_cut.ensures ∙ c.if-is_cut.true) c.requires.4
+    let s = c.requires.4 in
+    left_small s.cuttable (c.loop-task.invariant s.tasks s.start s.p s.cuttable s.midway) c.loop-task-test.true refl (sym c.is_cut.ensures ∙ c.if-is_cut.true) c.requires.3
 
 pub returns-then-is_cut : goal.returns-then-is_cut
 returns-then-is_cut c = λ ts start p h m. left_drives h (c.loop-task.invariant ts start p h m) c.loop-task-test.true refl (sym c.is_cut.ensures ∙ c.if-is_cut.true) c.drive_onward.ensures
 
 pub walk_task-requires : goal.walk_task-requires
 walk_task-requires c =
-    let s = c.requires.5 in (
+    let s = c.requires.4 in (
       c.requires.0,
       c.requires.1,
-      c.requires.2,
       midway_task s.cuttable.walkable c.loop-task-test.true 0 (c.loop-task.invariant s.tasks s.start s.p s.cuttable s.midway),
     )
 
@@ -34,7 +33,7 @@ loop-task-preserved c = λ ts start p h m. midway_step h.walkable c.loop-task-te
 
 pub come_back-requires : goal.come_back-requires
 come_back-requires c =
-    let s = c.requires.5 in
+    let s = c.requires.4 in
     (c.requires.0, some_standing (omega arith) (midway_done s.cuttable.walkable c.loop-task-test.false (c.loop-task.invariant s.tasks s.start s.p s.cuttable s.midway)))
 
 pub returns-in_err-back : goal.returns-in_err-back

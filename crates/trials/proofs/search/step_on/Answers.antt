@@ -7,7 +7,7 @@ use Rattle.trials.proofs.search.step_on.Goals as goal
 pub try_next-tried-requires : goal.try_next-tried-requires
 try_next-tried-requires c = let p = c.requires in
     let n = trial_names p.0 p.3 in
-    (p.0, n.small, n.known, some_made c.args.trial p.0 p.3, p.1, p.3.held.plan_at.fits)
+    (p.0, n.known, some_made c.args.trial p.0 p.3, p.1, p.3.held.plan_at.fits)
 
 pub after_trial-requires : goal.after_trial-requires
 after_trial-requires c = let tried = c.try_next-tried in

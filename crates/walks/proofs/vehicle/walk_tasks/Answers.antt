@@ -10,10 +10,9 @@ loop-task-init c = λ p ts w h. midway_start w h c.fresh_cab-cab.ensures.0 c.fre
 
 pub walk_task-requires : goal.walk_task-requires
 walk_task-requires c =
-    let s = c.requires.4 in (
+    let s = c.requires.3 in (
       c.requires.0,
       c.requires.1,
-      c.requires.2,
       midway_task s.walkable c.loop-task-test.true 0 (c.loop-task.invariant _ s.tasks (wrote_put (wrote_none _) _ (omega (arith, s.walkable.room))) s.walkable),
     )
 
