@@ -1,6 +1,6 @@
 -- The calls that plan with trials answer, and leave the plan's buffer, as the definitions say. Assumes nothing.
 use Rattle.std.specs.Prelude.{if◌then◌else◌}
-use Prim.Native.Nat.{ℕ, ◌-◌, ◌*◌, ◌≤◌, ◌<◌}
+use Prim.Native.Nat.{ℕ, zero, suc, ◌-◌, ◌*◌, ◌≤◌, ◌<◌}
 use mathlib.Core.Path.{◌≡◌, refl, sym, ap, ◌∙◌}
 use mathlib.Core.Bool.{Bool, true, false, true≢false, ◌&&◌}
 use mathlib.Core.List.{List, [], ◌∷◌, ◌++◌}
@@ -9,7 +9,7 @@ use borrow.Rule.Slice.PartMut.{put_mid}
 use lib.Dec.{ltb, leb}
 use lib.ListN.{length, length-append, length-replicate, get_or, take, drop, replicate}
 use lib.Seq.{take_at, drop_at}
-use borrow.Author.Tests.{le-leb, lt-leb, le-ltb, leb-true}
+use borrow.Author.Tests.{le-ltb, leb-true}
 use Rattle.rules.specs.Answers.{given, refused}
 use Rattle.rules.specs.Lists.{over}
 use Rattle.rules.specs.DayFile.{judge_day}
@@ -29,9 +29,8 @@ use Rattle.day.proofs.Answered.{refused_not_given}
 use Rattle.day.proofs.Ranges.{accepted_ranges}
 use Rattle.greedy_laws.proofs.GreedyRoom.{greedy_room}
 use Rattle.trial_list.proofs.Shapes.{greedy_shaped}
-use Rattle.search_steps.specs.Searches.{PlanAt, SetsFit}
+use Rattle.search_steps.specs.Searches.{PlanAt, k_at, is_settled, SetsFit}
 use Rattle.search_steps.specs.declared.steps.Search.{Search}
-use Rattle.search_steps.specs.declared.steps.Setting.{Setting}
 use Rattle.trials.specs.Improvements.{Improved}
 use Rattle.planner.specs.WorkedOver.{WorkedOver}
 
@@ -44,12 +43,23 @@ few_is : (K : ℕ) {few : Bool} → few ≡ few_neighbours K → few ≡ true �
 unfolding few_neighbours
 few_is K e y = leb-true K 50 (both_true (leb 1 K) (leb K 50) (sym e ∙ y)).1
 
--- so the settings that are asked for fit
-pub one_fits : (K budget : ℕ) {few : Bool} → few ≡ few_neighbours K → few ≡ true → SetsFit (record { k = K; growing = false; budget = budget })
-one_fits K budget e y = record { most = few_is K e y; greatest = λ n. absurd (true≢false (sym n)) }
+-- so the K that are asked for fit
+pub one_fits : (K : ℕ) {few : Bool} → few ≡ few_neighbours K → few ≡ true → SetsFit (K ∷ [])
+one_fits K e y = record { some = omega arith; greatest = least; most = few_is K e y }
+  where
+    least : (stage : ℕ) → stage < 1 → k_at (K ∷ []) stage ≤ K
+    least zero h = omega arith
+    least (suc stage) h = omega arith
 
-pub sets_fit : (set : Setting) → set.k ≤ 50 → 25 ≤ set.k → SetsFit set
-sets_fit set most least = record { most = most; greatest = λ _. least }
+pub growing_fit : SetsFit growing_sets
+growing_fit = record { some = omega arith; greatest = least; most = omega arith }
+  where
+    least : (stage : ℕ) → stage < 4 → k_at growing_sets stage ≤ 50
+    least zero h = omega arith
+    least (suc zero) h = omega arith
+    least (suc (suc zero)) h = omega arith
+    least (suc (suc (suc zero))) h = omega arith
+    least (suc (suc (suc (suc stage)))) h = omega arith
 
 module _ (day : List ℕ) {n : ℕ} (h : n ≡ stops day) where
   pub few_stops : IsAccepted day → n ≤ 240
@@ -136,11 +146,11 @@ module _ (day plan : List ℕ) {n : ℕ} (h : n ≡ stops day) (l : 5 * n ≤ le
 
       -- the plan that was worked over
       module _ {buffer Ks : List ℕ} {budget : ℕ} {last : Search} (i : Improved day Ks budget buffer last)
-          (kept : length buffer ≡ length (take (5 * n - 0) (drop 0 now))) where
+          (kept : length buffer ≡ length (take (5 * n - 0) (drop 0 now))) {done : Bool} (t : done ≡ is_settled last.standing) where
         size : length buffer ≡ 5 * n
         size = kept ∙ lent_long
 
-        result_is : searched day Ks budget ≡ record { plan = i.rounds; trials = last.made; settled = last.settled }
+        result_is : searched day Ks budget ≡ record { plan = i.rounds; trials = last.made; settled = is_settled last.standing }
         result_is = sym i.is
 
         abbrev improved : List ℕ
@@ -159,11 +169,11 @@ module _ (day plan : List ℕ) {n : ℕ} (h : n ≡ stops day) (l : 5 * n ≤ le
             ∙ sym (over_drop buffer plan (5 * n) size) ∙ ap (λ (ws : List ℕ). over ws plan) filled
 
         pub worked_over : WorkedOver day Ks budget plan (put_mid 0 (5 * n - 0) now buffer)
-            (given (last.distance ∷ last.made ∷ (if last.settled then 1 else 0) ∷ left ∷ last.words ∷ []))
+            (given (last.distance ∷ last.made ∷ (if done then 1 else 0) ∷ left ∷ last.words ∷ []))
         unfolding result_values
         worked_over =
             record {
-              values = rw (result_is, i.distance, left_is, i.count) refl;
+              values = rw (result_is, i.distance, left_is, i.count, t) refl;
               buffer = put_back ∙ ap (λ (x : Result (List Round)). planned day (plan_words x.plan (greedy_lefts day)) plan) (sym result_is);
             }
 

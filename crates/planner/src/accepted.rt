@@ -3,19 +3,19 @@ ghost use Rattle.std.specs.Prelude.{◌≡◌, ◌≤◌, ◌<◌, ◌*◌, leng
 ghost use Rattle.rules.specs.Fields.{stops, IsAccepted};
 ghost use Rattle.rules.specs.AnswerValues.{plan_values};
 ghost use Rattle.rules.specs.Planned.{few_neighbours, long_enough, search_answer, search_buffer, plan_answer, plan_buffer, growing_answer, growing_buffer, SpareKept};
-ghost use Rattle.search_steps.specs.Searches.{sets_of, SetsFit};
+ghost use Rattle.search_steps.specs.Searches.{SetsFit};
 ghost use Rattle.planner.specs.WorkedOver.{WorkedOver};
 
 use builder::greedy::build_accepted;
 use day::days::Day;
 use rules::answers::PlanAnswer;
-use search_steps::steps::Setting;
+use search_steps::steps::{Setting, Standing};
 use trials::improve::improve;
 
 // The greedy plan, worked over in buffers that are long enough.
-fn work_over(day: &Day, set: Setting, plan: &mut [u32], work: &mut [u32]) -> PlanAnswer
-    requires { IsAccepted day.now × SetsFit set × (5 * stops day.now ≤ length plan.old) × (5 * stops day.now ≤ length work.old) }
-    ensures { WorkedOver day.now (sets_of set) set.budget plan.old plan.new (plan_values result) }
+fn work_over(day: &Day, set: &Setting, plan: &mut [u32], work: &mut [u32]) -> PlanAnswer
+    requires { IsAccepted day.now × SetsFit set.now.sets.now × (5 * stops day.now ≤ length plan.old) × (5 * stops day.now ≤ length work.old) }
+    ensures { WorkedOver day.now set.now.sets.now set.now.budget plan.old plan.new (plan_values result) }
 {
     match build_accepted(day, plan) {
         PlanAnswer::Planned {
@@ -29,7 +29,7 @@ fn work_over(day: &Day, set: Setting, plan: &mut [u32], work: &mut [u32]) -> Pla
             PlanAnswer::Planned {
                 distance: last.distance,
                 trials: last.made,
-                settled: last.settled,
+                settled: last.standing == Standing::Settled,
                 left_out,
                 words: last.words,
             }
@@ -55,11 +55,11 @@ fn are_long(day: &Day, room: usize, spare: usize) -> bool
 }
 
 // The answer on an accepted day, for the K that are asked for.
-fn plan_sets(day: &Day, set: Setting, plan: &mut [u32], work: &mut [u32]) -> PlanAnswer
-    requires { IsAccepted day.now × SetsFit set }
-    ensures answer { plan_values result ≡ search_answer day.now (sets_of set) set.budget (length plan.old) (length work.old) }
-    ensures buffer { plan.new ≡ search_buffer day.now (sets_of set) set.budget (length work.old) plan.old }
-    ensures spare { SpareKept (search_answer day.now (sets_of set) set.budget (length plan.old) (length work.old)) work.old work.new }
+fn plan_sets(day: &Day, set: &Setting, plan: &mut [u32], work: &mut [u32]) -> PlanAnswer
+    requires { IsAccepted day.now × SetsFit set.now.sets.now }
+    ensures answer { plan_values result ≡ search_answer day.now set.now.sets.now set.now.budget (length plan.old) (length work.old) }
+    ensures buffer { plan.new ≡ search_buffer day.now set.now.sets.now set.now.budget (length work.old) plan.old }
+    ensures spare { SpareKept (search_answer day.now set.now.sets.now set.now.budget (length plan.old) (length work.old)) work.old work.new }
 {
     if are_long(day, plan.len(), work.len()) {
         return work_over(day, set, plan, work);
@@ -85,11 +85,10 @@ pub(crate) fn plan_accepted(
 {
     if is_few(k) {
         let one = Setting {
-            k: k as usize,
-            growing: false,
+            sets: &[k as usize],
             budget,
         };
-        return plan_sets(day, one, plan, work);
+        return plan_sets(day, &one, plan, work);
     }
     PlanAnswer::Refused {
         number: 13,
@@ -110,9 +109,8 @@ pub(crate) fn grow_accepted(
     ensures spare { SpareKept (growing_answer day.now budget (length plan.old) (length work.old)) work.old work.new }
 {
     let four = Setting {
-        k: 50,
-        growing: true,
+        sets: &[5, 10, 25, 50],
         budget,
     };
-    plan_sets(day, four, plan, work)
+    plan_sets(day, &four, plan, work)
 }

@@ -1,6 +1,6 @@
 -- The search begins with the greedy plan. Assumes nothing.
 use Prim.Native.Nat.{ℕ, ◌-◌, ◌<◌}
-use mathlib.Core.Path.{◌≡◌, sym}
+use mathlib.Core.Path.{◌≡◌}
 use mathlib.Core.Bool.{true≢false}
 use mathlib.Core.List.{List}
 use native.Mathlib.Omega.{arith}
@@ -37,5 +37,5 @@ begins {day} p f far n e Ks budget some =
         valid = rw n (start_valid day (greedy_rounds day) (k_at Ks 0) p.shaped);
         same = rw (n, lists_at day Ks (greedy_rounds day) 0 some) (loop_start (trial_lists day Ks) (attempt day (greedy_lefts day)) budget (greedy_rounds day));
       };
-      done = λ y. absurd (true≢false (sym y));
+      done = λ n. absurd (true≢false n);
     })

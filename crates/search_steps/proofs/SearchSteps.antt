@@ -2,13 +2,13 @@
 use Rattle.std.specs.Prelude.{Some, None}
 use Prim.Native.Nat.{ℕ, ◌+◌, ◌-◌, ◌≤◌, ◌<◌}
 use mathlib.Core.Path.{◌≡◌, refl, sym, ◌∙◌}
-use mathlib.Core.Bool.{Bool, true, false, true≢false, not}
+use mathlib.Core.Bool.{Bool, true, false, true≢false}
 use mathlib.Core.Logic.{inl, inr}
 use mathlib.Core.List.{List, ◌∷◌}
 use native.Mathlib.Omega.{arith}
 use lib.Dec.{eqb}
 use lib.ListN.{length, take, drop}
-use borrow.Author.Tests.{not-true, not-false, eqb-true, eqb-false}
+use borrow.Author.Tests.{eqb-true, eqb-false}
 use Rattle.rules.specs.Lists.{Every}
 use Rattle.rules.specs.Fields.{stops, tips, IsAccepted}
 use Rattle.rules.specs.Build.{greedy_lefts}
@@ -20,32 +20,33 @@ use Rattle.neighbours.proofs.NeighbourTable.{table_fewer}
 use Rattle.laws.proofs.Decided.{known}
 use Rattle.trial_list.specs.Listing.{PlanTables, ListAnswer}
 use Rattle.trial_list.specs.Shapes.{Valid}
-use Rattle.trial_list.specs.TrialRest.{rest_of, listed_trial}
+use Rattle.trial_list.specs.TrialRest.{rest_of, list_start, listed_trial}
 use Rattle.trial_list.specs.declared.listing.Cursor.{Cursor}
 use Rattle.trial_list.specs.declared.listing.Listed.{Listed}
 use Rattle.trial_list.specs.declared.listing.Trial as Code
 use Rattle.trial_list.proofs.ListRests.{plan_tables, start_fits, start_valid, next_valid, valid_names, Names}
 use Rattle.search_laws.proofs.Searching.{run_nil, run_next, loop_spent}
 use Rattle.tracks.specs.declared.plan_tables.Tables.{Tables}
-use Rattle.search_steps.specs.Searches.{sets_of, SetsFit, k_at, Going, Searching, ended_by, next_list, steps_left, NextTrial}
+use Rattle.search_steps.specs.Searches.{SetsFit, k_at, last_k, Going, is_going, is_settled, Searching, ended_by, at_list, next_list, StepsTo, NextTrial}
 use Rattle.search_steps.specs.declared.steps.Search.{Search}
-use Rattle.search_steps.specs.declared.steps.Setting.{Setting}
-use Rattle.search_steps.proofs.SetLaws.{sets_few, sets_within, lists_at, lists_past}
+use Rattle.search_steps.specs.declared.steps.Standing.{Standing}
+use Rattle.search_steps.specs.declared.steps.Standing.TheVariants as Standings
+use Rattle.search_steps.proofs.SetLaws.{lists_at, lists_past}
 use Rattle.search_steps.proofs.TakeOverLaws.{slice_is}
 
 -- the search goes on with a plan held
-module _ {day : List ℕ} {set : Setting} {budget : ℕ} {table plan : List ℕ} {tables : Tables} {s : Search}
-    (ok : IsAccepted day) (fit : SetsFit set) (t : TableOf day set.k table)
-    (h : Searching day (sets_of set) budget plan tables s) (g : s.ended ≡ false) where
+module _ {day Ks : List ℕ} {budget : ℕ} {table plan : List ℕ} {tables : Tables} {s : Search}
+    (ok : IsAccepted day) (fit : SetsFit Ks) (t : TableOf day (last_k Ks) table)
+    (h : Searching day Ks budget plan tables s) (g : is_going s.standing ≡ true) where
   -- the K at hand
   abbrev K : ℕ
-  K = k_at (sets_of set) s.stage
+  K = k_at Ks s.stage
 
-  pub at_hand : s.stage < length (sets_of set)
+  pub at_hand : s.stage < length Ks
   at_hand = (h.going g).staged
 
-  within : K ≤ set.k
-  within = sets_within fit s.stage at_hand
+  within : K ≤ last_k Ks
+  within = fit.greatest s.stage at_hand
 
   -- the tables of the plan held
   pub held_tables : PlanTables (stops day) (tips day) K table tables.starts tables.vehicles (take (s.words - 0) (drop 0 plan)) s.count
@@ -54,58 +55,68 @@ module _ {day : List ℕ} {set : Setting} {budget : ℕ} {table plan : List ℕ}
       (omega (arith, within, fit.most)) h.held.plan_at.shaped (table_fewer t K within) h.held.surveyed (slice_is h.held.plan_at)
 
   -- the search ends
-  ends : (settled : Bool) → record { plan = h.rounds; trials = s.made; settled = settled } ≡ searched day (sets_of set) budget
-      → Searching day (sets_of set) budget plan tables (ended_by s settled)
-  ends settled e =
-      record { rounds = h.rounds; held = h.held; drives = h.drives; within = h.within; going = λ n. absurd (true≢false n); done = λ _. e }
+  ends : record { plan = h.rounds; trials = s.made; settled = false } ≡ searched day Ks budget
+      → Searching day Ks budget plan tables (ended_by s Standings.Spent)
+  ends e =
+      record { rounds = h.rounds; held = h.held; drives = h.drives; within = h.within; going = λ n. absurd (true≢false (sym n)); done = λ _. e }
 
   module _ {l : Listed Cursor} (a : ListAnswer (stops day) (tips day) K table tables.starts tables.vehicles (take (s.words - 0) (drop 0 plan)) s.count s.cursor l) where
     -- the list at hand is at its end
     module _ (f : l.trial ≡ None) where
-      behind : run (trial_lists day (sets_of set)) (attempt day (greedy_lefts day)) (budget - s.made) h.rounds (trial_lists day (drop (s.stage + 1) (sets_of set)) h.rounds) s.made
-          ≡ searched day (sets_of set) budget
+      behind : run (trial_lists day Ks) (attempt day (greedy_lefts day)) (budget - s.made) h.rounds (trial_lists day (drop (s.stage + 1) Ks) h.rounds) s.made
+          ≡ searched day Ks budget
       unfolding plan_tables held_tables
       behind =
           let rest = ((a.tells held_tables).none f).0 in
           let same = (h.going g).same in
-          sym (run_next (trial_lists day (sets_of set)) (attempt day (greedy_lefts day)) (budget - s.made) h.rounds _ s.made) ∙ rw rest at same
+          sym (run_next (trial_lists day Ks) (attempt day (greedy_lefts day)) (budget - s.made) h.rounds _ s.made) ∙ rw rest at same
 
       -- behind the last the search is settled
-      settles : length (sets_of set) ≤ s.stage + 1 → record { plan = h.rounds; trials = s.made; settled = true } ≡ searched day (sets_of set) budget
+      settles : length Ks ≤ s.stage + 1 → record { plan = h.rounds; trials = s.made; settled = true } ≡ searched day Ks budget
       settles last =
-          sym (run_nil (trial_lists day (sets_of set)) (attempt day (greedy_lefts day)) (budget - s.made) h.rounds s.made)
-          ∙ rw (lists_past day (sets_of set) h.rounds (s.stage + 1) last) at behind
+          sym (run_nil (trial_lists day Ks) (attempt day (greedy_lefts day)) (budget - s.made) h.rounds s.made)
+          ∙ rw (lists_past day Ks h.rounds (s.stage + 1) last) at behind
 
       -- else that of the next K begins
-      begins : s.stage + 1 < length (sets_of set) → Going day (sets_of set) budget tables.starts h.rounds (next_list set s)
+      begins : s.stage + 1 < length Ks → Going day Ks budget tables.starts h.rounds (at_list s (s.stage + 1) list_start Standings.Going)
       begins more =
           record {
             staged = more;
             fits = start_fits h.rounds h.held.surveyed;
-            valid = start_valid day h.rounds (k_at (sets_of set) (s.stage + 1)) h.held.plan_at.shaped;
-            same = rw (lists_at day (sets_of set) h.rounds (s.stage + 1) more) behind;
+            valid = start_valid day h.rounds (k_at Ks (s.stage + 1)) h.held.plan_at.shaped;
+            same = rw (lists_at day Ks h.rounds (s.stage + 1) more) behind;
           }
 
-      next_searching : Searching day (sets_of set) budget plan tables (next_list set s)
-      next_searching =
+      list_is : StepsTo day Ks budget plan tables s (next_list Ks s)
+      list_is = elim (known (eqb (s.stage + 1) (length Ks))) [
+        | inl y ↦ rw (y, g) (
           record {
             rounds = h.rounds;
             held = h.held;
             drives = h.drives;
             within = h.within;
-            going = λ n. begins (omega (arith, at_hand, eqb-false (s.stage + 1) (length (sets_of set)) n));
-            done = λ y. rw y (settles (omega (arith, eqb-true (s.stage + 1) (length (sets_of set)) y)));
-          }
-
-      next_fewer : steps_left budget (next_list set s) < steps_left budget s
-      next_fewer = elim (known (eqb (s.stage + 1) (length (sets_of set)))) [
-        | inl y ↦ rw (y, g) (omega (arith, at_hand, sets_few set))
-        | inr n ↦ rw (n, g) (omega (arith, at_hand, sets_few set))
+            going = λ n. absurd (true≢false (sym n));
+            done = λ _. settles (omega (arith, eqb-true (s.stage + 1) (length Ks) y));
+          },
+          omega (arith, at_hand),
+        )
+        | inr n ↦
+            let more : s.stage + 1 < length Ks = omega (arith, at_hand, eqb-false (s.stage + 1) (length Ks) n) in
+            rw (n, g) (
+              record {
+                rounds = h.rounds;
+                held = h.held;
+                drives = h.drives;
+                within = h.within;
+                going = λ _. begins more;
+                done = λ y. absurd (true≢false y);
+              },
+              omega (arith, more),
+            )
       ]
 
-      pub list_ends : {r : Search} → r ≡ next_list set s
-          → Searching day (sets_of set) budget plan tables r × (steps_left budget r < steps_left budget s)
-      list_ends e = rw e (next_searching, next_fewer)
+      pub list_ends : {r : Search} → r ≡ next_list Ks s → StepsTo day Ks budget plan tables s r
+      list_ends e = rw e list_is
 
     -- a trial is listed
     module _ {m : Code.Trial} (f : l.trial ≡ Some m) where
@@ -114,18 +125,17 @@ module _ {day : List ℕ} {set : Setting} {budget : ℕ} {table plan : List ℕ}
       next_is_lem = (a.tells held_tables).some m f
 
       -- but the budget is gone
-      pub ends_spent : {r : Search} → s.made ≡ budget → r ≡ ended_by s false
-          → Searching day (sets_of set) budget plan tables r × (steps_left budget r < steps_left budget s)
+      pub ends_spent : {r : Search} → s.made ≡ budget → r ≡ ended_by s Standings.Spent → StepsTo day Ks budget plan tables s r
       ends_spent b e =
           let same = (h.going g).same in
-          let spent = loop_spent (trial_lists day (sets_of set)) (attempt day (greedy_lefts day)) budget h.rounds (listed_trial m) (rest_of day K h.rounds l.next) _ s.made b in
-          rw (e, g) (ends false (sym spent ∙ rw next_is_lem at same), omega (arith, at_hand, sets_few set))
+          let spent = loop_spent (trial_lists day Ks) (attempt day (greedy_lefts day)) budget h.rounds (listed_trial m) (rest_of day K h.rounds l.next) _ s.made b in
+          rw (e, g) (ends (sym spent ∙ rw next_is_lem at same), omega (arith, at_hand))
 
       -- it may be made
       next_may : Valid day h.rounds (listed_trial m) × Every (Valid day h.rounds) (rest_of day K h.rounds l.next)
       next_may = next_valid day h.rounds K s.cursor l.next m next_is_lem (h.going g).valid
 
-      pub next_trial : (s.made ≡ budget → ⊥) → NextTrial day (sets_of set) budget plan tables s m l.next
+      pub next_trial : (s.made ≡ budget → ⊥) → NextTrial day Ks budget plan tables s m l.next
       next_trial b =
           record {
             rounds = h.rounds;
@@ -148,8 +158,17 @@ module _ {day Ks : List ℕ} {budget : ℕ} {plan : List ℕ} {tables : Tables} 
   trial_names = valid_names day h.rounds m (accepted_ranges day ok).stops_most h.may_be
 
 -- whether the search goes on
-pub is_on : {ended going : Bool} → going ≡ not ended → going ≡ true → ended ≡ false
-is_on {ended} e y = not-true ended (sym e ∙ y)
+pub is_on : {x : Standing} → x ≡ Standings.Going → is_going x ≡ true
+is_on e = rw e refl
 
-pub is_off : {ended going : Bool} → going ≡ not ended → going ≡ false → ended ≡ true
-is_off {ended} e n = not-false ended (sym e ∙ n)
+pub is_off : {x : Standing} → (x ≡ Standings.Going → ⊥) → is_going x ≡ false
+is_off {x = Standings.Going} n = absurd (n refl)
+is_off {x = Standings.Spent} n = refl
+is_off {x = Standings.Settled} n = refl
+
+-- whether its plan is settled
+pub settled_by : {x : Standing} {b : Bool} → (b ≡ true → x ≡ Standings.Settled) → (b ≡ false → x ≡ Standings.Settled → ⊥) → b ≡ is_settled x
+settled_by {b = true} y n = rw (y refl) refl
+settled_by {x = Standings.Going} {b = false} y n = refl
+settled_by {x = Standings.Spent} {b = false} y n = refl
+settled_by {x = Standings.Settled} {b = false} y n = absurd (n refl refl)

@@ -11,7 +11,6 @@ use Rattle.rules.specs.Build.{greedy_lefts}
 use Rattle.laws.specs.Buffer.{Wrote}
 use Rattle.laws.proofs.Buffer.{over_front}
 use Rattle.day.proofs.Ranges.{accepted_ranges}
-use Rattle.greedy_laws.proofs.GreedyRoom.{room_is}
 use Rattle.trial_list.specs.Shapes.{Shaped}
 use Rattle.trial_list.specs.Survey.{PlanOf, SomePlan, SurveysAll}
 use Rattle.trial_list.proofs.Shapes.{shaped_few, shaped_length}

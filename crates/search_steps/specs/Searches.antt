@@ -1,5 +1,5 @@
 -- The search while it goes on, as the code has it. It serves the contracts of the functions that begin a search, go on with it and end it. Assumes nothing.
-use Rattle.std.specs.Prelude.{ℕ, ◌+◌, ◌*◌, ◌-◌, ◌≤◌, ◌<◌, ◌≡◌, Bool, true, false, List, [], ◌∷◌, eqb, length, take, drop, get_or, if◌then◌else◌}
+use Rattle.std.specs.Prelude.{ℕ, ◌+◌, ◌*◌, ◌-◌, ◌≤◌, ◌<◌, ◌≡◌, Bool, true, false, List, ◌∷◌, eqb, length, take, drop, get_or, if◌then◌else◌}
 use Rattle.rules.specs.Lists.{Every}
 use Rattle.rules.specs.Plan.{Round, plan_words}
 use Rattle.rules.specs.Build.{greedy_lefts}
@@ -15,7 +15,8 @@ use Rattle.trial_list.specs.declared.listing.Trial as Code
 use Rattle.tracks.specs.Tables.{TrackedIn}
 use Rattle.tracks.specs.declared.plan_tables.Tables.{Tables}
 use Rattle.search_steps.specs.declared.steps.Search.{Search}
-use Rattle.search_steps.specs.declared.steps.Setting.{Setting}
+use Rattle.search_steps.specs.declared.steps.Standing.{Standing}
+use Rattle.search_steps.specs.declared.steps.Standing.TheVariants as Standings
 
 -- a plan of these words is one that trials work on
 pub record PlanAt (day buffer : List ℕ) (words : ℕ) (rounds : List Round) : Type 0 where
@@ -53,18 +54,19 @@ abbrev pub TakesOver : List ℕ → List ℕ → ℕ → List ℕ → Tables →
 TakesOver day buffer words plan tables count =
     (rounds : List Round) → PlanAt day buffer words rounds → TakenOver day plan words rounds tables count
 
--- the K that are asked for: one, or 5, 10 and 25 before it
-abbrev pub sets_of : Setting → List ℕ
-sets_of set = if set.growing then 5 ∷ 10 ∷ 25 ∷ set.k ∷ [] else set.k ∷ []
-
--- the last is the greatest, and a table of neighbours has room for it
-pub record SetsFit (set : Setting) : Type 0 where
-  pub most : set.k ≤ 50
-  pub greatest : set.growing ≡ true → 25 ≤ set.k
-
--- the K at hand, of those that are asked for
+-- the K at hand, of those that are asked for in turn
 abbrev pub k_at : (Ks : List ℕ) (stage : ℕ) → ℕ
 k_at Ks stage = get_or Ks stage 0
+
+-- the last
+abbrev pub last_k : (Ks : List ℕ) → ℕ
+last_k Ks = k_at Ks (length Ks - 1)
+
+-- some K are asked for; the last is the greatest, and a table of neighbours has room for it
+pub record SetsFit (Ks : List ℕ) : Type 0 where
+  pub some : 0 < length Ks
+  pub greatest : (stage : ℕ) → stage < length Ks → k_at Ks stage ≤ last_k Ks
+  pub most : last_k Ks ≤ 50
 
 -- the lists that are still to be made of the plan held: that of the K at hand from the cursor on, and those of the K behind it
 abbrev pub lists_left : (day Ks : List ℕ) → List Round → (stage : ℕ) → Cursor → List (List Trial)
@@ -82,37 +84,51 @@ pub record Going (day Ks : List ℕ) (budget : ℕ) (starts : List ℕ) (rounds 
   pub valid : Every (Valid day rounds) (rest_of day (k_at Ks s.stage) rounds s.cursor)
   pub same : GoesOn day Ks budget rounds s.made s.stage s.cursor
 
+-- where the search stands: it goes on, or it has ended, and then its plan is settled or not
+abbrev pub is_going : Standing → Bool
+is_going Standings.Going = true
+is_going Standings.Spent = false
+is_going Standings.Settled = false
+
+abbrev pub is_settled : Standing → Bool
+is_settled Standings.Going = false
+is_settled Standings.Spent = false
+is_settled Standings.Settled = true
+
 -- the search, going on or ended
 pub record Searching (day Ks : List ℕ) (budget : ℕ) (plan : List ℕ) (tables : Tables) (s : Search) : Type 0 where
   pub rounds : List Round
   pub held : TakenOver day plan s.words rounds tables s.count
   pub drives : s.distance ≡ distance_of day rounds
   pub within : s.made ≤ budget
-  pub going : s.ended ≡ false → Going day Ks budget tables.starts rounds s
-  pub done : s.ended ≡ true → record { plan = rounds; trials = s.made; settled = s.settled } ≡ searched day Ks budget
+  pub going : is_going s.standing ≡ true → Going day Ks budget tables.starts rounds s
+  pub done : is_going s.standing ≡ false → record { plan = rounds; trials = s.made; settled = is_settled s.standing } ≡ searched day Ks budget
 
 -- the search goes on with a plan held
 abbrev pub going_on : (words count distance made stage : ℕ) → Cursor → Search
 going_on words count distance made stage cursor =
-    record { words = words; count = count; distance = distance; made = made; stage = stage; cursor = cursor; ended = false; settled = false }
+    record { words = words; count = count; distance = distance; made = made; stage = stage; cursor = cursor; standing = Standings.Going }
 
--- the search has ended
-abbrev pub ended_by : Search → Bool → Search
-ended_by s settled =
-    record { words = s.words; count = s.count; distance = s.distance; made = s.made; stage = s.stage; cursor = s.cursor; ended = true; settled = settled }
+-- the search at a place of its lists, where it goes on or has ended
+abbrev pub at_list : Search → (stage : ℕ) → Cursor → Standing → Search
+at_list s stage cursor standing =
+    record { words = s.words; count = s.count; distance = s.distance; made = s.made; stage = stage; cursor = cursor; standing = standing }
 
--- the search with another list at hand, or behind the last
-abbrev pub at_list : Search → (stage : ℕ) → Cursor → Bool → Search
-at_list s stage cursor past =
-    record { words = s.words; count = s.count; distance = s.distance; made = s.made; stage = stage; cursor = cursor; ended = past; settled = past }
+-- the search has ended where it is
+abbrev pub ended_by : Search → Standing → Search
+ended_by s standing = at_list s s.stage s.cursor standing
 
 -- the list at hand is at its end: that of the next K begins, or behind the last the search has ended, settled
-abbrev pub next_list : Setting → Search → Search
-next_list set s = at_list s (s.stage + 1) list_start (eqb (s.stage + 1) (length (sets_of set)))
+abbrev pub next_list : (Ks : List ℕ) → Search → Search
+next_list Ks s = at_list s (s.stage + 1) list_start (if eqb (s.stage + 1) (length Ks) then Standings.Settled else Standings.Going)
 
 -- trials and lists to come: each step makes a trial, goes to the next K or ends the search
-abbrev pub steps_left : ℕ → Search → ℕ
-steps_left budget s = if s.ended then 0 else 8 * (budget - s.made) + (5 - s.stage)
+abbrev pub steps_left : (Ks : List ℕ) (budget : ℕ) → Search → ℕ
+steps_left Ks budget s = if is_going s.standing then (budget - s.made) * (length Ks + 1) + (length Ks - s.stage) else 0
+
+-- a step on, the search goes on or has ended, and less is to come
+abbrev pub StepsTo : (day Ks : List ℕ) (budget : ℕ) (plan : List ℕ) → Tables → (before after : Search) → Type 0
+StepsTo day Ks budget plan tables before after = Searching day Ks budget plan tables after × (steps_left Ks budget after < steps_left Ks budget before)
 
 -- the trial m of the plan held is listed and may be made, and the list goes on behind it
 pub record Ahead (day Ks : List ℕ) (budget : ℕ) (plan : List ℕ) (tables : Tables) (s : Search) (m : Trial) (next : Cursor) : Type 0 where
@@ -120,7 +136,7 @@ pub record Ahead (day Ks : List ℕ) (budget : ℕ) (plan : List ℕ) (tables : 
   pub held : TakenOver day plan s.words rounds tables s.count
   pub drives : s.distance ≡ distance_of day rounds
   pub left : s.made < budget
-  pub on : s.ended ≡ false
+  pub on : is_going s.standing ≡ true
   pub staged : s.stage < length Ks
   pub ms : rest_of day (k_at Ks s.stage) rounds s.cursor ≡ m ∷ rest_of day (k_at Ks s.stage) rounds next
   pub valid : Every (Valid day rounds) (rest_of day (k_at Ks s.stage) rounds next)

@@ -1,10 +1,10 @@
 // The search but for the making of a trial: it begins with the greedy plan, lists the next trial, takes a plan over, and ends.
-ghost use Rattle.std.specs.Prelude.{◌≡◌, not, ◌-◌, ◌≤◌, ◌<◌, ◌*◌, length, take, drop};
+ghost use Rattle.std.specs.Prelude.{◌≡◌, ◌+◌, ◌-◌, ◌≤◌, ◌<◌, ◌*◌, ◌^◌, length, take, drop};
 ghost use Rattle.rules.specs.Fields.{stops, tips, IsAccepted};
 ghost use Rattle.rules.specs.Build.{greedy_rounds};
 ghost use Rattle.rules.specs.Attempts.{distance_of};
 ghost use Rattle.trial_list.specs.Listing.{PlanTables, CursorFits, ListAnswer};
-ghost use Rattle.search_steps.specs.Searches.{PlanAt, SomePlanAt, TakesOver, BeginsAll, sets_of, k_at, ended_by, going_on, at_list, next_list};
+ghost use Rattle.search_steps.specs.Searches.{PlanAt, SomePlanAt, TakesOver, BeginsAll, k_at, ended_by, going_on, at_list, next_list};
 
 use crate::held::make_tables;
 use candidates::copy_words;
@@ -12,16 +12,23 @@ use day::days::Day;
 use tracks::plan_tables::{Held, Tables};
 use trial_list::listing::{Cursor, Listed, Listing, first_trial, next_trial};
 
-// What is asked for: K, whether 5, 10 and 25 come before it, and how many trials may be made.
+// What is asked for: each K in turn, the greatest at the end, and how many trials may be made.
 #[derive(Clone, Copy)]
-pub struct Setting {
-    pub k: usize,
-    pub growing: bool,
+pub struct Setting<'a> {
+    pub sets: &'a [usize],
     pub budget: u64,
 }
 
+// A search goes on, or it has ended: its budget is spent, or its plan is settled.
+#[derive(Clone, Copy, PartialEq, Eq, Debug)]
+pub enum Standing {
+    Going,
+    Spent,
+    Settled,
+}
+
 // The plan held: its words, its vehicles and how far it drives; how many trials were made, which K is at hand, where its list goes on, and
-// whether the search has ended, settled or not.
+// where the search stands.
 #[derive(Clone, Copy)]
 pub struct Search {
     pub words: usize,
@@ -30,8 +37,7 @@ pub struct Search {
     pub made: u64,
     pub stage: usize,
     pub cursor: Cursor,
-    pub ended: bool,
-    pub settled: bool,
+    pub standing: Standing,
 }
 
 // The plan at the front of the working buffer is taken over, and its tables are made. How many vehicles it has.
@@ -47,23 +53,6 @@ pub fn take_over(
 {
     copy_words(&work[0..words], plan);
     make_tables(day, &plan[0..words], tables, work)
-}
-
-// The search has ended.
-pub fn end(s: Search, settled: bool) -> Search
-    ensures { result ≡ ended_by s settled }
-{
-    let cursor = s.cursor;
-    Search {
-        words: s.words,
-        count: s.count,
-        distance: s.distance,
-        made: s.made,
-        stage: s.stage,
-        cursor,
-        ended: true,
-        settled,
-    }
 }
 
 // The search goes on with a plan held.
@@ -84,44 +73,13 @@ pub fn going(
         made,
         stage,
         cursor,
-        ended: false,
-        settled: false,
+        standing: Standing::Going,
     }
 }
 
-// How many K are asked for.
-fn sets_in(set: Setting) -> usize
-    ensures { result ≡ length (sets_of set) }
-{
-    if set.growing {
-        return 4;
-    }
-    1
-}
-
-// The K at hand.
-fn k_at(set: Setting, stage: usize) -> usize
-    requires { stage < length (sets_of set) }
-    ensures { result ≡ k_at (sets_of set) stage }
-{
-    if set.growing {
-        if stage == 0 {
-            return 5;
-        }
-        if stage == 1 {
-            return 10;
-        }
-        if stage == 2 {
-            return 25;
-        }
-        return set.k;
-    }
-    set.k
-}
-
-// The search with another list at hand, or behind the last.
-fn at_list(s: Search, stage: usize, cursor: Cursor, past: bool) -> Search
-    ensures { result ≡ at_list s stage cursor past }
+// The search at a place of its lists, where it goes on or has ended.
+fn at_list(s: Search, stage: usize, cursor: Cursor, standing: Standing) -> Search
+    ensures { result ≡ at_list s stage cursor standing }
 {
     Search {
         words: s.words,
@@ -130,37 +88,47 @@ fn at_list(s: Search, stage: usize, cursor: Cursor, past: bool) -> Search
         made: s.made,
         stage,
         cursor,
-        ended: past,
-        settled: past,
+        standing,
     }
 }
 
+// The search has ended where it is, spent or settled.
+pub fn end(s: Search, standing: Standing) -> Search
+    ensures { result ≡ ended_by s standing }
+{
+    at_list(s, s.stage, s.cursor, standing)
+}
+
 // The list at hand is at its end: that of the next K begins, or behind the last the search has ended, settled.
-pub fn next_list(set: Setting, s: Search) -> Search
-    requires { s.stage < 4 }
-    ensures { result ≡ next_list set s }
+pub fn next_list(set: &Setting, s: Search) -> Search
+    requires { s.stage + 1 < 2 ^ 64 }
+    ensures { result ≡ next_list set.now.sets.now s }
 {
     let stage = s.stage + 1;
-    let past = stage == sets_in(set);
-    at_list(s, stage, first_trial(), past)
+    let standing = if stage == set.sets.len() {
+        Standing::Settled
+    } else {
+        Standing::Going
+    };
+    at_list(s, stage, first_trial(), standing)
 }
 
 // The next trial of the plan held, or none.
 pub fn list_next(
     day: &Day,
-    set: Setting,
+    set: &Setting,
     table: &[u8],
     tables: &Tables,
     plan: &[u32],
     s: Search,
 ) -> Listed<Cursor>
-    requires { (s.stage < length (sets_of set)) × PlanTables (stops day.now) (tips day.now) (k_at (sets_of set) s.stage) table.now tables.now.starts tables.now.vehicles (take (s.words - 0) (drop 0 plan.now)) s.count × CursorFits tables.now.starts s.count s.cursor × (s.words ≤ length plan.now) }
-    ensures { ListAnswer (stops day.now) (tips day.now) (k_at (sets_of set) s.stage) table.now tables.now.starts tables.now.vehicles (take (s.words - 0) (drop 0 plan.now)) s.count s.cursor result }
+    requires { (s.stage < length set.now.sets.now) × PlanTables (stops day.now) (tips day.now) (k_at set.now.sets.now s.stage) table.now tables.now.starts tables.now.vehicles (take (s.words - 0) (drop 0 plan.now)) s.count × CursorFits tables.now.starts s.count s.cursor × (s.words ≤ length plan.now) }
+    ensures { ListAnswer (stops day.now) (tips day.now) (k_at set.now.sets.now s.stage) table.now tables.now.starts tables.now.vehicles (take (s.words - 0) (drop 0 plan.now)) s.count s.cursor result }
 {
     let listing = Listing {
         stops: day.stops(),
         tips: day.tips(),
-        k: k_at(set, s.stage),
+        k: set.sets[s.stage],
         neighbours: table,
         starts: &tables.starts,
         vehicles: &tables.vehicles,
@@ -168,16 +136,6 @@ pub fn list_next(
         plan: &plan[0..s.words],
     };
     next_trial(&listing, s.cursor)
-}
-
-// Whether trials are still to be made.
-pub fn is_going(s: Search) -> bool
-    ensures { result ≡ not s.ended }
-{
-    if s.ended {
-        return false;
-    }
-    true
 }
 
 // The greedy plan is held; its tables are made, and no trial is made yet.

@@ -22,9 +22,9 @@ use Rattle.tracks.specs.declared.plan_tables.Tables.{Tables}
 use Rattle.attempts.specs.Tries.{Made, SomeMade, Kept, TriedAs}
 use Rattle.search_laws.proofs.KeptTrials.{attempt_kept}
 use Rattle.search_laws.proofs.Searching.{loop_none, loop_some}
-use Rattle.search_steps.specs.Searches.{PlanAt, SomePlanAt, TakesOver, k_at, Searching, going_on, steps_left, Ahead, NextTrial}
+use Rattle.search_steps.specs.Searches.{PlanAt, SomePlanAt, TakesOver, k_at, going_on, StepsTo, Ahead, NextTrial}
 use Rattle.search_steps.specs.declared.steps.Search.{Search}
-use Rattle.search_steps.proofs.SetLaws.{lists_at}
+use Rattle.search_steps.proofs.SetLaws.{fewer_trials, lists_at}
 use Rattle.search_steps.proofs.TakeOverLaws.{slice_is}
 use Rattle.trials.specs.Improvements.{AfterTrial}
 
@@ -67,8 +67,7 @@ module _ {day Ks : List ℕ} {budget : ℕ} {work plan : List ℕ} {tables : Tab
   later = trial_lists day (drop (s.stage + 1) Ks) h.rounds
 
   -- no plan is kept, and the list goes on
-  pub goes_on_lem : {r : Search} → tried ≡ None → r ≡ going_on s.words s.count s.distance (s.made + 1) s.stage next
-      → Searching day Ks budget plan tables r × (steps_left budget r < steps_left budget s)
+  pub goes_on_lem : {r : Search} → tried ≡ None → r ≡ going_on s.words s.count s.distance (s.made + 1) s.stage next → StepsTo day Ks budget plan tables s r
   goes_on_lem k e =
       let turn =
       loop_none (trial_lists day Ks) (attempt day (greedy_lefts day)) budget h.rounds after.m rest later s.made h.left (rw k at after.tried_as) in
@@ -79,9 +78,9 @@ module _ {day Ks : List ℕ} {budget : ℕ} {work plan : List ℕ} {tables : Tab
           drives = h.drives;
           within = omega (arith, h.left);
           going = λ _. record { staged = h.staged; fits = h.fits; valid = h.valid; same = sym turn ∙ rw h.ms at h.same };
-          done = λ y. absurd (true≢false (sym y));
+          done = λ n. absurd (true≢false n);
         },
-        omega (arith, h.left),
+        fewer_trials Ks s.stage s.stage h.left h.staged,
       )
 
   -- the trial's plan, which is kept
@@ -99,7 +98,7 @@ module _ {day Ks : List ℕ} {budget : ℕ} {work plan : List ℕ} {tables : Tab
 
     pub keeps_plan : {now : List ℕ} {made : Tables} {count : ℕ} {r : Search} {first : Cursor}
         → TakesOver day work held.words now made count → first ≡ list_start
-        → r ≡ going_on held.words count held.distance (s.made + 1) 0 first → Searching day Ks budget now made r × (steps_left budget r < steps_left budget s)
+        → r ≡ going_on held.words count held.distance (s.made + 1) 0 first → StepsTo day Ks budget now made s r
     keeps_plan f n e =
         let a = kept in
         let p = plan_at in
@@ -119,7 +118,7 @@ module _ {day Ks : List ℕ} {budget : ℕ} {work plan : List ℕ} {tables : Tab
               valid = rw n (start_valid day a.q (k_at Ks 0) p.shaped);
               same = rw (n, lists_at day Ks a.q 0 some) (sym turn ∙ rw h.ms at h.same);
             };
-            done = λ y. absurd (true≢false (sym y));
+            done = λ n. absurd (true≢false n);
           },
-          omega (arith, h.left),
+          fewer_trials Ks s.stage 0 h.left h.staged,
         )

@@ -9,7 +9,7 @@ use Rattle.trial_list.specs.declared.listing.Cursor.{Cursor}
 use Rattle.attempts.specs.Tries.{TriedAs}
 use Rattle.tracks.specs.declared.plan_tables.Held.{Held}
 use Rattle.tracks.specs.declared.plan_tables.Tables.{Tables}
-use Rattle.search_steps.specs.Searches.{Ahead}
+use Rattle.search_steps.specs.Searches.{is_settled, Ahead}
 use Rattle.search_steps.specs.declared.steps.Search.{Search}
 
 -- a trial that was listed and could be made was made
@@ -21,7 +21,7 @@ pub record AfterTrial (day Ks : List ℕ) (budget : ℕ) (work plan : List ℕ) 
 -- the plan that the search hands over fills the buffer, with zeros behind it
 pub record Improved (day Ks : List ℕ) (budget : ℕ) (plan : List ℕ) (r : Search) : Type 0 where
   pub rounds : List Round
-  pub is : record { plan = rounds; trials = r.made; settled = r.settled } ≡ searched day Ks budget
+  pub is : record { plan = rounds; trials = r.made; settled = is_settled r.standing } ≡ searched day Ks budget
   pub count : r.words ≡ length (plan_words rounds (greedy_lefts day))
   pub distance : r.distance ≡ distance_of day rounds
   pub text : plan ≡ plan_words rounds (greedy_lefts day) ++ replicate (length plan - r.words) 0

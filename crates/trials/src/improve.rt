@@ -3,7 +3,7 @@ ghost use Rattle.std.specs.Prelude.{◌≡◌, ◌≤◌, ◌*◌, length};
 ghost use Rattle.rules.specs.Fields.{stops, IsAccepted};
 ghost use Rattle.rules.specs.Build.{greedy_rounds};
 ghost use Rattle.rules.specs.Attempts.{distance_of};
-ghost use Rattle.search_steps.specs.Searches.{PlanAt, sets_of, SetsFit};
+ghost use Rattle.search_steps.specs.Searches.{PlanAt, SetsFit};
 ghost use Rattle.trials.specs.Improvements.{Improved};
 
 use crate::search::run_trials;
@@ -16,18 +16,19 @@ use tracks::plan_tables::{Held, Tables};
 // The plan that the trials come to fills the buffer, with zeros behind it. Neighbours are worked out once, for the greatest K.
 pub fn improve(
     day: &Day,
-    set: Setting,
+    set: &Setting,
     words: usize,
     distance: u32,
     plan: &mut [u32],
     work: &mut [u32],
 ) -> Search
-    requires { IsAccepted day.now × SetsFit set × (length plan.old ≡ 5 * stops day.now) × (5 * stops day.now ≤ length work.old) × PlanAt day.now plan.old words (greedy_rounds day.now) × (distance ≡ distance_of day.now (greedy_rounds day.now)) }
-    ensures { Improved day.now (sets_of set) set.budget plan.new result }
+    requires { IsAccepted day.now × SetsFit set.now.sets.now × (length plan.old ≡ 5 * stops day.now) × (5 * stops day.now ≤ length work.old) × PlanAt day.now plan.old words (greedy_rounds day.now) × (distance ≡ distance_of day.now (greedy_rounds day.now)) }
+    ensures { Improved day.now set.now.sets.now set.now.budget plan.new result }
 {
     let mut table = [0u8; 12050];
     let mut tables = Tables::new();
-    fill_table(day, set.k, &mut table);
+    let greatest = set.sets[set.sets.len() - 1];
+    fill_table(day, greatest, &mut table);
     let last = run_trials(
         day,
         set,

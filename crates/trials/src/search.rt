@@ -1,5 +1,6 @@
-// The search: trial after trial, list after list, from the start of the first list again once a plan is kept.
-ghost use Rattle.std.specs.Prelude.{◌≡◌, true, false, List, ◌-◌, ◌≤◌, ◌<◌, ◌*◌, length, take, drop};
+// The search: trial after trial, list after list, from the start of the first list again once a plan is kept. The day, what is asked for and
+// the table of neighbours stay three parameters: of a struct of them each clause would say `given.now.day.now`, and not `day.now`.
+ghost use Rattle.std.specs.Prelude.{◌≡◌, true, false, List, ◌+◌, ◌-◌, ◌≤◌, ◌<◌, ◌*◌, ◌^◌, length, take, drop};
 ghost use Rattle.rules.specs.Fields.{stops, IsAccepted};
 ghost use Rattle.rules.specs.Plan.{Round};
 ghost use Rattle.rules.specs.Build.{greedy_rounds};
@@ -8,13 +9,13 @@ ghost use Rattle.neighbours.specs.Tables.{TableOf};
 ghost use Rattle.edits.specs.EditWords.{EditKnown};
 ghost use Rattle.trial_list.specs.TrialRest.{listed_trial};
 ghost use Rattle.attempts.specs.Tries.{Made, SomeMade, TriedAs};
-ghost use Rattle.search_steps.specs.Searches.{PlanAt, NextTrial, Searching, sets_of, SetsFit, steps_left};
+ghost use Rattle.search_steps.specs.Searches.{PlanAt, NextTrial, Searching, is_going, last_k, SetsFit, StepsTo};
 ghost use Rattle.trials.specs.Improvements.{AfterTrial};
 
 use attempts::tries::make_trial;
 use day::days::Day;
 use search_steps::steps::{
-    Search, Setting, begin, end, going, is_going, list_next, next_list, take_over,
+    Search, Setting, Standing, begin, end, going, list_next, next_list, take_over,
 };
 use tracks::plan_tables::{Held, Tables};
 use trial_list::listing::{Cursor, Trial, first_trial};
@@ -22,7 +23,7 @@ use trial_list::listing::{Cursor, Trial, first_trial};
 // A trial was made: its plan is taken over where it is kept, and else the list goes on.
 fn after_trial(
     day: &Day,
-    set: Setting,
+    set: &Setting,
     work: &mut [u32],
     plan: &mut [u32],
     tables: &mut Tables,
@@ -30,8 +31,9 @@ fn after_trial(
     next: Cursor,
     tried: Option<Held>,
 ) -> Search
-    requires { IsAccepted day.now × (5 * stops day.now ≤ length plan.old) × (5 * stops day.now ≤ length work.old) × AfterTrial day.now (sets_of set) set.budget work.old plan.old tables.old s next tried }
-    ensures { Searching day.now (sets_of set) set.budget plan.new tables.new result × (steps_left set.budget result < steps_left set.budget s) }
+    requires buffers { IsAccepted day.now × (5 * stops day.now ≤ length plan.old) × (5 * stops day.now ≤ length work.old) }
+    requires made { AfterTrial day.now set.now.sets.now set.now.budget work.old plan.old tables.old s next tried × (s.made + 1 < 2 ^ 64) }
+    ensures { StepsTo day.now set.now.sets.now set.now.budget plan.new tables.new s result }
 {
     let made = s.made + 1;
     match tried {
@@ -59,10 +61,10 @@ fn try_next(
     make_trial(day, t, &plan[0..words], tables, s.count, s.distance, work)
 }
 
-// A trial that is listed is made, and the search goes on behind it.
+// A trial that is listed is made, and the search goes on behind it. That it can be counted is a clause: a budget that is lent tells no bound.
 fn step_on(
     day: &Day,
-    set: Setting,
+    set: &Setting,
     work: &mut [u32],
     plan: &mut [u32],
     tables: &mut Tables,
@@ -70,8 +72,8 @@ fn step_on(
     trial: Trial,
     next: Cursor,
 ) -> Search
-    requires { IsAccepted day.now × (5 * stops day.now ≤ length work.old) × (5 * stops day.now ≤ length plan.old) × NextTrial day.now (sets_of set) set.budget plan.old tables.old s trial next }
-    ensures { Searching day.now (sets_of set) set.budget plan.new tables.new result × (steps_left set.budget result < steps_left set.budget s) }
+    requires { IsAccepted day.now × (5 * stops day.now ≤ length work.old) × (5 * stops day.now ≤ length plan.old) × NextTrial day.now set.now.sets.now set.now.budget plan.old tables.old s trial next × (s.made + 1 < 2 ^ 64) }
+    ensures { StepsTo day.now set.now.sets.now set.now.budget plan.new tables.new s result }
 {
     let tried = try_next(day, trial, plan, tables, s, work);
     after_trial(day, set, work, plan, tables, s, next, tried)
@@ -81,23 +83,23 @@ fn step_on(
 // search ends, settled.
 fn next_step(
     day: &Day,
-    set: Setting,
+    set: &Setting,
     table: &[u8],
     work: &mut [u32],
     plan: &mut [u32],
     tables: &mut Tables,
     s: Search,
 ) -> Search
-    requires buffers { IsAccepted day.now × SetsFit set × TableOf day.now set.k table.now × (5 * stops day.now ≤ length work.old) × (5 * stops day.now ≤ length plan.old) }
-    requires searching { Searching day.now (sets_of set) set.budget plan.old tables.old s × (s.ended ≡ false) }
-    ensures { Searching day.now (sets_of set) set.budget plan.new tables.new result × (steps_left set.budget result < steps_left set.budget s) }
+    requires buffers { IsAccepted day.now × SetsFit set.now.sets.now × TableOf day.now (last_k set.now.sets.now) table.now × (5 * stops day.now ≤ length work.old) × (5 * stops day.now ≤ length plan.old) }
+    requires searching { Searching day.now set.now.sets.now set.now.budget plan.old tables.old s × (is_going s.standing ≡ true) }
+    ensures { StepsTo day.now set.now.sets.now set.now.budget plan.new tables.new s result }
 {
     let listed = list_next(day, set, table, tables, plan, s);
     let Some(trial) = listed.trial else {
         return next_list(set, s);
     };
     if s.made == set.budget {
-        return end(s, false);
+        return end(s, Standing::Spent);
     }
     step_on(day, set, work, plan, tables, s, trial, listed.next)
 }
@@ -105,20 +107,20 @@ fn next_step(
 // Trials of the greedy plan, and of the plans that come of it, are made until the search ends.
 pub(crate) fn run_trials(
     day: &Day,
-    set: Setting,
+    set: &Setting,
     held: Held,
     table: &[u8],
     work: &mut [u32],
     plan: &mut [u32],
     tables: &mut Tables,
 ) -> Search
-    requires buffers { IsAccepted day.now × SetsFit set × TableOf day.now set.k table.now × (5 * stops day.now ≤ length work.old) × (5 * stops day.now ≤ length plan.old) }
+    requires buffers { IsAccepted day.now × SetsFit set.now.sets.now × TableOf day.now (last_k set.now.sets.now) table.now × (5 * stops day.now ≤ length work.old) × (5 * stops day.now ≤ length plan.old) }
     requires plan_at { PlanAt day.now plan.old held.words (greedy_rounds day.now) × (held.distance ≡ distance_of day.now (greedy_rounds day.now)) }
-    ensures { Searching day.now (sets_of set) set.budget plan.new tables.new result × (result.ended ≡ true) }
+    ensures { Searching day.now set.now.sets.now set.now.budget plan.new tables.new result × (is_going result.standing ≡ false) }
 {
     let mut s = begin(day, held, plan, tables, work);
     // How many steps there are is known only at the end: there is no range to go over.
-    while is_going(s) {
+    while s.standing == Standing::Going {
         s = next_step(day, set, table, work, plan, tables, s);
     }
     s

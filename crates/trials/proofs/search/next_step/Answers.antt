@@ -1,4 +1,5 @@
 -- `trials::search::next_step` meets its contract.
+use native.Mathlib.Omega.{arith}
 use Rattle.search_steps.proofs.SearchSteps.{at_hand, held_tables, list_ends, ends_spent, next_trial}
 use Rattle.trials.proofs.search.next_step.Goals as goal
 
@@ -21,4 +22,4 @@ pub step_on-requires : goal.step_on-requires
 step_on-requires c =
     let p = c.requires.buffers in
     let trial = next_trial p.0 p.1 p.2 c.requires.searching.0 c.requires.searching.1 c.list_next-listed.ensures c.in-Some.is c.if-s-set.false in
-    (p.0, p.3, p.4, trial)
+    (p.0, p.3, p.4, trial, omega (arith, trial.left))

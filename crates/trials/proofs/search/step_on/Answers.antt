@@ -12,4 +12,4 @@ try_next-tried-requires c = let p = c.requires in
 pub after_trial-requires : goal.after_trial-requires
 after_trial-requires c = let tried = c.try_next-tried in
     let p = c.requires in
-    (p.0, p.2, omega (arith, p.1, tried.auto.work), after_made c.args.trial p.0 p.3 _ tried.ensures)
+    record { buffers = (p.0, p.2, omega (arith, p.1, tried.auto.work)); made = (after_made c.args.trial p.0 p.3 _ tried.ensures, p.4) }
