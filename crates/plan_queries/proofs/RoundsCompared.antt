@@ -3,36 +3,23 @@
 use Rattle.std.specs.Prelude.{if◌then◌else◌}
 use Rattle.std.specs.Cmp.Lexicographic.{slice_cmp}
 use Rattle.std.proofs.lemmas.Map.Text.{is_eq-slice_cmp}
-use Rattle.std.proofs.Common.{nat_cmp, bytes_eq, is_eq}
+use Rattle.std.proofs.Common.{nat_cmp, bytes_eq, is_eq, eqb}
 use Rattle.std.specs.declared.cmp.Ordering.{Ordering}
 use Rattle.std.specs.List.{filter}
 use Prim.Native.Nat.{ℕ}
 use mathlib.Core.Path.{◌≡◌, refl, ap, ap₂, ◌∙◌}
 use mathlib.Core.Bool.{Bool, true, false, ◌&&◌}
 use mathlib.Core.List.{List, [], ◌∷◌}
-use native.Mathlib.Decide.{ℕ_discrete}
-use native.Mathlib.Omega.{arith}
-use lib.Dec.{eqb}
-use borrow.Author.Tests.{eq-eqb, ne_eqb}
-use Rattle.rules.specs.PlanWords.{kind_of, number_of, word_of, same_word}
+use Rattle.rules.specs.PlanWords.{word_of}
 use Rattle.rules.specs.SameRounds.{is_visit, counts, counted, same_words}
-
--- words are the same where kind and number are
-same_number : (v w : ℕ) → eqb v w ≡ same_word v w
-unfolding same_word
-same_number v w = go (ℕ_discrete (kind_of v) (kind_of w)) (ℕ_discrete (number_of v) (number_of w))
-  where
-    go : Dec (kind_of v ≡ kind_of w) → Dec (number_of v ≡ number_of w) → eqb v w ≡ (eqb (kind_of v) (kind_of w) && eqb (number_of v) (number_of w))
-    go (yes k) (yes n) = rw (eq-eqb v w (omega (arith, k, n)), eq-eqb _ _ k, eq-eqb _ _ n) refl
-    go (yes k) (no n) = rw (ne_eqb v w (λ e. n (ap number_of e)), ne_eqb _ _ n, eq-eqb _ _ k) refl
-    go (no k) n = rw (ne_eqb v w (λ e. k (ap kind_of e)), ne_eqb _ _ k) refl
+use Rattle.plan_words.proofs.WordForms.{same_whole}
 
 same_equal : (xs ys : List ℕ) → bytes_eq xs ys ≡ same_words xs ys
 unfolding same_words
 same_equal [] [] = refl
 same_equal [] (y ∷ ys) = refl
 same_equal (x ∷ xs) [] = refl
-same_equal (x ∷ xs) (y ∷ ys) = go (eqb x y) (same_number x y) (same_equal xs ys)
+same_equal (x ∷ xs) (y ∷ ys) = go (eqb x y) (same_whole x y) (same_equal xs ys)
   where
     go : (b : Bool) {c r s : Bool} → b ≡ c → r ≡ s → (b && r) ≡ (if c then s else false)
     go true e h = rw (← e, h) refl

@@ -134,6 +134,9 @@ module _ (w r : ℕ) (h : r < 255) where
   tip_indexed e = let whole : w ≡ tip_word (r + 1) = omega arith in ap word_of whole ∙ tip_form_lem (r + 1) (omega arith)
 
 -- two words of the same kind and number are the same word
+whole_same : (v w : ℕ) → kind_of v ≡ kind_of w → number_of v ≡ number_of w → v ≡ w
+whole_same v w k n = omega arith
+
 pub same_whole : (v w : ℕ) → eqb v w ≡ same_word v w
 unfolding same_word
 same_whole v w =
@@ -146,7 +149,7 @@ same_whole v w =
                 rw (
                   n,
                   k,
-                  ne_eqb (number_of v) (number_of w) (λ q. eqb-false v w n (omega (arith, eqb-true (kind_of v) (kind_of w) k))),
+                  ne_eqb (number_of v) (number_of w) (λ q. eqb-false v w n (whole_same v w (eqb-true (kind_of v) (kind_of w) k) q)),
                 ) refl
           ]
     ]

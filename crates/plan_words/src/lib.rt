@@ -2,7 +2,7 @@
 #![tactic(auto)]
 
 ghost use Rattle.std.specs.Prelude.{◌≡◌, ◌<◌, ◌==◌};
-ghost use Rattle.rules.specs.PlanWords.{kind_of, number_of, vehicle_kind, stop_kind, tip_kind, left_kind, vehicle_word, stop_word, tip_word, rest_word, back_word, left_word, word_of, same_word};
+ghost use Rattle.rules.specs.PlanWords.{kind_of, number_of, vehicle_kind, stop_kind, tip_kind, left_kind, vehicle_word, stop_word, tip_word, rest_word, back_word, left_word, word_of};
 ghost use Rattle.plan_words.specs.Indexes.{IndexFrom};
 ghost use Rattle.plan_words.specs.Reading.{meaning};
 
@@ -81,13 +81,6 @@ pub fn is_back(word: u32) -> bool
     ensures { result ≡ (word == back_word) }
 {
     word == BACK
-}
-
-// Whether two words have the same kind and the same number: between them these are the whole word.
-pub fn are_same(first: u32, second: u32) -> bool
-    ensures { result ≡ same_word first second }
-{
-    first == second
 }
 
 // The number of a stop's word less one; of any other word something that is no number of a stop less one. Kind and number are one range
