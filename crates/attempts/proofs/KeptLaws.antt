@@ -44,15 +44,6 @@ refused_not q = let l : ◌≡◌ {A = ℕ} 2 4 = ap length q in omega (arith, l
 
 -- the check calls it lawful, by some distance, or not at all
 module _ {day plan : List ℕ} {distance : ℕ} where
-  pub judged_shorter : {driven vehicles served words : ℕ} → given (driven ∷ vehicles ∷ served ∷ []) ≡ check_words day plan → driven < distance → words ≡ length plan
-      → Judged day plan distance (Some (record { words = words; distance = driven }))
-  judged_shorter {vehicles = vehicles} {served = served} e l n =
-      record { lawful = record { vehicles = vehicles; served = served; answer = sym e }; shorter = l; words = n }
-
-  -- it is not kept
-  pub judged_longer : {driven vehicles served : ℕ} → given (driven ∷ vehicles ∷ served ∷ []) ≡ check_words day plan → distance ≤ driven → Judged day plan distance None
-  judged_longer e l = λ d w. let q = same_distance (e ∙ w.answer) in omega (arith, q)
-
   pub judged_refused : {number place : ℕ} → refused number place ≡ check_words day plan → Judged day plan distance None
   judged_refused e = λ d w. absurd (refused_not (e ∙ w.answer))
 

@@ -83,11 +83,6 @@ module _ {day p part : List ℕ} {m : Marks} {at number : ℕ} (u : Underway day
   abbrev lent : List ℕ
   lent = take (length part - at) (drop at part)
 
-  pub underway_space : SomeLeft day lent m
-  underway_space =
-      let room : 5 * unmet (stops day) u.taken ≤ length (drop at part) = omega (arith, u.room, u.fits, u.text.text.size, length-drop at part) in
-      record { before = u.taken; left_is = u.left_is; room = rw (rest_whole part at) room }
-
   module _ {e : List ℕ} where
     -- the next vehicle is written
     pub underway_next : (w : Written) → WritesOne day m (number + 1) lent e (Some w)

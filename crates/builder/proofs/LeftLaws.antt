@@ -158,9 +158,5 @@ module _ {old : List ℕ} {from : ℕ} {first : Marks} {part : List ℕ} {m : Ma
           room = t.room;
         }
 
-  -- no stop is left
-  pub turn_count : at ≤ from + ones_of first.words
-  turn_count = omega (arith, t.count)
-
   pub turn_last : ((j : ℕ) → marked m.words j ≡ false) → LeavesAll old from first part at
   turn_last none = λ n taken what p few e s. leaving_end n taken first few e (t.leaves n taken what p few e s) none

@@ -41,9 +41,3 @@ round_walked e is tasks w =
 pub round_fails : {day : List ℕ} (e : Edit) {touched : Bool} {number : ℕ} {part : List ℕ} → touched ≡ true → (tasks : Round) {now : List ℕ}
     → WalkedAs day number (changed e 0 tasks) part now None → RoundAs number (if touched then walked_again day (changed e 0 tasks) else some tasks) part now None
 round_fails e is tasks w = rw is (record { size = w.size; written = w.written })
-
--- one that is not touched stays
-pub round_copied : {day : List ℕ} {e : Edit} {touched : Bool} {number : ℕ} {words part : List ℕ} → touched ≡ false → (tasks : Round)
-    → Roundable day e touched number words part tasks → {now : List ℕ} → Wrote words part now (length words)
-    → RoundAs number (if touched then walked_again day (changed e 0 tasks) else some tasks) part now (Some (length words))
-round_copied not tasks h w = rw not (record { size = w.size; written = record { done = tasks; is = refl; text = wrote_same w h.are refl } })

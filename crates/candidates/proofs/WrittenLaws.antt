@@ -98,16 +98,6 @@ module _ {day plan starts : List ℕ} {m : Trial} {rounds : List Round} {p part 
         → RoundsAs day m rounds p (put_mid at (length part - at) part e) count None
     written_fails {e} count a = record { size = same_len_mid at (length part - at) part e a.size ∙ w.text.size; written = tried_fails day m rounds v l a.written }
 
--- all vehicles
-pub written_end : {day : List ℕ} {m : Trial} {rounds : List Round} {p part : List ℕ} {v count at : ℕ} → Written day m rounds p part v at → v ≤ count → count ≤ v
-    → RoundsAs day m rounds p part count (Some at)
-written_end {v = v} {count = count} w h k = let e : count ≡ v = omega arith in rw e (record { size = w.text.size; written = w })
-
--- the trial has failed on one of them
-pub candidate_fails : {day : List ℕ} {m : Trial} {rounds : List Round} {p part : List ℕ} {count : ℕ} → RoundsAs day m rounds p part count None
-    → CandidateAs day m rounds p part None
-candidate_fails a = record { size = a.size; written = a.written }
-
 -- the stops left out stand behind the vehicles
 module _ {day plan starts : List ℕ} {m : Trial} {rounds : List Round} {count : ℕ} (t : Trying day plan starts m rounds) (counted : count ≡ length rounds) where
   pub ends_at : get_or starts count 0 ≡ length (rounds_words 0 rounds)

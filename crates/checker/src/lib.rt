@@ -9,7 +9,7 @@ ghost use Rattle.rules.specs.AnswerValues.{answer_values};
 
 use crate::run::check_words;
 use day::days::Day;
-use judge::{Refused, lay_out};
+use judge::lay_out;
 use rules::answers::Answer;
 
 // The answer on a plan of a day that is laid out: for callers that check many plans of one accepted day.
@@ -31,6 +31,9 @@ pub fn check(day: &[u32], plan: &[u32]) -> Answer
 {
     match lay_out(day) {
         Ok(laid) => check_laid_out(&laid, plan),
-        Err(Refused { number, place }) => Answer::Refused { number, place },
+        Err(refusal) => Answer::Refused {
+            number: refusal.number(),
+            place: refusal.place(),
+        },
     }
 }

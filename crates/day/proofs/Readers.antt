@@ -58,17 +58,8 @@ module _ (day : List ℕ) (layout : Layout) where
   pub leg_at : (p q : ℕ) → LayoutOf day layout → p < layout.places → q < layout.places → layout.legs + p * layout.places + q < length day
   leg_at p q h hp hq = omega (arith, square_below p q layout.places hp hq, h.long)
 
-  pub leg_read : (p q : ℕ) {w : ℕ} → LayoutOf day layout → w ≡ get_or day (layout.legs + p * layout.places + q) 0
-      → LegOf day p q (record { minutes = w / 65536 % 4096; distance = w % 65536 })
-  leg_read p q h e =
-      let word = rw (h.legs_are, h.places_are) at e in
-      record { takes = ap minutes_of word; spans = ap distance_of word }
-
 -- a stop's place stands behind the tips
 module _ (day : List ℕ) (layout : Layout) (k : ℕ) (l : LayoutOf day layout) where
-  pub stop_inside : k ≤ layout.stops → layout.tips + k < layout.places
-  stop_inside h = omega (arith, l.tips_are, l.stops_are, l.places_are)
-
   pub stop_hours : (hours : Window) → WindowOf day (stop_place day k) hours → WindowOf day (layout.tips + k) hours
   stop_hours hours h = rw l.tips_are h
 

@@ -159,6 +159,3 @@ module _ (day : List ℕ) where
         rounds_words_lem 0 (greedy_rounds day) greedy_rooms (greedy_busy day),
         greedy_named day,
       )
-
-pub room_is : {day : List ℕ} {layout : Layout} {room : ℕ} → LayoutOf day layout → 5 * layout.stops ≤ room → 5 * stops day ≤ room
-room_is l h = omega (arith, l.stops_are, h)

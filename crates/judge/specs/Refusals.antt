@@ -1,13 +1,17 @@
--- The answer on a day that is refused, by the reason. It serves contracts; no definition of the day rests on it. Assumes nothing.
-use Rattle.std.specs.Prelude.{ℕ, List, length}
-use Rattle.rules.specs.Answers.{refused}
+-- The number and the place of a refusal, by its reason. They serve contracts; no definition of the day rests on them. Assumes nothing.
+use Rattle.std.specs.Prelude.{ℕ}
 use Rattle.rules.specs.Faults.{day_fault_number}
 use Rattle.judge.specs.declared.Refusal.{Refusal}
 use Rattle.judge.specs.declared.Refusal.TheVariants.{Short, Sizes, Length, Word}
 
--- the answer on a day that is refused
-abbrev pub refusal_values : List ℕ → Refusal → List ℕ
-refusal_values day Short = refused 1 (length day)
-refusal_values day Sizes = refused 3 0
-refusal_values day Length = refused 4 (length day)
-refusal_values day (Word found) = refused (day_fault_number found.fault) found.place
+abbrev pub refusal_number : Refusal → ℕ
+refusal_number (Short words) = 1
+refusal_number Sizes = 3
+refusal_number (Length words) = 4
+refusal_number (Word found) = day_fault_number found.fault
+
+abbrev pub refusal_place : Refusal → ℕ
+refusal_place (Short words) = words
+refusal_place Sizes = 0
+refusal_place (Length words) = words
+refusal_place (Word found) = found.place

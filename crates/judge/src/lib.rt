@@ -7,7 +7,7 @@ ghost use Rattle.rules.specs.DayFile.{judge_day};
 ghost use Rattle.rules.specs.Fields.{IsAccepted};
 ghost use Rattle.rules.specs.AnswerValues.{day_values};
 ghost use Rattle.day_faults.specs.Judging.{judged_from};
-ghost use Rattle.judge.specs.Refusals.{refusal_values};
+ghost use Rattle.judge.specs.Refusals.{refusal_number, refusal_place};
 ghost use Rattle.judge.specs.declared.Refusal.TheVariants.{Word};
 
 use day::days::Day;
@@ -19,10 +19,10 @@ use rules::faults::DayFault;
 
 // Why a day is refused: it has no whole head, too many stops or no tip, another length than they ask for, or a word at fault.
 #[derive(Clone, Copy, PartialEq, Eq, Debug)]
-enum Refusal {
-    Short,
+pub enum Refusal {
+    Short { words: usize },
     Sizes,
-    Length,
+    Length { words: usize },
     Word(Fault),
 }
 
@@ -34,20 +34,39 @@ impl From<Fault> for Refusal {
     }
 }
 
-// The number and the place of a refusal.
-#[derive(Clone, Copy)]
-pub struct Refused {
-    pub number: u32,
-    pub place: usize,
+impl Refusal {
+    // Its number.
+    pub fn number(self) -> u32
+        ensures { result ≡ refusal_number self }
+    {
+        match self {
+            Refusal::Short { .. } => 1,
+            Refusal::Sizes => 3,
+            Refusal::Length { .. } => 4,
+            Refusal::Word(found) => found.fault as u32,
+        }
+    }
+
+    // Its place.
+    pub fn place(self) -> usize
+        ensures { result ≡ refusal_place self }
+    {
+        match self {
+            Refusal::Short { words } => words,
+            Refusal::Sizes => 0,
+            Refusal::Length { words } => words,
+            Refusal::Word(found) => found.place,
+        }
+    }
 }
 
 // The day, where its length is right for what word 0 says: kind 1 in bits 31-28, zeros in bits 27-12, d in bits 11-8, n in bits 7-0.
 #[tactic(auto, unfolding(rules::specs::DayFile::judge_day, rules::specs::DayFile::judge_sized, day_faults::specs::Judging::judged_from))]
 fn sized(day: &[u32]) -> Result<Day<'_>, Refusal>
-    ensures { MatchResult result (λ laid. (laid ≡ day.now) × (judged_from laid 1 ≡ judge_day day.now)) (λ refusal. refusal_values day.now refusal ≡ judge_day day.now) }
+    ensures { MatchResult result (λ laid. (laid ≡ day.now) × (judged_from laid 1 ≡ judge_day day.now)) (λ refusal. refused (refusal_number refusal) (refusal_place refusal) ≡ judge_day day.now) }
 {
     if day.len() < 7 {
-        return Err(Refusal::Short);
+        return Err(Refusal::Short { words: day.len() });
     }
     let word = day[0];
     if word / 0x1000 != 0x10000 {
@@ -63,15 +82,15 @@ fn sized(day: &[u32]) -> Result<Day<'_>, Refusal>
     }
     let places = 1 + tips + stops;
     if day.len() != 7 + 2 * tips + 3 * stops + places * places {
-        return Err(Refusal::Length);
+        return Err(Refusal::Length { words: day.len() });
     }
     Ok(Day::new(day))
 }
 
-// The day, where no word is at fault.
+// A day of any words and any length, laid out where it is accepted.
 #[tactic(auto, using(day_faults::proofs::Judged::end_judged))]
-fn judged(day: &[u32]) -> Result<Day<'_>, Refusal>
-    ensures { MatchResult result (λ laid. (laid ≡ day.now) × IsAccepted day.now) (λ refusal. refusal_values day.now refusal ≡ judge_day day.now) }
+pub fn lay_out(day: &[u32]) -> Result<Day<'_>, Refusal>
+    ensures { MatchResult result (λ laid. (laid ≡ day.now) × IsAccepted day.now) (λ refusal. refused (refusal_number refusal) (refusal_place refusal) ≡ judge_day day.now) }
 {
     let day = sized(day)?;
     check_head(&day)?;
@@ -79,31 +98,6 @@ fn judged(day: &[u32]) -> Result<Day<'_>, Refusal>
     check_stops(&day)?;
     check_legs(&day)?;
     Ok(day)
-}
-
-// A day of any words and any length, laid out where it is accepted, or else its refusal's number and place.
-pub fn lay_out(day: &[u32]) -> Result<Day<'_>, Refused>
-    ensures { MatchResult result (λ laid. (laid ≡ day.now) × IsAccepted day.now) (λ refusal. refused refusal.number refusal.place ≡ judge_day day.now) }
-{
-    match judged(day) {
-        Ok(laid) => Ok(laid),
-        Err(Refusal::Short) => Err(Refused {
-            number: 1,
-            place: day.len(),
-        }),
-        Err(Refusal::Sizes) => Err(Refused {
-            number: 3,
-            place: 0,
-        }),
-        Err(Refusal::Length) => Err(Refused {
-            number: 4,
-            place: day.len(),
-        }),
-        Err(Refusal::Word(Fault { fault, place })) => Err(Refused {
-            number: fault as u32,
-            place,
-        }),
-    }
 }
 
 // A day of any words and any length is accepted, or refused by 1 to 5.
@@ -115,6 +109,9 @@ pub fn judge(day: &[u32]) -> DayAnswer
             stops: laid.stops() as u32,
             tips: laid.tips() as u32,
         },
-        Err(Refused { number, place }) => DayAnswer::Refused { number, place },
+        Err(refusal) => DayAnswer::Refused {
+            number: refusal.number(),
+            place: refusal.place(),
+        },
     }
 }

@@ -210,14 +210,3 @@ pub ones_of_none : (n : ℕ) → ones_of (replicate n 0) ≡ 0
 unfolding ones_of ones
 ones_of_none zero = refl
 ones_of_none (suc n) = omega (arith, ones_of_none n)
-
--- the ones of four words, one by one
-pub ones_of_four : (ws : List ℕ) → length ws ≡ 4
-    → ones_of ws ≡ ones (get_or ws 0 0) + ones (get_or ws 1 0) + ones (get_or ws 2 0) + ones (get_or ws 3 0)
-unfolding ones_of
-ones_of_four [] e = absurd (omega arith)
-ones_of_four (a ∷ []) e = absurd (omega arith)
-ones_of_four (a ∷ b ∷ []) e = absurd (omega arith)
-ones_of_four (a ∷ b ∷ c ∷ []) e = absurd (omega arith)
-ones_of_four (a ∷ b ∷ c ∷ d ∷ []) e = omega arith
-ones_of_four (a ∷ b ∷ c ∷ d ∷ x ∷ ws) e = absurd (omega arith)

@@ -142,9 +142,6 @@ module _ (near : Bool) (day : List ℕ) (t : Trip) (c : Cargo) (n most first mar
       → WordWalk (both (up_to n) (wanted near day t c)) (key_of near day t) word first before marked best.number
       → WordWalk (both (up_to n) (wanted near day t c)) (key_of near day t) word first before r best.number)
 
-  pub passed_none : Passed marked
-  passed_none = (omega arith, λ word before best so_far e walk. walk)
-
   pub passed_next : (rest b : ℕ) {next : ℕ} {is : Bool} → Passed rest → LowestBit 64 rest b → is ≡ candidate near day t c n most (first + b) → is ≡ false
       → (next ≡ rest - 2 ^ b) × (next < rest) → Passed next
   passed_next rest b p low e z behind = (
@@ -197,7 +194,3 @@ module _ (near : Bool) (day : List ℕ) (t : Trip) (c : Cargo) (n word first bef
 pub word_start : (near : Bool) (day : List ℕ) (t : Trip) (c : Cargo) (n word first : ℕ) (best : Best) → BestBy (key_of near day t) n best
     → Walked near day t c n word first best.number word best
 word_start near day t c n word first best so_far = (so_far, walk_start _ _ word first best.number word best.number refl refl)
-
-pub next_candidate : (near : Bool) (day : List ℕ) (t : Trip) (c : Cargo) (n most first rest from b : ℕ) → FromCandidate near day t c n most first rest from
-    → LowestBit 64 from b → Candidate near day t c n most (first + b)
-next_candidate near day t c n most first rest from b found low = found.is_next b low

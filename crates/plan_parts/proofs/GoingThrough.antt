@@ -79,9 +79,6 @@ sets_out : (y : Tally) → y.inside ≡ true → y ≡ served_to y (y.served + 0
 sets_out y e = ap (λ (b : Bool). record { inside = b; vehicles = y.vehicles; served = y.served; left = y.left; last = y.last; distance = y.distance }) e ∙ ap (served_to y) (omega arith)
 
 module _ (day plan : List ℕ) (i : ℕ) (s : State) (flags : List Bool) (so_far : Reached day plan i s flags) (here : i < length plan) where
-  pub part_small : length plan ≤ 4096 → Within day 4096 s
-  part_small short = reached_small day plan i s flags so_far short here
-
   module _ (x : Word) {r : State} (word : word_of (get_or plan i 0) ≡ x) (first : StepOf (fault_by day flags s x) day s x (Ok r)) {after : List Bool}
       (m : after ≡ marked flags x) where
     pub part_next : Reached day plan (i + 1) r after
@@ -98,10 +95,6 @@ module _ (day plan : List ℕ) (i : ℕ) (s : State) (flags : List Bool) (so_far
 
       whole : Reached day plan (i + 1) (record { tally = r.tally; cargo = r.cargo; trip = r.trip }) flags
       whole = part_next (vehicle k) word first refl
-
-pub part_behind : (day plan : List ℕ) (met : List Bool) (i : ℕ) (r : Option Part) → IfSome r (PartTo day plan met (i + 1)) → IfSome r (PartTo day plan met i)
-part_behind day plan met i None p = p
-part_behind day plan met i (Some r) p = record { more = omega (arith, p.more); most = p.most; reached = p.reached }
 
 -- at the plan's end
 pub told_end : (day plan : List ℕ) (i : ℕ) (s : State) (flags : List Bool) → Reached day plan i s flags → i ≤ length plan → length plan ≤ i
@@ -121,8 +114,3 @@ out_start day plan i y c t flags e f so_far = rw (e, f) so_far
 -- behind a part
 pub part_less : (day plan : List ℕ) (met : List Bool) (i : ℕ) {r : Part} → PartTo day plan met i r → length plan - r.end < length plan - i
 part_less day plan met i p = omega (arith, p.more, p.most)
-
--- the answer at the end of a plan that was gone through
-pub told_answer : (day plan : List ℕ) {y : Tally} → ToldAll day plan y → (n : ℕ) (answer : List ℕ) → n ≡ stops day → answer ≡ end_of n (length plan) y
-    → answer ≡ check_from day plan 0 (start day)
-told_answer day plan h n answer l e = e ∙ rw l h.same

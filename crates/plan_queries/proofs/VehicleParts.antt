@@ -19,9 +19,6 @@ module _ (plan : List ℕ) (from : ℕ) where
   unfolding words_to_back
   words_at i h = rw (add-one, drop-cons plan i 0)
 
-  pub part_start : (from - from) + words_to_back (drop from plan) ≡ words_to_back (drop from plan)
-  part_start = omega arith
-
   pub part_goes_on : (i : ℕ) {asked : Bool} → from ≤ i → i < length plan → asked ≡ is_back (word_of (get_or plan i 0)) → asked ≡ false
       → (i - from) + words_to_back (drop i plan) ≡ words_to_back (drop from plan)
       → ((i + 1) - from) + words_to_back (drop (i + 1) plan) ≡ words_to_back (drop from plan)

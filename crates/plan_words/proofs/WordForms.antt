@@ -134,22 +134,5 @@ module _ (w r : ℕ) (h : r < 255) where
   tip_indexed e = let whole : w ≡ tip_word (r + 1) = omega arith in ap word_of whole ∙ tip_form_lem (r + 1) (omega arith)
 
 -- two words of the same kind and number are the same word
-whole_same : (v w : ℕ) → kind_of v ≡ kind_of w → number_of v ≡ number_of w → v ≡ w
+pub whole_same : (v w : ℕ) → kind_of v ≡ kind_of w → number_of v ≡ number_of w → v ≡ w
 whole_same v w k n = omega arith
-
-pub same_whole : (v w : ℕ) → eqb v w ≡ same_word v w
-unfolding same_word
-same_whole v w =
-    elim (known (eqb v w)) [
-      | inl e ↦ let q = eqb-true v w e in rw (q, eq-eqb (kind_of w) (kind_of w) refl, eq-eqb (number_of w) (number_of w) refl, eq-eqb w w refl) refl
-      | inr n ↦
-          elim (known (eqb (kind_of v) (kind_of w))) [
-            | inr k ↦ rw (n, k) refl
-            | inl k ↦
-                rw (
-                  n,
-                  k,
-                  ne_eqb (number_of v) (number_of w) (λ q. eqb-false v w n (whole_same v w (eqb-true (kind_of v) (kind_of w) k) q)),
-                ) refl
-          ]
-    ]

@@ -9,7 +9,7 @@ ghost use Rattle.rules.specs.Planned.{build_answer, build_buffer, plan_answer, p
 
 use crate::accepted::{grow_accepted, plan_accepted};
 use builder::greedy::build_accepted;
-use judge::{Refused, lay_out};
+use judge::lay_out;
 use rules::answers::PlanAnswer;
 
 // The greedy plan of any day, in a buffer of any length.
@@ -19,7 +19,10 @@ pub fn build(day: &[u32], plan: &mut [u32]) -> PlanAnswer
 {
     match lay_out(day) {
         Ok(laid) => { build_accepted(&laid, plan) }
-        Err(Refused { number, place }) => PlanAnswer::Refused { number, place },
+        Err(refusal) => PlanAnswer::Refused {
+            number: refusal.number(),
+            place: refusal.place(),
+        },
     }
 }
 
@@ -31,12 +34,10 @@ pub fn plan(day: &[u32], k: u64, budget: u64, plan: &mut [u32], work: &mut [u32]
 {
     match lay_out(day) {
         Ok(laid) => { plan_accepted(&laid, k, budget, plan, work) }
-        Err(refusal) => {
-            PlanAnswer::Refused {
-                number: refusal.number,
-                place: refusal.place,
-            }
-        }
+        Err(refusal) => PlanAnswer::Refused {
+            number: refusal.number(),
+            place: refusal.place(),
+        },
     }
 }
 
@@ -48,11 +49,9 @@ pub fn plan_growing(day: &[u32], budget: u64, plan: &mut [u32], work: &mut [u32]
 {
     match lay_out(day) {
         Ok(laid) => { grow_accepted(&laid, budget, plan, work) }
-        Err(refusal) => {
-            PlanAnswer::Refused {
-                number: refusal.number,
-                place: refusal.place,
-            }
-        }
+        Err(refusal) => PlanAnswer::Refused {
+            number: refusal.number(),
+            place: refusal.place(),
+        },
     }
 }

@@ -52,7 +52,3 @@ module _ (text : List ℕ) (at : ℕ) {v : ℕ} (held : v ≡ held_at text at) w
   pub held_over : (limit : ℕ) → limit < v → limit < number_at text at
   unfolding held_at
   held_over limit h = omega arith
-
-  pub held_least : v ≤ number_at text at
-  unfolding held_at
-  held_least = omega arith

@@ -93,10 +93,6 @@ row_rides (on_road v c s) h =
     let r = s.riding in
     rw h.is (rides v _ (record { trip_is = r.trip_is; load_is = r.load_is; able = r.able; few = r.few; limit = r.limit }))
 
--- a vehicle that leaves is at the depot
-pub leaving_place : (day : List ℕ) {t : Trip} → t ≡ leaving day → t.place < 4294967296
-leaving_place day e = let z = ap (λ (u : Trip). u.place) e in omega (arith, z)
-
 -- two parts of what is kept
 kept_append : (xs ys : Round) → kept (xs ++ ys) ≡ kept xs ++ kept ys
 unfolding kept

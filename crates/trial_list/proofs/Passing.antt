@@ -38,11 +38,5 @@ module _ {S P : Type 0} (rest : S → P → List Trial) (first : P) where
   Passed at = (s : S) → rest s first ≡ rest s at
 
   module _ {at : P} {r : Listed P} (h : Passed at) where
-    pub pass_on : ((s : S) → Goes (rest s) at r) → r.trial ≡ None → Passed r.next
-    pass_on step f = λ s. h s ∙ (step s).none f
-
-    pub next_found : ((s : S) → Goes (rest s) at r) → (r.trial ≡ None → ⊥) → (s : S) → Tells (rest s) first r
-    next_found step f = λ s. record { some = λ m t. h s ∙ (step s).some m t; none = λ t. absurd (f t) }
-
     pub next_none : ((s : S) → rest s at ≡ []) → r.trial ≡ None → r.next ≡ at → (s : S) → Tells (rest s) first r
     next_none over f n = λ s. record { some = λ m t. absurd (none_some f t); none = λ t. (h s ∙ over s, ap (rest s) n ∙ over s) }

@@ -101,9 +101,6 @@ module _ (day : List ℕ) (count next w : ℕ) (counted : count ≡ tips day) (n
   named_place : next ≡ place_of (tips day) w
   named_place = named ∙ ap (λ (d : ℕ). place_of d w) counted
 
-  pub ride_inside : TaskWord day w → next < places day
-  ride_inside k = omega (arith, k.place h, named_place)
-
   pub ride_place : (place : ℕ) → next ≡ place_then day place w
   unfolding place_then
   ride_place place = rw (lt-ltb w rest_word h) named_place

@@ -26,10 +26,6 @@ module _ (day : List ℕ) (t : Trip) where
   -- a visit, as the leg and the window give it
   module _ (place : ℕ) (leg : Leg) (hours : Window) {start : ℕ} (l : LegOf day t.place place leg) (h : WindowOf day place hours)
       (e : start ≡ max (t.minute + leg.minutes) hours.opening) where
-    pub trip_behind : {minutes : ℕ} → minutes ≡ service day place
-        → record { minute = start + minutes; place = place; rested = t.rested; distance = t.distance + leg.distance } ≡ visited day t place
-    trip_behind m = rw (e, m, h.opens, l.takes, l.spans)
-
     pub late_start : ltb hours.closing start ≡ ltb (closing day place) (visit_start day t place)
     late_start = rw (e, h.closes, h.opens, l.takes)
 

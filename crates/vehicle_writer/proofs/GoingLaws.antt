@@ -206,9 +206,6 @@ rest_put {isDue} {asked} {part} {now} {at} {end} a t l w =
       says = λ what p s. rw is (put_said w s rest_form l);
     }
 
-pub rest_none : {isDue asked : Bool} {part : List ℕ} {at : ℕ} → asked ≡ isDue → asked ≡ false → RestSaid isDue part at part at
-rest_none a t = let is = sym a ∙ t in record { count = rw is; size = refl; says = λ what p s. rw is s }
-
 -- no word is taken back
 pub rest_more : {isDue : Bool} {part now : List ℕ} {at end : ℕ} → RestSaid isDue part at now end → at ≤ end
 rest_more {isDue} w = elim (known isDue) [ inl d ↦ omega (arith, rw d at w.count) | inr d ↦ omega (arith, rw d at w.count) ]
@@ -232,9 +229,6 @@ task_words number tasks task s l e w = said_same (put_said w s e l) (tasks_more 
 module _ {day : List ℕ} {part : List ℕ} {at : ℕ} {r : Ready} (a : TaskAhead day part at r) where
   pub ahead_space : at + 1 < length part
   ahead_space = let g = a.some in omega (arith, going_room g.going a.task, g.room, g.going.text.text.size)
-
-  pub ahead_fits : Fits r.next
-  ahead_fits = next_fits day r.next a.some.going.ready.next_in
 
   pub ahead_able : SmallState day r.state × NextWithin day r.next × Doable r.state.left.words r.next
   ahead_able =

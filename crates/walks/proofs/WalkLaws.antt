@@ -62,10 +62,6 @@ module _ {day : List ℕ} {part : List ℕ} {c : Cab} {q : ℕ} (k : ℕ) {full 
       let d = stands_goes (emptied_first day full v) (f start most (1 + more) p v (standing_fewer (omega arith) s)) in
       rw (exceeds_is v s, d.is) (h start most more p d.v d.standing)
 
--- a load that is full is a load
-pub full_load : (day : List ℕ) (load q : ℕ) {full : Bool} → full ≡ (ltb 0 load && ltb (load_limit day) (load + q)) → full ≡ true → 0 < load
-full_load day load q e y = ltb-true 0 load (both_true (ltb 0 load) (ltb (load_limit day) (load + q)) (sym e ∙ y)).0
-
 -- it may serve stops behind the tip
 pub some_served : {day part now : List ℕ} {c e : Cab} {least : ℕ} (f : Truck → maybe.Option Truck) → SomeStanding day least part c → Drives day 0 part c f now (Some e)
     → SomeStanding day least now e

@@ -45,6 +45,7 @@ fn walk_change(day: &Day, cab: Cab, change: Change, part: &mut [u32]) -> Option<
 
 // The word of a task is changed and walked, by the task's number. In line, as `walk_stop` is: a trial of long rounds takes a fifth less.
 #[inline(always)]
+#[tactic(auto, using(edits::proofs::SmallEdits::known_small))]
 pub fn walk_task(
     day: &Day,
     edit: Edit,

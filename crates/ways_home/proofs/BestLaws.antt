@@ -13,9 +13,6 @@ module _ (key : ℕ → ℕ) (n : ℕ) where
   pub none_so_far : BestBy key n (record { number = 0; key = keys_end })
   none_so_far = record { within = omega arith; key_is = refl }
 
-  pub taken_so_far : (k : ℕ) {x : ℕ} → 0 < k → k ≤ n → x ≡ key k → BestBy key n (record { number = k; key = x })
-  taken_so_far k h l e = record { within = l; key_is = rw (ne_eqb k 0 (λ z. omega arith)) e }
-
   -- the key that is carried tells what the best number's key would
   pub less_key : (k : ℕ) (best : Best) → BestBy key n best → key k < keys_end
       → ltb (key k) best.key ≡ (eqb best.number 0 || ltb (key k) (key best.number))
