@@ -54,7 +54,7 @@ def places(file, text):
             yield "5 functions that take a day and its layout", number
         if len(re.findall(r"^    (?:mut )?\w+: ", head.split("requires")[0].split("ensures")[0], re.M)) > 8:
             yield "5 functions of more than eight parameters", number
-        if re.search(r": &mut \[u(8|32)\], (at|from): usize|at: usize, \w+: u8\)", head):
+        if re.search(r": &mut \[[\w<>]+\], (at|from): usize|at: usize, \w+: u8\)", head):
             yield "6 functions that take a buffer and a place in it", number
         if re.search(r"near: bool|run: Run", head):
             yield "7 functions told which test to run", number
@@ -73,6 +73,10 @@ def places(file, text):
             yield ("3 loops that count by hand" if counted else "3 other while loops"), number
         if re.search(r"\bas (u8|u32|u64|usize)\b", line):
             yield "4 casts by `as`", number
+        if re.match(r"^\s*for \w+ in .*\.\.", line):
+            yield "3 for loops over a range of numbers", number
+        if re.search(r"\bnumber: \d+\b", line):
+            yield "1 refusals by a bare number", number
 
 
 def main():
