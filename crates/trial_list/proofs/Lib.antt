@@ -8,3 +8,4 @@ pub mod RideLaws
 pub mod Shapes
 pub mod SurveyLaws
 pub mod TipRests
+pub mod WordsRead

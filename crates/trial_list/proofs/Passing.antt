@@ -13,7 +13,7 @@ use Rattle.trial_list.specs.declared.listing.Trial as Code
 pub none_some : {A : Type 0} {o : Option A} {m : A} → o ≡ None → o ≡ Some m → ⊥
 none_some e f = cc
 
-some_same : {A : Type 0} {o : Option A} {m n : A} → o ≡ Some m → o ≡ Some n → m ≡ n
+pub some_same : {A : Type 0} {o : Option A} {m n : A} → o ≡ Some m → o ≡ Some n → m ≡ n
 some_same e f = cc
 
 -- by the test

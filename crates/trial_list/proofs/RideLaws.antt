@@ -1,29 +1,34 @@
 -- The words of one vehicle, read from the one behind its A word on: the distance, the place and the vehicles of the stops so far.
 -- Assumes nothing.
-use Rattle.std.specs.Prelude.{if◌then◌else◌}
-use Prim.Native.Nat.{ℕ, suc, ◌+◌, ◌-◌, ◌*◌, ◌≤◌, ◌<◌}
+use Rattle.std.specs.Prelude.{if◌then◌else◌, Option, Some, None}
+use Prim.Native.Nat.{ℕ, suc, ◌+◌, ◌*◌, ◌≤◌, ◌<◌}
 use mathlib.Core.Path.{◌≡◌, refl, sym, ap, ◌∙◌}
 use mathlib.Core.List.{List, [], ◌∷◌, ◌++◌, map}
 use mathlib.Core.Logic.{inl, inr}
 use native.Mathlib.Decide.{ℕ_discrete}
 use native.Mathlib.Numerals.{add-one}
 use native.Mathlib.Omega.{arith}
-use lib.Dec.{eqb, ltb}
+use lib.Dec.{eqb}
 use lib.ListN.{length, get_or, drop, set, length-drop, length-set}
 use lib.Seq.{drop-cons, get_or-set_same, get_or-set_other}
-use borrow.Author.Tests.{eq-eqb, ne_eqb, lt-ltb, le-ltb, ltb-true}
+use borrow.Author.Tests.{eq-eqb, ne_eqb}
 use Rattle.rules.specs.Lists.{Every, mem}
-use Rattle.rules.specs.Fields.{tips, places, leg_distance}
-use Rattle.rules.specs.PlanWords.{stop_word, tip_word, rest_word, back_word}
-use Rattle.rules.specs.Plan.{Task, serve, empty, lunch, Round, task_word, stops_on, Known}
+use Rattle.rules.specs.Fields.{places}
+use Rattle.rules.specs.PlanWords.{back, back_word, word_of}
+use Rattle.rules.specs.Plan.{Task, serve, empty, lunch, Round, task_word, word_for, stops_on, Known}
 use Rattle.rules.specs.Lawful.{distance_from}
 use Rattle.laws.proofs.Decided.{known}
 use Rattle.laws.proofs.Lists.{mem_same, mem_other}
 use Rattle.laws.specs.Plan.{RoundAt}
+use Rattle.plan_words.proofs.WordForms.{back_form}
+use Rattle.plan_laws.proofs.RoundChecks.{task_form}
 use Rattle.day.specs.Layout.{LegOf}
 use Rattle.day.specs.declared.fields.Leg.{Leg}
-use Rattle.trial_list.specs.Survey.{SomeRound, EndsAll, first_of, vehicle_then, Ended, place_of, place_then, distance_then, vehicles_then, TaskWord}
+use Rattle.trial_list.specs.Survey.{SomeRound, EndsAll, first_of, vehicle_then, Ended, ride_then, vehicles_with, vehicles_then, NamesOf, RideBehind}
 use Rattle.trial_list.specs.declared.survey.Driven.{Driven}
+use Rattle.trial_list.specs.declared.survey.Ride.{Ride}
+use Rattle.trial_list.proofs.Passing.{none_some, some_same}
+use Rattle.trial_list.proofs.WordsRead.{known_names}
 
 -- the word at a place, and those behind it
 pub record WordAt (plan : List ℕ) (at x : ℕ) (xs : List ℕ) : Type 0 where
@@ -37,95 +42,27 @@ word_at plan at x xs e =
     let q : get_or plan at 0 ∷ drop (suc at) plan ≡ x ∷ xs = sym (drop-cons plan at 0 l) ∙ e in
     record { within = l; word = ap (λ (ws : List ℕ). get_or ws 0 0) q; rest = rw add-one (ap (drop 1) q) }
 
--- the places of B and C words
-place_stop : (d k : ℕ) → k < 256 → place_of d (stop_word k) ≡ d + k
-unfolding place_of
-place_stop d k h = rw (lt-ltb (stop_word k) (tip_word 0) (omega arith)) (omega arith)
-
-place_tip : (d k : ℕ) → place_of d (tip_word k) ≡ k
-unfolding place_of
-place_tip d k = rw (le-ltb (tip_word k) (tip_word 0) (omega arith)) (omega arith)
-
-pub place_of_stop : (d w : ℕ) → w < tip_word 0 → d + (w - stop_word 0) ≡ place_of d w
-unfolding place_of
-place_of_stop d w h = rw (lt-ltb w (tip_word 0) h) refl
-
-pub place_of_tip : (d w : ℕ) → (tip_word 0) ≤ w → w - tip_word 0 ≡ place_of d w
-unfolding place_of
-place_of_tip d w h = rw (le-ltb w (tip_word 0) h) refl
-
--- a known task's word, which is no E word
-task_known : (day : List ℕ) (task : Task) → Known day task → TaskWord day (task_word task)
-unfolding Known task_word
-task_known day (serve k) h = record {
-  least = omega arith;
-  stop = λ _. omega (arith, h.1);
-  place = λ _. rw (place_stop (tips day) k (omega (arith, h.1))) (omega (arith, h.1));
-}
-task_known day (empty k) h = record {
-  least = omega arith;
-  stop = λ l. absurd (omega arith);
-  place = λ _. rw (place_tip (tips day) k) (omega (arith, h.1));
-}
-task_known day lunch h = record { least = omega arith; stop = λ l. absurd (omega arith); place = λ l. absurd (omega arith) }
-
-task_not_back : (day : List ℕ) (task : Task) → Known day task → task_word task ≡ back_word → ⊥
-unfolding Known task_word
-task_not_back day (serve k) h e = omega (arith, h.1)
-task_not_back day (empty k) h e = omega (arith, h.1)
-task_not_back day lunch h e = omega arith
-
--- what a word does, by the test that decides it
-pub place_rests : (day : List ℕ) (place w : ℕ) → rest_word ≤ w → place ≡ place_then day place w
-unfolding place_then
-place_rests day place w h = rw (le-ltb w rest_word h) refl
-
-pub distance_rests : (day : List ℕ) (place distance w : ℕ) → rest_word ≤ w → distance ≡ distance_then day place distance w
-unfolding distance_then
-distance_rests day place distance w h = rw (le-ltb w rest_word h) refl
-
-pub vehicles_first : (vehicles : List ℕ) (number w : ℕ) → w < tip_word 0 → get_or vehicles (w - stop_word 0) 0 ≡ 0
-    → set vehicles (w - stop_word 0) number ≡ vehicles_then vehicles number w
-unfolding vehicles_then
-vehicles_first vehicles number w h e = rw (lt-ltb w (tip_word 0) h, eq-eqb (get_or vehicles (w - stop_word 0) 0) 0 e) refl
-
-pub vehicles_later : (vehicles : List ℕ) (number w : ℕ) → w < tip_word 0 → (get_or vehicles (w - stop_word 0) 0 ≡ 0 → ⊥) → vehicles ≡ vehicles_then vehicles number w
-unfolding vehicles_then
-vehicles_later vehicles number w h n = rw (lt-ltb w (tip_word 0) h, ne_eqb (get_or vehicles (w - stop_word 0) 0) 0 n) refl
-
-pub vehicles_other : (vehicles : List ℕ) (number w : ℕ) → (tip_word 0) ≤ w → vehicles ≡ vehicles_then vehicles number w
-unfolding vehicles_then
-vehicles_other vehicles number w h = rw (le-ltb w (tip_word 0) h) refl
-
-module _ (day : List ℕ) (count next w : ℕ) (counted : count ≡ tips day) (named : next ≡ place_of count w) (h : w < rest_word) where
-  named_place : next ≡ place_of (tips day) w
-  named_place = named ∙ ap (λ (d : ℕ). place_of d w) counted
-
-  pub ride_place : (place : ℕ) → next ≡ place_then day place w
-  unfolding place_then
-  ride_place place = rw (lt-ltb w rest_word h) named_place
-
-  pub ride_distance : (place distance : ℕ) (leg : Leg) → LegOf day place next leg → distance + leg.distance ≡ distance_then day place distance w
-  unfolding distance_then
-  ride_distance place distance leg l = rw (lt-ltb w rest_word h) (ap (λ (x : ℕ). distance + x) (l.spans ∙ ap (leg_distance day place) named_place))
-
--- a leg is short
-distance_few : (day : List ℕ) (place distance w : ℕ) → distance_then day place distance w ≤ distance + 65535
-unfolding distance_then
-distance_few day place distance w = elim (known (ltb w rest_word)) [ inl y ↦ rw y (omega arith) | inr n ↦ rw n (omega arith) ]
-
 -- one task: its place, the distance with what is left to drive, and the vehicles of the stops with what is left to mark
-place_next : (day : List ℕ) (place w : ℕ) → TaskWord day w → place < places day → place_then day place w < places day
-unfolding place_then
-place_next day place w t p = elim (known (ltb w rest_word)) [ inl y ↦ rw y (t.place (ltb-true w rest_word y)) | inr n ↦ rw n p ]
+module _ (day : List ℕ) (ride : Ride) where
+  -- a leg is short
+  distance_few : (task : Task) → (ride_then day ride task).distance ≤ ride.distance + 65535
+  unfolding ride_then
+  distance_few (serve k) = omega arith
+  distance_few (empty k) = omega arith
+  distance_few lunch = omega arith
 
-drive_next : (day : List ℕ) (place distance : ℕ) (task : Task) (todo : Round) → Known day task
-    → distance_then day place distance (task_word task) + distance_from day (place_then day place (task_word task)) todo ≡ distance + distance_from day place (task ∷ todo)
-unfolding Known task_word distance_from place_then distance_then
-drive_next day place distance (serve k) todo h =
-    rw (lt-ltb (stop_word k) rest_word (omega (arith, h.1)), place_stop (tips day) k (omega (arith, h.1))) (omega arith)
-drive_next day place distance (empty k) todo h = rw (lt-ltb (tip_word k) rest_word (omega (arith, h.1)), place_tip (tips day) k) (omega arith)
-drive_next day place distance lunch todo h = refl
+  place_next : (task : Task) → Known day task → ride.place < places day → (ride_then day ride task).place < places day
+  unfolding Known ride_then
+  place_next (serve k) h p = omega (arith, h.1)
+  place_next (empty k) h p = omega (arith, h.1)
+  place_next lunch h p = p
+
+  drive_next : (task : Task) (todo : Round)
+      → (ride_then day ride task).distance + distance_from day (ride_then day ride task).place todo ≡ ride.distance + distance_from day ride.place (task ∷ todo)
+  unfolding distance_from ride_then
+  drive_next (serve k) todo = omega arith
+  drive_next (empty k) todo = omega arith
+  drive_next lunch todo = refl
 
 pub first_some : (x y : ℕ) → (x ≡ 0 → ⊥) → first_of x y ≡ x
 unfolding first_of
@@ -147,15 +84,20 @@ then_here : (number k x : ℕ) (todo : Round) → x ≡ 0 → vehicle_then numbe
 unfolding vehicle_then stops_on
 then_here number k x todo e = rw (e, mem_same k k (stops_on todo) refl) (first_none number)
 
--- a stop's word marks the stop, where it has no vehicle yet
-vehicles_serve : (vehicles : List ℕ) (number j : ℕ) → j < 256
-    → vehicles_then vehicles number (stop_word j) ≡ (if eqb (get_or vehicles j 0) 0 then set vehicles j number else vehicles)
-unfolding vehicles_then
-vehicles_serve vehicles number j few = let at : stop_word j - stop_word 0 ≡ j = omega arith in rw (lt-ltb (stop_word j) (tip_word 0) (omega arith), at) refl
+-- a stop is marked, by the test that decides it
+module _ (vehicles : List ℕ) (number k : ℕ) where
+  pub marks_first : get_or vehicles k 0 ≡ 0 → set vehicles k number ≡ vehicles_with vehicles number k
+  unfolding vehicles_with
+  marks_first e = rw (eq-eqb (get_or vehicles k 0) 0 e) refl
+
+  pub marks_later : (get_or vehicles k 0 ≡ 0 → ⊥) → vehicles ≡ vehicles_with vehicles number k
+  unfolding vehicles_with
+  marks_later n = rw (ne_eqb (get_or vehicles k 0) 0 n) refl
 
 serve_marks : (vehicles : List ℕ) (number j : ℕ) (todo : Round) → 0 < number → j < 256 → length vehicles ≡ 256 → (k : ℕ)
-    → vehicle_then number todo (get_or (vehicles_then vehicles number (stop_word j)) k 0) k ≡ vehicle_then number (serve j ∷ todo) (get_or vehicles k 0) k
-serve_marks vehicles number j todo some few long k = rw (vehicles_serve vehicles number j few) (go (ℕ_discrete (get_or vehicles j 0) 0) (ℕ_discrete k j))
+    → vehicle_then number todo (get_or (vehicles_with vehicles number j) k 0) k ≡ vehicle_then number (serve j ∷ todo) (get_or vehicles k 0) k
+unfolding vehicles_with
+serve_marks vehicles number j todo some few long k = go (ℕ_discrete (get_or vehicles j 0) 0) (ℕ_discrete k j)
   where
     go : Dec (get_or vehicles j 0 ≡ 0) → Dec (k ≡ j)
         → vehicle_then number todo (get_or (if eqb (get_or vehicles j 0) 0 then set vehicles j number else vehicles) k 0) k
@@ -168,11 +110,11 @@ serve_marks vehicles number j todo some few long k = rw (vehicles_serve vehicles
     go (no n) (no q) = rw (ne_eqb _ 0 n) (then_other number k j _ todo q)
 
 marks_next : (day vehicles : List ℕ) (number : ℕ) (task : Task) (todo : Round) → Known day task → 0 < number → length vehicles ≡ 256 → (k : ℕ)
-    → vehicle_then number todo (get_or (vehicles_then vehicles number (task_word task)) k 0) k ≡ vehicle_then number (task ∷ todo) (get_or vehicles k 0) k
-unfolding Known task_word vehicle_then stops_on
+    → vehicle_then number todo (get_or (vehicles_then vehicles number task) k 0) k ≡ vehicle_then number (task ∷ todo) (get_or vehicles k 0) k
+unfolding Known vehicles_then vehicle_then stops_on
 marks_next day vehicles number (serve j) todo h some long k = serve_marks vehicles number j todo some (omega (arith, h.1)) long k
-marks_next day vehicles number (empty j) todo h some long k = rw (← vehicles_other vehicles number (tip_word j) (omega arith)) refl
-marks_next day vehicles number lunch todo h some long k = rw (← vehicles_other vehicles number rest_word (omega arith)) refl
+marks_next day vehicles number (empty j) todo h some long k = refl
+marks_next day vehicles number lunch todo h some long k = refl
 
 pub first_zero : (x : ℕ) → first_of x 0 ≡ x
 first_zero x = go (ℕ_discrete x 0)
@@ -185,96 +127,123 @@ then_nothing : (number k x : ℕ) → vehicle_then number [] x k ≡ x
 unfolding vehicle_then stops_on mem
 then_nothing number k x = first_zero x
 
-vehicles_size_lem : (vehicles : List ℕ) (number w : ℕ) → length (vehicles_then vehicles number w) ≡ length vehicles
-unfolding vehicles_then
-vehicles_size_lem vehicles number w = elim (known (ltb w (tip_word 0))) [
-  | inl y ↦ elim (known (eqb (get_or vehicles (w - stop_word 0) 0) 0)) [ inl e ↦ rw (y, e) (length-set vehicles (w - stop_word 0) number) | inr e ↦ rw (y, e) refl ]
-  | inr n ↦ rw n refl
-]
+vehicles_size_lem : (vehicles : List ℕ) (number : ℕ) (task : Task) → length (vehicles_then vehicles number task) ≡ length vehicles
+unfolding vehicles_then vehicles_with
+vehicles_size_lem vehicles number (serve k) = elim (known (eqb (get_or vehicles k 0) 0)) [ inl e ↦ rw e (length-set vehicles k number) | inr e ↦ rw e refl ]
+vehicles_size_lem vehicles number (empty k) = refl
+vehicles_size_lem vehicles number lunch = refl
 
 -- what is left of a vehicle's words: with what is done it makes up the whole
-pub record Riding (day plan : List ℕ) (from number : ℕ) (tasks : Round) (rest before vehicles : List ℕ) (at place distance : ℕ) (todo : Round) : Type 0 where
-  pub here : drop at plan ≡ map task_word todo ++ (back_word ∷ rest)
+pub record Riding (day plan : List ℕ) (from number : ℕ) (tasks : Round) (others before vehicles : List ℕ) (at : ℕ) (ride : Ride) (todo : Round) : Type 0 where
+  pub here : drop at plan ≡ map task_word todo ++ (back_word ∷ others)
   pub known : Every (Known day) todo
   pub ends : at + length todo ≡ from + length tasks
-  pub drives : distance + distance_from day place todo ≡ distance_from day 0 tasks
+  pub drives : ride.distance + distance_from day ride.place todo ≡ distance_from day 0 tasks
   pub marks : (k : ℕ) → vehicle_then number todo (get_or vehicles k 0) k ≡ vehicle_then number tasks (get_or before k 0) k
 
-abbrev pub RidesEach : (day plan : List ℕ) (from number : ℕ) (before vehicles : List ℕ) (at place distance : ℕ) → Type 0
-RidesEach day plan from number before vehicles at place distance =
-    (tasks : Round) (rest : List ℕ) → RoundAt day plan from tasks rest
-    → (todo : Round) × Riding day plan from number tasks rest before vehicles at place distance todo
+abbrev pub RidesEach : (day plan : List ℕ) (from number : ℕ) (before vehicles : List ℕ) (at : ℕ) (ride : Ride) → Type 0
+RidesEach day plan from number before vehicles at ride =
+    (tasks : Round) (others : List ℕ) → RoundAt day plan from tasks others → (todo : Round) × Riding day plan from number tasks others before vehicles at ride todo
 
 -- a vehicle on its way through its words, whatever tasks they are
-pub record Rides (day plan : List ℕ) (from number : ℕ) (before vehicles : List ℕ) (at place distance : ℕ) : Type 0 where
+pub record Rides (day plan : List ℕ) (from number : ℕ) (before vehicles : List ℕ) (at : ℕ) (ride : Ride) : Type 0 where
   pub within : at < length plan
-  pub word : (get_or plan at 0 ≡ back_word → ⊥) → TaskWord day (get_or plan at 0)
-  pub inside : place < places day
-  pub few : distance ≤ 65535 * at
+  pub names : NamesOf day (word_of (get_or plan at 0))
+  pub inside : ride.place < places day
+  pub few : ride.distance ≤ 65535 * at
   pub size : length vehicles ≡ 256
-  pub each : RidesEach day plan from number before vehicles at place distance
+  pub each : RidesEach day plan from number before vehicles at ride
+
+-- the word that is next, by what is left: E, or a task's
+module _ {day plan : List ℕ} {from number : ℕ} {tasks : Round} {others before vehicles : List ℕ} {at : ℕ} {ride : Ride} where
+  says_back : Riding day plan from number tasks others before vehicles at ride [] → word_of (get_or plan at 0) ≡ back
+  says_back r = ap word_of (word_at plan at _ _ r.here).word ∙ back_form
+
+  says_task : {task : Task} {todo : Round} → Riding day plan from number tasks others before vehicles at ride (task ∷ todo)
+      → word_of (get_or plan at 0) ≡ word_for task
+  unfolding Every
+  says_task {task} r = ap word_of (word_at plan at _ _ r.here).word ∙ task_form day task r.known.0
 
 module _ {day plan : List ℕ} {from : ℕ} (some : SomeRound day plan from) where
   -- the word that is next, by the tasks that are known to stand there
-  rides_of : {number : ℕ} {before vehicles : List ℕ} {at place distance : ℕ} → place < places day → distance ≤ 65535 * at → length vehicles ≡ 256
-      → RidesEach day plan from number before vehicles at place distance → Rides day plan from number before vehicles at place distance
+  rides_of : {number : ℕ} {before vehicles : List ℕ} {at : ℕ} {ride : Ride} → ride.place < places day → ride.distance ≤ 65535 * at → length vehicles ≡ 256
+      → RidesEach day plan from number before vehicles at ride → Rides day plan from number before vehicles at ride
   unfolding Every
-  rides_of {number} {before} {vehicles} {at} {place} {distance} p d s f = let r = f some.tasks some.rest some.round_at in go r.0 r.1
+  rides_of {number} {before} {vehicles} {at} {ride} p d s f = let r = f some.tasks some.rest some.round_at in go r.0 r.1
     where
-      go : (todo : Round) → Riding day plan from number some.tasks some.rest before vehicles at place distance todo
-          → Rides day plan from number before vehicles at place distance
-      go [] r =
-          let w = word_at plan at _ _ r.here in
-          record { within = w.within; word = λ n. absurd (n w.word); inside = p; few = d; size = s; each = f }
-      go (task ∷ todo) r =
-          let w = word_at plan at _ _ r.here in
-          record { within = w.within; word = λ n. rw w.word (task_known day task r.known.0); inside = p; few = d; size = s; each = f }
+      go : (todo : Round) → Riding day plan from number some.tasks some.rest before vehicles at ride todo → Rides day plan from number before vehicles at ride
+      go [] r = record {
+        within = (word_at plan at _ _ r.here).within;
+        names = rw (says_back r) (record { stops_in = λ k e. absurd cc; tips_in = λ k e. absurd cc });
+        inside = p;
+        few = d;
+        size = s;
+        each = f;
+      }
+      go (task ∷ todo) r = record {
+        within = (word_at plan at _ _ r.here).within;
+        names = rw (says_task r) (known_names day task r.known.0);
+        inside = p;
+        few = d;
+        size = s;
+        each = f;
+      }
 
-  pub rides_start : (number : ℕ) (before : List ℕ) → length before ≡ 256 → Rides day plan from number before before from 0 0
+  pub rides_start : (number : ℕ) (before : List ℕ) → length before ≡ 256
+      → Rides day plan from number before before from (record { place = 0; distance = 0 })
   rides_start number before long =
       rides_of (omega arith) (omega arith) long
-      (λ tasks rest h. (tasks, record { here = h.text; known = h.known; ends = refl; drives = omega arith; marks = λ k. refl }))
+      (λ tasks others h. (tasks, record { here = h.text; known = h.known; ends = refl; drives = omega arith; marks = λ k. refl }))
 
-  pub rides_next : {number : ℕ} {before vehicles : List ℕ} {at place distance : ℕ} → Rides day plan from number before vehicles at place distance
-      → (after : List ℕ) (further farther : ℕ) → (get_or plan at 0 ≡ back_word → ⊥) → 0 < number
-      → after ≡ vehicles_then vehicles number (get_or plan at 0) → further ≡ place_then day place (get_or plan at 0) → farther ≡ distance_then day place distance (get_or plan at 0)
-      → Rides day plan from number before after (at + 1) further farther
-  unfolding Every
-  rides_next {number} {before} {vehicles} {at} {place} {distance} r after further farther n some a p d =
-      rides_of
-      (rw p (place_next day place (get_or plan at 0) (r.word n) r.inside))
-      (omega (arith, r.few, distance_few day place distance (get_or plan at 0)))
-      (rw a (vehicles_size_lem vehicles number (get_or plan at 0) ∙ r.size))
-      (λ tasks rest h. let e = r.each tasks rest h in go e.0 e.1)
-    where
-      go : {tasks : Round} {rest : List ℕ} (todo : Round) → Riding day plan from number tasks rest before vehicles at place distance todo
-          → (left : Round) × Riding day plan from number tasks rest before after (at + 1) further farther left
-      go {rest = rest} [] e = absurd (n (word_at plan at _ _ e.here).word)
-      go {rest = rest} (task ∷ todo) e =
-          let w = word_at plan at _ _ e.here in (
-            todo,
-            record {
-              here = w.rest;
-              known = e.known.1;
-              ends = omega (arith, e.ends);
-              drives = rw (p, d, w.word) (drive_next day place distance task todo e.known.0 ∙ e.drives);
-              marks = λ j. rw (a, w.word) (marks_next day vehicles number task todo e.known.0 some r.size j ∙ e.marks j);
-            },
-          )
+  module _ {number : ℕ} {before vehicles : List ℕ} {at : ℕ} {ride : Ride} (r : Rides day plan from number before vehicles at ride)
+      {after : List ℕ} {result : Option Ride} (b : RideBehind day ride number vehicles after (word_of (get_or plan at 0)) result) where
+    -- a task was done
+    one_done : {tasks : Round} {others : List ℕ} {task : Task} {todo : Round} (next : Ride) → result ≡ Some next
+        → Riding day plan from number tasks others before vehicles at ride (task ∷ todo)
+        → (next ≡ ride_then day ride task) × (after ≡ vehicles_then vehicles number task)
+    one_done {task = task} next e s = let d = b.done task (says_task s) in (some_same e d.0, d.1)
+
+    pub rides_next : (next : Ride) → result ≡ Some next → 0 < number → Rides day plan from number before after (at + 1) next
+    unfolding Every
+    rides_next next e some_number = let r0 = r.each some.tasks some.rest some.round_at in go r0.0 r0.1
+      where
+        go : (todo : Round) → Riding day plan from number some.tasks some.rest before vehicles at ride todo → Rides day plan from number before after (at + 1) next
+        go [] s = absurd (none_some (b.home (says_back s)).0 e)
+        go (task ∷ todo) s = let d = one_done next e s in
+            rides_of
+            (rw d.0 (place_next day ride task s.known.0 r.inside))
+            (omega (arith, r.few, distance_few day ride task, ap (λ (x : Ride). x.distance) d.0))
+            (rw d.1 (vehicles_size_lem vehicles number task ∙ r.size))
+            (λ tasks others h. let f = r.each tasks others h in more f.0 f.1)
+          where
+            more : {tasks : Round} {others : List ℕ} (todo : Round) → Riding day plan from number tasks others before vehicles at ride todo
+                → (left : Round) × Riding day plan from number tasks others before after (at + 1) next left
+            more [] s = absurd (none_some (b.home (says_back s)).0 e)
+            more (task ∷ todo) s = let d = one_done next e s in (
+              todo,
+              record {
+                here = (word_at plan at _ _ s.here).rest;
+                known = s.known.1;
+                ends = omega (arith, s.ends);
+                drives = rw d.0 (drive_next day ride task todo ∙ s.drives);
+                marks = λ j. rw d.1 (marks_next day vehicles number task todo s.known.0 some_number r.size j ∙ s.marks j);
+              },
+            )
 
 -- behind the E word
-pub rides_end : {day plan : List ℕ} {from number : ℕ} {before vehicles : List ℕ} {at place distance : ℕ}
-    → Rides day plan from number before vehicles at place distance
-    → (driven : Driven) (leg : Leg) → get_or plan at 0 ≡ back_word → LegOf day place 0 leg → driven.end ≡ at + 1 → driven.distance ≡ distance + leg.distance
-    → EndsAll day plan from number before vehicles driven
+pub rides_end : {day plan : List ℕ} {from number : ℕ} {before vehicles after : List ℕ} {at : ℕ} {ride : Ride} {result : Option Ride}
+    → Rides day plan from number before vehicles at ride
+    → RideBehind day ride number vehicles after (word_of (get_or plan at 0)) result → result ≡ None
+    → (driven : Driven) (leg : Leg) → LegOf day ride.place 0 leg → driven.end ≡ at + 1 → driven.distance ≡ ride.distance + leg.distance
+    → EndsAll day plan from number before after driven
 unfolding Every distance_from
-rides_end {day} {plan} {from} {number} {before} {vehicles} {at} {place} {distance} r driven leg e l q d tasks rest h =
-    let f = r.each tasks rest h in go f.0 f.1
+rides_end {day} {plan} {from} {number} {before} {vehicles} {after} {at} {ride} r b e driven leg l q d tasks others h =
+    let f = r.each tasks others h in go f.0 f.1
   where
-    go : (todo : Round) → Riding day plan from number tasks rest before vehicles at place distance todo → Ended day from number tasks before vehicles driven
-    go (task ∷ todo) f = absurd (task_not_back day task f.known.0 (sym (word_at plan at _ _ f.here).word ∙ e))
-    go [] f = record {
-      ends = omega (arith, f.ends);
-      drives = d ∙ ap (λ (x : ℕ). distance + x) l.spans ∙ f.drives;
-      marks = λ k. sym (then_nothing number k (get_or vehicles k 0)) ∙ f.marks k;
+    go : (todo : Round) → Riding day plan from number tasks others before vehicles at ride todo → Ended day from number tasks before after driven
+    go (task ∷ todo) s = absurd (none_some e (b.done task (says_task s)).0)
+    go [] s = record {
+      ends = omega (arith, s.ends);
+      drives = d ∙ ap (λ (x : ℕ). ride.distance + x) l.spans ∙ s.drives;
+      marks = λ k. rw (b.home (says_back s)).1 (sym (then_nothing number k (get_or vehicles k 0)) ∙ s.marks k);
     }

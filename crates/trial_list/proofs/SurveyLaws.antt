@@ -15,7 +15,7 @@ use lib.ListN.{length, get_or, take, drop, set, length-set, length-drop, drop_of
 use lib.Seq.{take_all, drop-cons, drop_at}
 use borrow.Author.Tests.{lt-ltb, ltb-true, ltb-false}
 use Rattle.rules.specs.Lists.{Every, mem}
-use Rattle.rules.specs.PlanWords.{stop_word, left_word}
+use Rattle.rules.specs.PlanWords.{vehicle_word, stop_word, left_word}
 use Rattle.rules.specs.Plan.{Round, round_words, rounds_words, plan_words, stops_on, Known}
 use Rattle.rules.specs.Lawful.{distance_from}
 use Rattle.rules.specs.TrialList.{vehicle_from, vehicle_of}
@@ -23,9 +23,11 @@ use Rattle.laws.proofs.Decided.{known}
 use Rattle.laws.proofs.Lists.{entries_next, every_at}
 use Rattle.laws.proofs.Tests.{both_true}
 use Rattle.laws.specs.Plan.{RoundAt}
+use Rattle.plan_words.proofs.WordForms.{vehicle_made}
 use Rattle.trial_list.specs.Survey.{PlanOf, SomePlan, SurveysAll, SomeRound, first_of, vehicle_then, EndsAll, is_vehicle}
 use Rattle.trial_list.specs.declared.survey.Driven.{Driven}
 use Rattle.trial_list.proofs.LaidLaws.{starts_next, others, placed_words, placed_inside, placed_tasks}
+use Rattle.trial_list.proofs.WordsRead.{vehicle_low}
 use Rattle.trial_list.proofs.RideLaws.{word_at, first_some, first_none, first_zero}
 
 -- zeros alone
@@ -44,11 +46,11 @@ all_zeros n e k = ap (λ (xs : List ℕ). get_or xs k 0) e ∙ go (dec_lt k n)
 -- an A word is there, or not
 vehicle_yes : (plan : List ℕ) (at : ℕ) → is_vehicle plan at ≡ true → (at < length plan) × (get_or plan at 0 < stop_word 0)
 unfolding is_vehicle
-vehicle_yes plan at e = let b = both_true _ _ e in (ltb-true _ _ b.0, ltb-true _ _ b.1)
+vehicle_yes plan at e = let b = both_true _ _ e in (ltb-true _ _ b.0, vehicle_low _ b.1)
 
-vehicle_there : (plan : List ℕ) (at : ℕ) → at < length plan → get_or plan at 0 < stop_word 0 → is_vehicle plan at ≡ false → ⊥
+vehicle_there : (plan : List ℕ) (at k : ℕ) → k < 256 → at < length plan → get_or plan at 0 ≡ vehicle_word k → is_vehicle plan at ≡ false → ⊥
 unfolding is_vehicle
-vehicle_there plan at l w e = true≢false (sym (rw (lt-ltb at (length plan) l, lt-ltb (get_or plan at 0) (stop_word 0) w) refl) ∙ e)
+vehicle_there plan at k h l w e = true≢false (sym (rw (lt-ltb at (length plan) l, vehicle_made k h w) refl) ∙ e)
 
 -- the first vehicle of a stop, with those behind
 first_then : (b : Bool) (x number y : ℕ) → 0 < number → first_of (first_of x (if b then number else 0)) y ≡ first_of x (if b then number else y)
@@ -126,7 +128,7 @@ module _ {day plan : List ℕ} {rounds : List Round} {lefts starts vehicles dist
     | inl y ↦
         let l : v < length rounds = ltb-true _ _ y in
         let w = word_at plan at _ _ (placed_words rounds lefts h.text s.placed l) in
-        absurd (vehicle_there plan at w.within (omega (arith, w.word, h.few)) t)
+        absurd (vehicle_there plan at (v + 1) (omega (arith, h.few)) w.within w.word t)
     | inr n ↦ ltb-false _ _ n
   ]
 

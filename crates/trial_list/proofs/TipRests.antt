@@ -13,9 +13,9 @@ use lib.ListN.{length, get_or, drop, drop_of_length-le, get_or-eq_default}
 use lib.Seq.{drop-cons}
 use borrow.Author.Tests.{eq-eqb, ne_eqb, eqb-true, eqb-false, ltb-true, ltb-false}
 use Rattle.rules.specs.Lists.{Every}
-use Rattle.rules.specs.Fields.{stops, tips}
-use Rattle.rules.specs.PlanWords.{rest_word, tip_word}
-use Rattle.rules.specs.Plan.{Task, serve, empty, lunch, Round, task_word, Known}
+use Rattle.rules.specs.Fields.{tips}
+use Rattle.rules.specs.PlanWords.{tip, word_of}
+use Rattle.rules.specs.Plan.{Task, serve, empty, lunch, Round, word_for, Known}
 use Rattle.rules.specs.Edits.{remove, replace, on_one}
 use Rattle.rules.specs.TrialList.{rising, other_tip, task_trials, round_trials, tip_trials}
 use Rattle.trial_list.specs.declared.listing.Trial as Code
@@ -29,6 +29,8 @@ use Rattle.trial_list.specs.declared.listing.Listed.{Listed}
 use Rattle.trial_list.specs.declared.tips.TipPlace.{TipPlace}
 use Rattle.trial_list.proofs.LaidLaws.{start_next, vehicle_in, vehicle_inside, task_word_lem}
 use Rattle.trial_list.proofs.Passing.{none_some, goes_past, goes_with}
+use Rattle.plan_laws.proofs.RoundChecks.{task_form}
+use Rattle.trial_list.proofs.WordsRead.{word_task}
 
 -- the trials of one tip
 module _ (most number t y : ℕ) where
@@ -124,21 +126,15 @@ module _ (day : List ℕ) (rounds : List Round) where
     task_at h = rw (drop-cons its q.task lunch h, append_assoc, add-one q.task, all_tasks (suc q.vehicle) (suc q.task)) refl
 
 -- a word that is no tip's has no trials, and a tip's word has its own
-idle_word : (day : List ℕ) (w number t : ℕ) (x : Option ℕ) (task : Task) → Known day task → ((tip_word 0) ≤ w → w < rest_word → ⊥) → w ≡ task_word task
-    → task_from (tips day) number t x task ≡ []
-unfolding task_from task_word Known
-idle_word day w number t x (serve k) n o e = refl
-idle_word day w number t x (empty y) n o e = absurd (o (omega arith) (omega (arith, n.1)))
-idle_word day w number t x lunch n o e = refl
+idle_word : (most number t : ℕ) (x : Option ℕ) (task : Task) → ((y : ℕ) → word_for task ≡ tip y → ⊥) → task_from most number t x task ≡ []
+unfolding task_from
+idle_word most number t x (serve k) o = refl
+idle_word most number t x (empty y) o = absurd (o y refl)
+idle_word most number t x lunch o = refl
 
-tip_word_lem : (day : List ℕ) (w number t : ℕ) (x : Option ℕ) (task : Task) → stops day ≤ 240 → Known day task → (tip_word 0) ≤ w → w < rest_word → w ≡ task_word task
-    → task_from (tips day) number t x task ≡ tip_from (tips day) number t (w - tip_word 0) x
-unfolding task_from task_word Known
-tip_word_lem day w number t x (serve k) m n h l e = absurd (omega arith)
-tip_word_lem day w number t x (empty y) m n h l e =
-    let f : w - tip_word 0 ≡ y = omega arith in
-    rw f refl
-tip_word_lem day w number t x lunch m n h l e = absurd (omega arith)
+tip_word_lem : (most number t y : ℕ) (x : Option ℕ) (task : Task) → word_for task ≡ tip y → task_from most number t x task ≡ tip_from most number t y x
+unfolding task_from
+tip_word_lem most number t y x task e = rw (word_task task (empty y) e) refl
 
 -- by the tables
 module _ (t : Listing) (s : ListingOf t) where
@@ -194,8 +190,11 @@ module _ (t : Listing) (q : TipPlace) (r : Listed TipPlace) (some : SomeTip t q)
     inside : (s : ListingOf t) → q.task < length (get_or s.rounds q.vehicle [])
     inside s = omega (arith, some.fits, end_at t s some.within)
 
-    its_word : (s : ListingOf t) → w ≡ task_word (task t s q some.within (inside s))
-    its_word s = ew ∙ ap (λ (k : ℕ). get_or t.plan.now (k + 1 + q.task) 0) ea ∙ task_word_lem (laid t s) (among t s some.within) q.task (inside s)
+    its_word : (s : ListingOf t) → word_of w ≡ word_for (task t s q some.within (inside s))
+    its_word s =
+        ap word_of
+        (ew ∙ ap (λ (k : ℕ). get_or t.plan.now (k + 1 + q.task) 0) ea ∙ task_word_lem (laid t s) (among t s some.within) q.task (inside s))
+        ∙ task_form s.day (task t s q some.within (inside s)) (is_known t s q some.within (inside s))
 
     -- the next task fits, and there are fewer words behind it
     next_fits : r.next ≡ next_task q → TipFits t.starts.now t.count r.next
@@ -205,10 +204,12 @@ module _ (t : Listing) (q : TipPlace) (r : Listed TipPlace) (some : SomeTip t q)
     next_falls n = rw n (omega (arith, some.fits, end_within t some.tables some.within))
 
     -- it is no tip
-    pub idle_passes : ((tip_word 0) ≤ w → w < rest_word → ⊥) → r.trial ≡ None → r.next ≡ next_task q → Step tip_part t q r
+    pub idle_passes : ((y : ℕ) → word_of w ≡ tip y → ⊥) → r.trial ≡ None → r.next ≡ next_task q → Step tip_part t q r
     idle_passes idle f n =
         record {
-          goes = λ s. passes t s q some.within (inside s) r (idle_word s.day w (suc q.vehicle) q.task q.tip (task t s q some.within (inside s)) (is_known t s q some.within (inside s)) idle (its_word s)) f n;
+          goes = λ s.
+              passes t s q some.within (inside s) r
+              (idle_word (tips s.day) (suc q.vehicle) q.task q.tip (task t s q some.within (inside s)) (λ y e. idle y (its_word s ∙ e))) f n;
           fits = next_fits n;
           falls = λ _. next_falls n;
         }
@@ -222,13 +223,13 @@ module _ (t : Listing) (q : TipPlace) (r : Listed TipPlace) (some : SomeTip t q)
     tells_next y (tells_no_tip _ e n m) f = m
     tells_next y (tells_tip _ m x e n g) f = absurd (none_some f e)
 
-    pub tip_steps : (tip_word 0) ≤ w → w < rest_word → TipTells t.tips (w - tip_word 0) q r → Step tip_part t q r
-    tip_steps low high tells =
+    pub tip_steps : (y : ℕ) → word_of w ≡ tip y → TipTells t.tips y q r → Step tip_part t q r
+    tip_steps y e tells =
         record {
           goes = λ s.
-              tip_goes t s q some.within (inside s) (w - tip_word 0) r
-              (λ x. tip_word_lem s.day w (suc q.vehicle) q.task x (task t s q some.within (inside s)) s.most (is_known t s q some.within (inside s)) low high (its_word s))
+              tip_goes t s q some.within (inside s) y r
+              (λ x. tip_word_lem (tips s.day) (suc q.vehicle) q.task y x (task t s q some.within (inside s)) (sym (its_word s) ∙ e))
               (rw s.tips_is at tells);
-          fits = tells_fits (w - tip_word 0) tells;
-          falls = λ f. next_falls (tells_next (w - tip_word 0) tells f);
+          fits = tells_fits y tells;
+          falls = λ f. next_falls (tells_next y tells f);
         }

@@ -1,14 +1,15 @@
 -- Tables of the present plan: where each vehicle's words begin, which vehicle serves each stop, and how far each vehicle drives. It serves
 -- the contracts of the functions that make trials. Assumes nothing.
-use Rattle.std.specs.Prelude.{ℕ, ◌+◌, ◌-◌, ◌≤◌, ◌<◌, ◌≡◌, Bool, ◌&&◌, List, [], eqb, ltb, length, get_or, take, set, if◌then◌else◌}
+use Rattle.std.specs.Prelude.{ℕ, ◌+◌, ◌≤◌, ◌<◌, ◌≡◌, Bool, true, false, ◌&&◌, Option, Some, None, List, [], eqb, ltb, length, get_or, take, set, if◌then◌else◌}
 use Rattle.rules.specs.Lists.{Every, mem}
-use Rattle.rules.specs.Fields.{tips, stops, places, leg_distance}
-use Rattle.rules.specs.PlanWords.{stop_word, tip_word, rest_word}
-use Rattle.rules.specs.Plan.{Round, rounds_words, plan_words, stops_on, Known}
+use Rattle.rules.specs.Fields.{tips, stops, stop_place, leg_distance}
+use Rattle.rules.specs.PlanWords.{Word, vehicle, stop, tip, rest, back, left, stray, word_of}
+use Rattle.rules.specs.Plan.{Task, serve, empty, lunch, Round, word_for, rounds_words, plan_words, stops_on, Known}
 use Rattle.rules.specs.Lawful.{distance_from}
 use Rattle.rules.specs.TrialList.{vehicle_of}
 use Rattle.laws.specs.Plan.{RoundAt}
 use Rattle.trial_list.specs.declared.survey.Driven.{Driven}
+use Rattle.trial_list.specs.declared.survey.Ride.{Ride}
 
 -- where vehicles start: the A word of vehicle number v + 1 stands at starts[v], and behind the last vehicle starts says where they end
 pub record StartsOf (starts : List ℕ) (rounds : List Round) : Type 0 where
@@ -78,28 +79,43 @@ abbrev pub EndsAll : (day plan : List ℕ) (from number : ℕ) (before after : L
 EndsAll day plan from number before after r =
     (tasks : Round) (rest : List ℕ) → RoundAt day plan from tasks rest → Ended day from number tasks before after r
 
--- the place that a B or C word names
-unfoldable pub place_of : (tips w : ℕ) → ℕ
-place_of tips w = if ltb w (tip_word 0) then tips + (w - stop_word 0) else w - tip_word 0
+-- a vehicle once it has driven to a place, and behind one more task
+abbrev pub ride_at : List ℕ → Ride → ℕ → Ride
+ride_at day ride place = record { place = place; distance = ride.distance + leg_distance day ride.place place }
 
--- the place and the distance driven behind a B, C or D word
-unfoldable pub place_then : List ℕ → (place w : ℕ) → ℕ
-place_then day place w = if ltb w rest_word then place_of (tips day) w else place
+unfoldable pub ride_then : List ℕ → Ride → Task → Ride
+ride_then day ride (serve k) = ride_at day ride (stop_place day k)
+ride_then day ride (empty k) = ride_at day ride k
+ride_then day ride lunch = ride
 
-unfoldable pub distance_then : List ℕ → (place distance w : ℕ) → ℕ
-distance_then day place distance w = if ltb w rest_word then distance + leg_distance day place (place_of (tips day) w) else distance
+-- the vehicles of the stops with that of stop k, where it had none, and behind one more task
+unfoldable pub vehicles_with : List ℕ → (number k : ℕ) → List ℕ
+vehicles_with vehicles number k = if eqb (get_or vehicles k 0) 0 then set vehicles k number else vehicles
 
--- the vehicles of the stops behind a word: the first vehicle of a stop stays
-unfoldable pub vehicles_then : List ℕ → (number w : ℕ) → List ℕ
-vehicles_then vehicles number w =
-    if ltb w (tip_word 0) then (if eqb (get_or vehicles (w - stop_word 0) 0) 0 then set vehicles (w - stop_word 0) number else vehicles) else vehicles
+unfoldable pub vehicles_then : List ℕ → ℕ → Task → List ℕ
+vehicles_then vehicles number (serve k) = vehicles_with vehicles number k
+vehicles_then vehicles number (empty k) = vehicles
+vehicles_then vehicles number lunch = vehicles
 
--- a word of a known task
-pub record TaskWord (day : List ℕ) (w : ℕ) : Type 0 where
-  pub least : (stop_word 0) ≤ w
-  pub stop : w < tip_word 0 → w < stop_word 256
-  pub place : w < rest_word → place_of (tips day) w < places day
+-- a stop or a tip that a word names is one of the day's
+pub record NamesOf (day : List ℕ) (word : Word) : Type 0 where
+  pub stops_in : (k : ℕ) → word ≡ stop k → k ≤ stops day
+  pub tips_in : (k : ℕ) → word ≡ tip k → k ≤ tips day
 
--- an A word stands at a place of the plan
+-- what is known behind a word: a task is done, or the vehicle is back
+pub record RideBehind (day : List ℕ) (ride : Ride) (number : ℕ) (before after : List ℕ) (word : Word) (result : Option Ride) : Type 0 where
+  pub done : (task : Task) → word ≡ word_for task → (result ≡ Some (ride_then day ride task)) × (after ≡ vehicles_then before number task)
+  pub home : word ≡ back → (result ≡ None) × (after ≡ before)
+
+-- an A word, and that one stands at a place of the plan
+abbrev pub names_vehicle : Word → Bool
+names_vehicle (vehicle k) = true
+names_vehicle (stop k) = false
+names_vehicle (tip k) = false
+names_vehicle rest = false
+names_vehicle back = false
+names_vehicle (left k) = false
+names_vehicle stray = false
+
 unfoldable pub is_vehicle : List ℕ → ℕ → Bool
-is_vehicle plan at = ltb at (length plan) && ltb (get_or plan at 0) (stop_word 0)
+is_vehicle plan at = ltb at (length plan) && names_vehicle (word_of (get_or plan at 0))

@@ -1,23 +1,11 @@
 // The present plan in tables, so that a trial finds its vehicles without a walk over the plan.
 ghost use Rattle.std.specs.Prelude.{◌≡◌, ◌<◌, ◌≤◌, length};
-ghost use Rattle.rules.specs.PlanWords.{stop_word, tip_word};
+ghost use Rattle.rules.specs.PlanWords.{word_of};
 ghost use Rattle.rules.specs.Fields.{places};
-ghost use Rattle.trial_list.specs.Survey.{SomePlan, SurveysAll, SomeRound, EndsAll, place_of, place_then, distance_then, vehicles_then, TaskWord, is_vehicle};
+ghost use Rattle.trial_list.specs.Survey.{SomePlan, SurveysAll, SomeRound, EndsAll, ride_at, vehicles_with, NamesOf, RideBehind, names_vehicle, is_vehicle};
 
 use day::days::Day;
-use plan_words::{BACK, REST, STOP, TIP};
-
-// The place that a B or C word names.
-fn place_of(tips: usize, w: u32) -> usize
-    requires { (tips < 16) × ((stop_word 0) ≤ w) }
-    ensures { result ≡ place_of tips w }
-{
-    if w < TIP {
-        tips + ((w - STOP) as usize)
-    } else {
-        (w - TIP) as usize
-    }
-}
+use plan_words::{PlanWord, read_word};
 
 // Where a vehicle is, and how far it drove.
 #[derive(Clone, Copy)]
@@ -26,32 +14,41 @@ pub struct Ride {
     pub distance: u32,
 }
 
-// A vehicle behind one more word.
-fn drive_on(day: &Day, ride: Ride, w: u32) -> Ride
-    requires { TaskWord day.now w × (ride.place < places day.now) × (ride.distance < 2147483648) }
-    ensures place { result.place ≡ place_then day.now ride.place w }
-    ensures distance { result.distance ≡ distance_then day.now ride.place ride.distance w }
+// A vehicle at its next place.
+fn drive_to(day: &Day, ride: Ride, place: usize) -> Ride
+    requires { (ride.place < places day.now) × (place < places day.now) × (ride.distance < 2147483648) }
+    ensures { result ≡ ride_at day.now ride place }
 {
-    if REST <= w {
-        return ride;
-    }
-    let place = place_of(day.tips(), w);
     Ride {
         place,
         distance: ride.distance + day.leg(ride.place, place).distance,
     }
 }
 
-// The stop of a B word has its vehicle, where it has none yet.
-fn mark_stop(vehicles: &mut [u8], number: u8, w: u32)
-    requires { (length vehicles.old ≡ 256) × ((stop_word 0) ≤ w) × (w < tip_word 0 → w < stop_word 256) }
-    ensures { vehicles.new ≡ vehicles_then vehicles.old number w }
+// A stop has its vehicle, where it has none yet.
+fn mark_stop(vehicles: &mut [u8], number: u8, stop: usize)
+    requires { (length vehicles.old ≡ 256) × (stop < 256) }
+    ensures { vehicles.new ≡ vehicles_with vehicles.old number stop }
 {
-    if w < TIP {
-        let k = (w - STOP) as usize;
-        if vehicles[k] == 0 {
-            vehicles[k] = number;
+    if vehicles[stop] == 0 {
+        vehicles[stop] = number;
+    }
+}
+
+// A vehicle behind the word of one more task, with its stop marked; none once it is back.
+fn ride_on(day: &Day, ride: Ride, vehicles: &mut [u8], number: u8, word: u32) -> Option<Ride>
+    requires vehicle { (ride.place < places day.now) × (ride.distance < 2147483648) × (length vehicles.old ≡ 256) }
+    requires names { NamesOf day.now (word_of word) }
+    ensures { RideBehind day.now ride number vehicles.old vehicles.new (word_of word) result }
+{
+    match read_word(word) {
+        Some(PlanWord::Stop(stop)) => {
+            mark_stop(vehicles, number, stop);
+            Some(drive_to(day, ride, day.tips() + stop))
         }
+        Some(PlanWord::Tip(tip)) => Some(drive_to(day, ride, tip)),
+        Some(PlanWord::Rest) => Some(ride),
+        _ => None,
     }
 }
 
@@ -73,9 +70,8 @@ fn survey_vehicle(day: &Day, plan: &[u32], from: usize, number: u8, vehicles: &m
     };
     let mut at = from;
     // One pass marks, drives and counts, and where it ends is known only once its words are read: there is no range to go over.
-    while plan[at] != BACK {
-        mark_stop(vehicles, number, plan[at]);
-        ride = drive_on(day, ride, plan[at]);
+    while let Some(next) = ride_on(day, ride, vehicles, number, plan[at]) {
+        ride = next;
         at += 1;
     }
     let home = day.leg(ride.place, 0);
@@ -85,11 +81,18 @@ fn survey_vehicle(day: &Day, plan: &[u32], from: usize, number: u8, vehicles: &m
     }
 }
 
+// Whether a word is an A word.
+fn names_vehicle(word: u32) -> bool
+    ensures { result ≡ names_vehicle (word_of word) }
+{
+    matches!(read_word(word), Some(PlanWord::Vehicle(_)))
+}
+
 // Whether an A word stands at a place of the plan: its vehicles are before the stops that it leaves out.
 fn is_vehicle(plan: &[u32], at: usize) -> bool
     ensures { result ≡ is_vehicle plan.now at }
 {
-    at < plan.len() && plan[at] < STOP
+    at < plan.len() && names_vehicle(plan[at])
 }
 
 // The tables of a plan, and how many vehicles it has.

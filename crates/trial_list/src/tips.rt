@@ -5,7 +5,7 @@ ghost use Rattle.trial_list.specs.Listing.{TipTells, tip_part, at_tip, next_task
 use crate::listing::{Listed, Listing};
 use crate::places::{Place, found, passed};
 use edits::Edit;
-use plan_words::{REST, TIP};
+use plan_words::{PlanWord, read_word};
 
 // A vehicle and a task of it, both counted from 0, and the next tip to try in its place, or none for its removal.
 #[derive(Clone, Copy)]
@@ -90,11 +90,9 @@ impl Place for TipPlace {
         if at + 1 == end {
             return passed(self.next_vehicle());
         }
-        let word = listing.plan[at];
-        if (TIP..REST).contains(&word) {
-            tip_trial(listing.tips, self, (word - TIP) as usize)
-        } else {
-            passed(self.next_task())
+        match read_word(listing.plan[at]) {
+            Some(PlanWord::Tip(tip)) => tip_trial(listing.tips, self, tip),
+            _ => passed(self.next_task()),
         }
     }
 }

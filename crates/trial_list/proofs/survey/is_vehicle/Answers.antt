@@ -6,7 +6,7 @@ use Rattle.trial_list.proofs.survey.is_vehicle.Goals as goal
 
 pub returns-then-at-plan : goal.returns-then-at-plan
 unfolding is_vehicle
-returns-then-at-plan c = rw (lt-ltb _ _ c.if-at-plan.true) refl
+returns-then-at-plan c = rw (lt-ltb _ _ c.if-at-plan.true) c.names_vehicle.ensures
 
 pub returns-else-at-plan : goal.returns-else-at-plan
 unfolding is_vehicle

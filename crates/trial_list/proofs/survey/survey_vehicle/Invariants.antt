@@ -4,8 +4,8 @@ use lib.ListN.{length}
 use Rattle.trial_list.proofs.RideLaws.{Rides}
 use Rattle.trial_list.proofs.survey.survey_vehicle.Given as goal
 
-abbrev pub invariant-loop-at : goal.invariant-loop-at
-invariant-loop-at l = Rides l.day l.plan l.from l.number l.initial.vehicles l.vehicles l.at l.ride.place l.ride.distance
+abbrev pub invariant-loop-next : goal.invariant-loop-next
+invariant-loop-next l = Rides l.day l.plan l.from l.number l.initial.vehicles l.vehicles l.at l.ride
 
-abbrev pub decreases-loop-at : goal.decreases-loop-at
-decreases-loop-at l = length l.plan - l.at
+abbrev pub decreases-loop-next : goal.decreases-loop-next
+decreases-loop-next l = length l.plan - l.at

@@ -1,6 +1,11 @@
 -- `trial_list::tips::TipPlace::look` meets its contract.
 use borrow.Author.Rules.{rules}
-use mathlib.Core.Path.{refl, ◌∙◌}
+use Prim.Native.Nat.{ℕ, ◌+◌, ◌<◌}
+use lib.ListN.{get_or}
+use Rattle.rules.specs.PlanWords.{tip, word_of}
+use mathlib.Core.Path.{◌≡◌, refl, ◌∙◌}
+use Rattle.plan_words.proofs.WordForms.{word_is}
+use Rattle.trial_list.proofs.WordsRead.{tip_small}
 use Rattle.trial_list.proofs.TipRests.{vehicle_ends, idle_passes, tip_steps}
 use Rattle.trial_list.proofs.tips.TipPlacePlace.look.Goals as goal
 
@@ -9,10 +14,18 @@ returns-then-at-end c =
     let r = c.passed.ensures in
     vehicle_ends _ _ _ c.requires _ _ refl refl c.if-at-end.true r.trial (r.next ∙ c.next_vehicle.ensures)
 
-pub returns-then-contains : goal.returns-then-contains
-returns-then-contains c = tip_steps _ _ _ c.requires _ _ refl refl _ c.if-at-end.false refl (search rules) (search rules) c.tip_trial.ensures
+pub tip_trial-requires : goal.tip_trial-requires
+tip_trial-requires c =
+    let small : c.in-Some-Tip.tip < 256 = tip_small _ _ (word_is _ c.in-Some-Tip.ensures c.in-Some-Tip.field-0-is) in
+    search rules
 
-pub returns-else-contains : goal.returns-else-contains
-returns-else-contains c =
-    let r = c.passed-else-contains.ensures in
-    idle_passes _ _ _ c.requires _ _ refl refl _ c.if-at-end.false refl (λ low high. search rules) r.trial (r.next ∙ c.next_task.ensures)
+pub returns-in-Some-Tip : goal.returns-in-Some-Tip
+returns-in-Some-Tip c =
+    tip_steps _ _ _ c.requires _ _ refl refl _ c.if-at-end.false refl _ (word_is _ c.in-Some-Tip.ensures c.in-Some-Tip.field-0-is) c.tip_trial.ensures
+
+pub returns-in_default : goal.returns-in_default
+returns-in_default c =
+    let r = c.passed-in_default.ensures in
+    let idle : (y : ℕ) → word_of (get_or c.args.listing.now.plan.now (get_or c.args.listing.now.starts.now c.args.self.vehicle 0 + 1 + c.args.self.task) 0) ≡ tip y → ⊥ =
+    λ y e. search rules in
+    idle_passes _ _ _ c.requires _ _ refl refl _ c.if-at-end.false refl idle r.trial (r.next ∙ c.next_task.ensures)
