@@ -1,10 +1,10 @@
 -- `trial_list::survey::ride_on` meets its contract: a stop, a tip, a rest.
+use Prim.Native.Nat.{ℕ, ◌+◌}
+use mathlib.Core.Path.{ap, ◌∙◌}
 use Rattle.plan_words.proofs.WordForms.{word_is}
+use Rattle.trial_list.specs.Survey.{ride_at}
 use Rattle.trial_list.proofs.WordsRead.{behind_stop, behind_tip, behind_rest}
 use Rattle.trial_list.proofs.survey.ride_on.Goals as goal
-use mathlib.Core.Path.{ap, ◌∙◌}
-use Prim.Native.Nat.{ℕ, ◌+◌}
-use Rattle.trial_list.specs.Survey.{ride_at}
 
 pub returns-in-Some-Stop : goal.returns-in-Some-Stop
 returns-in-Some-Stop c =

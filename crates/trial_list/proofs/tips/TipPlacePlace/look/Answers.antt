@@ -1,9 +1,7 @@
 -- `trial_list::tips::TipPlace::look` meets its contract.
 use borrow.Author.Rules.{rules}
-use Prim.Native.Nat.{ℕ, ◌+◌, ◌<◌}
-use lib.ListN.{get_or}
-use Rattle.rules.specs.PlanWords.{tip, word_of}
-use mathlib.Core.Path.{◌≡◌, refl, ◌∙◌}
+use Prim.Native.Nat.{◌<◌}
+use mathlib.Core.Path.{refl, ◌∙◌}
 use Rattle.plan_words.proofs.WordForms.{word_is}
 use Rattle.trial_list.proofs.WordsRead.{tip_small}
 use Rattle.trial_list.proofs.TipRests.{vehicle_ends, idle_passes, tip_steps}
@@ -26,6 +24,4 @@ returns-in-Some-Tip c =
 pub returns-in_default : goal.returns-in_default
 returns-in_default c =
     let r = c.passed-in_default.ensures in
-    let idle : (y : ℕ) → word_of (get_or c.args.listing.now.plan.now (get_or c.args.listing.now.starts.now c.args.self.vehicle 0 + 1 + c.args.self.task) 0) ≡ tip y → ⊥ =
-    λ y e. search rules in
-    idle_passes _ _ _ c.requires _ _ refl refl _ c.if-at-end.false refl idle r.trial (r.next ∙ c.next_task.ensures)
+    idle_passes _ _ _ c.requires _ _ refl refl _ c.if-at-end.false refl (λ y e. search rules) r.trial (r.next ∙ c.next_task.ensures)
