@@ -84,19 +84,9 @@ then_here : (number k x : ℕ) (todo : Round) → x ≡ 0 → vehicle_then numbe
 unfolding vehicle_then stops_on
 then_here number k x todo e = rw (e, mem_same k k (stops_on todo) refl) (first_none number)
 
--- a stop is marked, by the test that decides it
-module _ (vehicles : List ℕ) (number k : ℕ) where
-  pub marks_first : get_or vehicles k 0 ≡ 0 → set vehicles k number ≡ vehicles_with vehicles number k
-  unfolding vehicles_with
-  marks_first e = rw (eq-eqb (get_or vehicles k 0) 0 e) refl
-
-  pub marks_later : (get_or vehicles k 0 ≡ 0 → ⊥) → vehicles ≡ vehicles_with vehicles number k
-  unfolding vehicles_with
-  marks_later n = rw (ne_eqb (get_or vehicles k 0) 0 n) refl
-
+-- a stop's word marks the stop, where it has no vehicle yet
 serve_marks : (vehicles : List ℕ) (number j : ℕ) (todo : Round) → 0 < number → j < 256 → length vehicles ≡ 256 → (k : ℕ)
     → vehicle_then number todo (get_or (vehicles_with vehicles number j) k 0) k ≡ vehicle_then number (serve j ∷ todo) (get_or vehicles k 0) k
-unfolding vehicles_with
 serve_marks vehicles number j todo some few long k = go (ℕ_discrete (get_or vehicles j 0) 0) (ℕ_discrete k j)
   where
     go : Dec (get_or vehicles j 0 ≡ 0) → Dec (k ≡ j)
@@ -128,7 +118,7 @@ unfolding vehicle_then stops_on mem
 then_nothing number k x = first_zero x
 
 vehicles_size_lem : (vehicles : List ℕ) (number : ℕ) (task : Task) → length (vehicles_then vehicles number task) ≡ length vehicles
-unfolding vehicles_then vehicles_with
+unfolding vehicles_then
 vehicles_size_lem vehicles number (serve k) = elim (known (eqb (get_or vehicles k 0) 0)) [ inl e ↦ rw e (length-set vehicles k number) | inr e ↦ rw e refl ]
 vehicles_size_lem vehicles number (empty k) = refl
 vehicles_size_lem vehicles number lunch = refl

@@ -45,11 +45,9 @@ all_zeros n e k = ap (λ (xs : List ℕ). get_or xs k 0) e ∙ go (dec_lt k n)
 
 -- an A word is there, or not
 vehicle_yes : (plan : List ℕ) (at : ℕ) → is_vehicle plan at ≡ true → (at < length plan) × (get_or plan at 0 < stop_word 0)
-unfolding is_vehicle
 vehicle_yes plan at e = let b = both_true _ _ e in (ltb-true _ _ b.0, vehicle_low _ b.1)
 
 vehicle_there : (plan : List ℕ) (at k : ℕ) → k < 256 → at < length plan → get_or plan at 0 ≡ vehicle_word k → is_vehicle plan at ≡ false → ⊥
-unfolding is_vehicle
 vehicle_there plan at k h l w e = true≢false (sym (rw (lt-ltb at (length plan) l, vehicle_made k h w) refl) ∙ e)
 
 -- the first vehicle of a stop, with those behind

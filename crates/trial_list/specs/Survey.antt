@@ -89,7 +89,7 @@ ride_then day ride (empty k) = ride_at day ride k
 ride_then day ride lunch = ride
 
 -- the vehicles of the stops with that of stop k, where it had none, and behind one more task
-unfoldable pub vehicles_with : List ℕ → (number k : ℕ) → List ℕ
+abbrev pub vehicles_with : List ℕ → (number k : ℕ) → List ℕ
 vehicles_with vehicles number k = if eqb (get_or vehicles k 0) 0 then set vehicles k number else vehicles
 
 unfoldable pub vehicles_then : List ℕ → ℕ → Task → List ℕ
@@ -117,5 +117,5 @@ names_vehicle back = false
 names_vehicle (left k) = false
 names_vehicle stray = false
 
-unfoldable pub is_vehicle : List ℕ → ℕ → Bool
+abbrev pub is_vehicle : List ℕ → ℕ → Bool
 is_vehicle plan at = ltb at (length plan) && names_vehicle (word_of (get_or plan at 0))
