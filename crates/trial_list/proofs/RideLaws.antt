@@ -46,20 +46,19 @@ word_at plan at x xs e =
 module _ (day : List ℕ) (ride : Ride) where
   -- a leg is short
   distance_few : (task : Task) → (ride_then day ride task).distance ≤ ride.distance + 65535
-  unfolding ride_then
   distance_few (serve k) = omega arith
   distance_few (empty k) = omega arith
   distance_few lunch = omega arith
 
   place_next : (task : Task) → Known day task → ride.place < places day → (ride_then day ride task).place < places day
-  unfolding Known ride_then
+  unfolding Known
   place_next (serve k) h p = omega (arith, h.1)
   place_next (empty k) h p = omega (arith, h.1)
   place_next lunch h p = p
 
   drive_next : (task : Task) (todo : Round)
       → (ride_then day ride task).distance + distance_from day (ride_then day ride task).place todo ≡ ride.distance + distance_from day ride.place (task ∷ todo)
-  unfolding distance_from ride_then
+  unfolding distance_from
   drive_next (serve k) todo = omega arith
   drive_next (empty k) todo = omega arith
   drive_next lunch todo = refl
@@ -101,7 +100,7 @@ serve_marks vehicles number j todo some few long k = go (ℕ_discrete (get_or ve
 
 marks_next : (day vehicles : List ℕ) (number : ℕ) (task : Task) (todo : Round) → Known day task → 0 < number → length vehicles ≡ 256 → (k : ℕ)
     → vehicle_then number todo (get_or (vehicles_then vehicles number task) k 0) k ≡ vehicle_then number (task ∷ todo) (get_or vehicles k 0) k
-unfolding Known vehicles_then vehicle_then stops_on
+unfolding Known vehicle_then stops_on
 marks_next day vehicles number (serve j) todo h some long k = serve_marks vehicles number j todo some (omega (arith, h.1)) long k
 marks_next day vehicles number (empty j) todo h some long k = refl
 marks_next day vehicles number lunch todo h some long k = refl
@@ -118,7 +117,6 @@ unfolding vehicle_then stops_on mem
 then_nothing number k x = first_zero x
 
 vehicles_size_lem : (vehicles : List ℕ) (number : ℕ) (task : Task) → length (vehicles_then vehicles number task) ≡ length vehicles
-unfolding vehicles_then
 vehicles_size_lem vehicles number (serve k) = elim (known (eqb (get_or vehicles k 0) 0)) [ inl e ↦ rw e (length-set vehicles k number) | inr e ↦ rw e refl ]
 vehicles_size_lem vehicles number (empty k) = refl
 vehicles_size_lem vehicles number lunch = refl

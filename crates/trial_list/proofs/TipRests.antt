@@ -30,7 +30,6 @@ use Rattle.trial_list.specs.declared.tips.TipPlace.{TipPlace}
 use Rattle.trial_list.proofs.LaidLaws.{start_next, vehicle_in, vehicle_inside, task_word_lem}
 use Rattle.trial_list.proofs.Passing.{none_some, goes_past, goes_with}
 use Rattle.plan_laws.proofs.RoundChecks.{task_form}
-use Rattle.trial_list.proofs.WordsRead.{word_task}
 
 -- the trials of one tip
 module _ (most number t y : ℕ) where
@@ -134,7 +133,9 @@ idle_word most number t x lunch o = refl
 
 tip_word_lem : (most number t y : ℕ) (x : Option ℕ) (task : Task) → word_for task ≡ tip y → task_from most number t x task ≡ tip_from most number t y x
 unfolding task_from
-tip_word_lem most number t y x task e = rw (word_task task (empty y) e) refl
+tip_word_lem most number t y x (serve k) e = absurd cc
+tip_word_lem most number t y x (empty k) e = let same : k ≡ y = cc in rw same refl
+tip_word_lem most number t y x lunch e = absurd cc
 
 -- by the tables
 module _ (t : Listing) (s : ListingOf t) where

@@ -83,7 +83,7 @@ EndsAll day plan from number before after r =
 abbrev pub ride_at : List ℕ → Ride → ℕ → Ride
 ride_at day ride place = record { place = place; distance = ride.distance + leg_distance day ride.place place }
 
-unfoldable pub ride_then : List ℕ → Ride → Task → Ride
+abbrev pub ride_then : List ℕ → Ride → Task → Ride
 ride_then day ride (serve k) = ride_at day ride (stop_place day k)
 ride_then day ride (empty k) = ride_at day ride k
 ride_then day ride lunch = ride
@@ -92,7 +92,7 @@ ride_then day ride lunch = ride
 abbrev pub vehicles_with : List ℕ → (number k : ℕ) → List ℕ
 vehicles_with vehicles number k = if eqb (get_or vehicles k 0) 0 then set vehicles k number else vehicles
 
-unfoldable pub vehicles_then : List ℕ → ℕ → Task → List ℕ
+abbrev pub vehicles_then : List ℕ → ℕ → Task → List ℕ
 vehicles_then vehicles number (serve k) = vehicles_with vehicles number k
 vehicles_then vehicles number (empty k) = vehicles
 vehicles_then vehicles number lunch = vehicles
