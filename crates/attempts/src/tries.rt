@@ -10,7 +10,7 @@ use candidates::write_candidate;
 use checker::check_laid_out;
 use day::days::Day;
 use rules::answers::Answer;
-use spans::span_of;
+use spans::Tasks;
 use tracks::measure::measure;
 use tracks::plan_tables::{Held, Tables};
 use trial_list::listing::Trial;
@@ -30,9 +30,13 @@ fn retry(
     let tracks = &tables.tracks;
     let from = tables.starts[v] as usize + 1;
     let to = tables.starts[v + 1] as usize - 1;
-    let tasks = &plan[from..to];
-    let span = span_of(trial.edit, v + 1 == trial.one, &tracks.spots, from, tasks);
-    measure(day, trial.edit, span, from, tasks, tracks, work)
+    let tasks = Tasks {
+        spots: &tracks.spots,
+        from,
+        words: &plan[from..to],
+    };
+    let span = tasks.span_of(trial.edit, v + 1 == trial.one);
+    measure(day, trial.edit, span, from, tasks.words, tracks, work)
 }
 
 // Whether the touched vehicles, walked again, drive less than before. Where they do not, or the trial fails, no lawful, shorter plan comes of it.

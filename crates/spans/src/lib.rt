@@ -16,96 +16,95 @@ pub struct Span {
     pub last: usize,
 }
 
-// The span of a whole vehicle.
-fn whole_span(words: &[u32]) -> Span
-    ensures { (result.first ≡ 0) × (result.last ≡ length words.now) }
-{
-    Span {
-        first: 0,
-        last: words.len(),
-    }
+// A vehicle's tasks: their words, of which the first stands at `from` in the plan, and where in the plan each stop stands. `spots` may be wrong
+// of a stop: then it is not found.
+#[derive(Clone, Copy)]
+pub struct Tasks<'a> {
+    pub spots: &'a [u32; 256],
+    pub from: usize,
+    pub words: &'a [u32],
 }
 
-// Where the word of stop k stands among the words, of which the first stands at `from` in the plan. `spots` may be wrong of the stop's place
-// in the plan: then it is not found.
-fn place_of_stop(spots: &[u32], from: usize, words: &[u32], k: u32) -> Option<usize>
-    requires { (length spots.now ≡ 256) × (k < 256) }
-    ensures { PlaceOf words.now k result }
-{
-    let place = (spots[k as usize] as usize).checked_sub(from)?;
-    if place < words.len() && words[place] == STOP + k {
-        Some(place)
-    } else {
-        None
-    }
-}
-
-// The span of one stop.
-fn span_of_stop(spots: &[u32], from: usize, words: &[u32], k: u32) -> Span
-    requires { (length spots.now ≡ 256) × (k < 256) }
-    ensures { Holds words.now k result.first result.last }
-{
-    match place_of_stop(spots, from, words, k) {
-        Some(place) => Span {
-            first: place,
-            last: place,
-        },
-        None => whole_span(words),
-    }
-}
-
-// The span from one stop to another, whichever comes first.
-fn span_of_two(spots: &[u32], from: usize, words: &[u32], i: u32, j: u32) -> Span
-    requires { (length spots.now ≡ 256) × (i < 256) × (j < 256) }
-    ensures { Holds words.now i result.first result.last × Holds words.now j result.first result.last }
-{
-    let one = place_of_stop(spots, from, words, i);
-    let two = place_of_stop(spots, from, words, j);
-    match (one, two) {
-        (Some(one), Some(two)) => Span {
-            first: one.min(two),
-            last: one.max(two),
-        },
-        _ => whole_span(words),
-    }
-}
-
-// The span of that stop of a swap which is on this vehicle.
-fn span_of_swap(here: bool, spots: &[u32], from: usize, words: &[u32], i: u32, j: u32) -> Span
-    requires { (length spots.now ≡ 256) × (i < 256) × (j < 256) }
-    ensures { Holds words.now (if here then i else j) result.first result.last }
-{
-    if here {
-        span_of_stop(spots, from, words, i)
-    } else {
-        span_of_stop(spots, from, words, j)
-    }
-}
-
-// The span of the word at a place.
-fn span_of_word(words: &[u32], at: usize) -> Span
-    ensures { Covers words.now at result.first result.last }
-{
-    if at < words.len() {
+impl<'a> Tasks<'a> {
+    // The span of all words.
+    fn whole(&self) -> Span
+        ensures { (result.first ≡ 0) × (result.last ≡ length self.now.words.now) }
+    {
         Span {
-            first: at,
-            last: at,
+            first: 0,
+            last: self.words.len(),
         }
-    } else {
-        whole_span(words)
     }
-}
 
-// The span of an edit; `here` tells whether this is the vehicle of a swap's first stop.
-pub fn span_of(e: Edit, here: bool, spots: &[u32], from: usize, words: &[u32]) -> Span
-    requires { EditSmall e × (length spots.now ≡ 256) }
-    ensures { (tasks : Round) → words.now ≡ map task_word tasks → Single (edit_of e) here tasks → Outside (edit_of e) tasks result.first result.last }
-{
-    match e {
-        Edit::Before { stop, moved } => span_of_two(spots, from, words, stop, moved),
-        Edit::After { stop, moved } => span_of_two(spots, from, words, stop, moved),
-        Edit::Swap { stop, other } => span_of_swap(here, spots, from, words, stop, other),
-        Edit::Remove { at } => span_of_word(words, at),
-        Edit::Replace { at, tip } => span_of_word(words, at),
+    // Where the word of stop k stands among the words.
+    fn place_of_stop(&self, k: u32) -> Option<usize>
+        requires { k < 256 }
+        ensures { PlaceOf self.now.words.now k result }
+    {
+        let place = (self.spots[k as usize] as usize).checked_sub(self.from)?;
+        if place < self.words.len() && self.words[place] == STOP + k {
+            Some(place)
+        } else {
+            None
+        }
+    }
+
+    // The span of one stop.
+    fn span_of_stop(&self, k: u32) -> Span
+        requires { k < 256 }
+        ensures { Holds self.now.words.now k result.first result.last }
+    {
+        match self.place_of_stop(k) {
+            Some(place) => Span {
+                first: place,
+                last: place,
+            },
+            None => self.whole(),
+        }
+    }
+
+    // The span from one stop to another, whichever comes first.
+    fn span_of_two(&self, i: u32, j: u32) -> Span
+        requires { (i < 256) × (j < 256) }
+        ensures { Holds self.now.words.now i result.first result.last × Holds self.now.words.now j result.first result.last }
+    {
+        let one = self.place_of_stop(i);
+        let two = self.place_of_stop(j);
+        match (one, two) {
+            (Some(one), Some(two)) => Span {
+                first: one.min(two),
+                last: one.max(two),
+            },
+            _ => self.whole(),
+        }
+    }
+
+    // The span of the word at a place.
+    fn span_of_word(&self, at: usize) -> Span
+        ensures { Covers self.now.words.now at result.first result.last }
+    {
+        if at < self.words.len() {
+            Span {
+                first: at,
+                last: at,
+            }
+        } else {
+            self.whole()
+        }
+    }
+
+    // The span of an edit. `here` tells whether this is the vehicle of a swap's first stop: a flag, as an edit of another kind has no such stop
+    // to pass.
+    pub fn span_of(&self, edit: Edit, here: bool) -> Span
+        requires { EditSmall edit }
+        ensures { (tasks : Round) → self.now.words.now ≡ map task_word tasks → Single (edit_of edit) here tasks → Outside (edit_of edit) tasks result.first result.last }
+    {
+        match edit {
+            Edit::Before { stop, moved } | Edit::After { stop, moved } => {
+                self.span_of_two(stop, moved)
+            }
+            Edit::Swap { stop, other } => self.span_of_stop(if here { stop } else { other }),
+            Edit::Remove { at } | Edit::Replace { at, .. } => self.span_of_word(at),
+        }
     }
 }

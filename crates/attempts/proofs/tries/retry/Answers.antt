@@ -5,7 +5,7 @@ use Rattle.attempts.proofs.TryLaws.{retry_walkable, retry_measurable, retry_shor
 use Rattle.attempts.proofs.tries.retry.Goals as goal
 
 pub span_of-span-requires : goal.span_of-span-requires
-span_of-span-requires c = (known_small _ _ c.requires.1, c.args.tables.now.tracks.spots_size)
+span_of-span-requires c = known_small _ _ c.requires.1
 
 pub measure-requires : goal.measure-requires
 measure-requires c =

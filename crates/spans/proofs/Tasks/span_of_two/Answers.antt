@@ -1,8 +1,8 @@
--- `spans::span_of_two` meets its contract.
+-- `spans::Tasks::span_of_two` meets its contract.
 use native.Mathlib.Omega.{arith}
 use Rattle.std.proofs.Math.Nat.{min-le_left, min-le_right, le-max_left, le-max_right}
 use Rattle.spans.proofs.SpanLaws.{place_held}
-use Rattle.spans.proofs.span_of_two.Goals as goal
+use Rattle.spans.proofs.Tasks.span_of_two.Goals as goal
 
 pub returns-in-Some-Some : goal.returns-in-Some-Some
 returns-in-Some-Some c =
