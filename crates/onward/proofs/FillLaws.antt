@@ -9,10 +9,12 @@ use native.Mathlib.Omega.{arith}
 use lib.ListN.{length, get_or, set, drop, length-drop, length-append, length-map, length-set, get_or-append}
 use lib.Seq.{drop-cons, drop-length, get_or-drop, get_or-set_same, get_or-set_other}
 use Rattle.rules.specs.Fields.{places}
-use Rattle.rules.specs.PlanWords.{back_word}
-use Rattle.rules.specs.Plan.{lunch, Round, task_word, Known}
+use Rattle.rules.specs.PlanWords.{back_word, word_of}
+use Rattle.rules.specs.Plan.{Task, lunch, Round, task_word, Known}
 use Rattle.laws.proofs.Lists.{every_at, get_map}
-use Rattle.onward.specs.Behind.{homeward, task_first, onward_of, SomeTaskWord, PutsFirst, RoundTo, SomeRoundTo, FillsBehind}
+use Rattle.plan_words.specs.Reading.{task_said}
+use Rattle.plan_words.proofs.TaskWords.{task_told}
+use Rattle.onward.specs.Behind.{homeward, task_first, onward_of, SomeTaskWord, RoundTo, SomeRoundTo, FillsBehind}
 use Rattle.onward.specs.declared.TheConstants.{ROWS}
 use Rattle.onward.specs.declared.Onward.{Onward}
 use Rattle.onward.proofs.OnwardLaws.{onward_bounds}
@@ -124,7 +126,7 @@ module _ {day plan : List ℕ} {from end : ℕ} (some : SomeRoundTo day plan fro
           few = rw is (omega (arith, b.distance, t.ends, round_inside t));
         }
 
-    pub filling_next : (p : ℕ) (r : Onward) → from ≤ p → p < length behind → at ≡ p + 1 → PutsFirst day (get_or plan p 0) o r
+    pub filling_next : (p : ℕ) (r : Onward) → from ≤ p → p < length behind → at ≡ p + 1 → r ≡ task_first day (task_said (word_of (get_or plan p 0))) o
         → Filling day plan from end before (set behind p r) p r
     filling_next p r low inside e puts =
         record {
@@ -138,7 +140,9 @@ module _ {day plan : List ℕ} {from end : ℕ} (some : SomeRoundTo day plan fro
         first : (tasks : Round) (rest : List ℕ) → RoundTo day plan from end tasks rest → (i : ℕ) → from + i ≡ p → r ≡ task_first day (get_or tasks i lunch) o
         first tasks rest t i q =
             let within : i < length tasks = omega (arith, t.ends, f.high) in
-            puts (get_or tasks i lunch) (every_at (Known day) tasks i lunch t.round_at.known within) (sym (ap (λ (j : ℕ). get_or plan j 0) q) ∙ round_word t i within)
+            let known = every_at (Known day) tasks i lunch t.round_at.known within in
+            let told = task_told day (get_or plan p 0) (get_or tasks i lunch) known (sym (ap (λ (j : ℕ). get_or plan j 0) q) ∙ round_word t i within) in
+            puts ∙ sym (ap (λ (task : Task). task_first day task o) told)
 
     pub filling_end : (first : List Onward) (r : Onward) → at ≤ from → before ≡ set first end r → FillsBehind day plan from end first behind
     filling_end first r l e =

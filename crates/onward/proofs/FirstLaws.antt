@@ -1,14 +1,16 @@
 -- A task in front of what is left of a vehicle, word by word as the code does it.
 -- Assumes nothing.
 use Prim.Native.Nat.{ℕ, ◌-◌, ◌≤◌, ◌<◌}
-use mathlib.Core.Path.{◌≡◌, refl, ap, ◌∙◌}
+use mathlib.Core.Path.{◌≡◌, refl, ap, ◌∙◌, subst}
 use mathlib.Core.List.{List}
 use native.Mathlib.Omega.{arith}
 use borrow.Author.Tests.{le-leb, lt-leb, eq-eqb, ne_eqb}
 use Rattle.rules.specs.Fields.{tips, stops, stop_place, load_limit, quantity}
-use Rattle.rules.specs.PlanWords.{rest_word, stop_word, tip_word}
-use Rattle.rules.specs.Plan.{Task, serve, empty, lunch, task_word, Known}
-use Rattle.onward.specs.Behind.{distance_onward, stop_first, tip_first, SomeTaskWord, PutsFirst}
+use Rattle.rules.specs.PlanWords.{stop, tip, word_of}
+use Rattle.rules.specs.Plan.{serve, empty, Known}
+use Rattle.plan_words.specs.Reading.{task_said}
+use Rattle.plan_words.proofs.TaskWords.{task_told}
+use Rattle.onward.specs.Behind.{distance_onward, stop_first, tip_first, SomeTaskWord}
 use Rattle.onward.specs.declared.Onward.{Onward}
 
 -- what is left, by its four parts
@@ -38,42 +40,17 @@ module _ (day : List ℕ) (o : Onward) (x : ℕ) {distance : ℕ} (far : distanc
   tip_over h e = e ∙ rw (far, ne_eqb o.least 0 h) refl
 
 -- the number of a known stop's word, and of a known tip's
-stop_of : (day : List ℕ) (w : ℕ) (task : Task) → Known day task → w ≡ task_word task → w < tip_word 0
-    → ((stop_word 0) ≤ w) × (0 < w - stop_word 0) × (w - stop_word 0 ≤ stops day)
-unfolding Known task_word
-stop_of day w (serve k) n e h = (omega arith, omega (arith, n.0), omega (arith, n.1))
-stop_of day w (empty x) n e h = absurd (omega arith)
-stop_of day w lunch n e h = absurd (omega arith)
+known_stop : (day : List ℕ) (k : ℕ) → Known day (serve k) → (0 < k) × (k ≤ stops day)
+unfolding Known
+known_stop day k n = (omega (arith, n.0), n.1)
 
-tip_of : (day : List ℕ) (w : ℕ) (task : Task) → Known day task → w ≡ task_word task → (tip_word 0) ≤ w → w < rest_word → w - tip_word 0 ≤ tips day
-unfolding Known task_word
-tip_of day w (serve k) n e l h = absurd (omega (arith, n.1))
-tip_of day w (empty x) n e l h = omega (arith, n.1)
-tip_of day w lunch n e l h = absurd (omega arith)
+known_tip : (day : List ℕ) (x : ℕ) → Known day (empty x) → x ≤ tips day
+unfolding Known
+known_tip day x n = n.1
 
-module _ (day : List ℕ) (w : ℕ) (s : SomeTaskWord day w) where
-  pub stop_number : w < tip_word 0 → ((stop_word 0) ≤ w) × (0 < w - stop_word 0) × (w - stop_word 0 ≤ stops day)
-  stop_number = stop_of day w s.task s.known s.is
+module _ (day : List ℕ) (w k : ℕ) (s : SomeTaskWord day w) where
+  pub stop_number : word_of w ≡ stop k → (0 < k) × (k ≤ stops day)
+  stop_number e = known_stop day k (subst (Known day) (task_told day w s.task s.known s.is ∙ ap task_said e) s.known)
 
-  pub tip_number : (tip_word 0) ≤ w → w < rest_word → w - tip_word 0 ≤ tips day
-  tip_number = tip_of day w s.task s.known s.is
-
--- whatever task the word is
-module _ (day : List ℕ) (w : ℕ) (o r : Onward) where
-  pub puts_stop : w < tip_word 0 → r ≡ stop_first day (w - stop_word 0) o → PutsFirst day w o r
-  unfolding task_word
-  puts_stop h e (serve k) n i = let q : w - stop_word 0 ≡ k = omega arith in e ∙ ap (λ (j : ℕ). stop_first day j o) q
-  puts_stop h e (empty x) n i = absurd (omega arith)
-  puts_stop h e lunch n i = absurd (omega arith)
-
-  pub puts_tip : (tip_word 0) ≤ w → w < rest_word → r ≡ tip_first day (w - tip_word 0) o → PutsFirst day w o r
-  unfolding task_word Known
-  puts_tip l h e (serve k) n i = absurd (omega (arith, n.1))
-  puts_tip l h e (empty x) n i = let q : w - tip_word 0 ≡ x = omega arith in e ∙ ap (λ (j : ℕ). tip_first day j o) q
-  puts_tip l h e lunch n i = absurd (omega arith)
-
-  pub puts_rest : rest_word ≤ w → r ≡ o → PutsFirst day w o r
-  unfolding task_word Known
-  puts_rest l e (serve k) n i = absurd (omega (arith, n.1))
-  puts_rest l e (empty x) n i = absurd (omega (arith, n.1))
-  puts_rest l e lunch n i = e
+  pub tip_number : word_of w ≡ tip k → k ≤ tips day
+  tip_number e = known_tip day k (subst (Known day) (task_told day w s.task s.known s.is ∙ ap task_said e) s.known)

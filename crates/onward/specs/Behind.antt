@@ -57,10 +57,6 @@ pub record SomeTaskWord (day : List ℕ) (w : ℕ) : Type 0 where
   pub known : Known day task
   pub is : w ≡ task_word task
 
--- whatever task it is, it comes in front
-abbrev pub PutsFirst : (day : List ℕ) (w : ℕ) (o r : Onward) → Type 0
-PutsFirst day w o r = (task : Task) → Known day task → w ≡ task_word task → r ≡ task_first day task o
-
 -- a vehicle's tasks stand from a place to another, where its E word is
 pub record RoundTo (day plan : List ℕ) (from end : ℕ) (tasks : Round) (rest : List ℕ) : Type 0 where
   pub round_at : RoundAt day plan from tasks rest

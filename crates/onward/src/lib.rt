@@ -3,10 +3,12 @@
 
 ghost use Rattle.std.specs.Prelude.{◌≡◌, ◌&&◌, ◌-◌, ◌<◌, ◌≤◌, leb, length};
 ghost use Rattle.rules.specs.Fields.{stops, tips, places};
-ghost use Rattle.onward.specs.Behind.{distance_onward, stop_first, tip_first, SomeTaskWord, PutsFirst, SomeRoundTo, FillsBehind};
+ghost use Rattle.rules.specs.PlanWords.{word_of};
+ghost use Rattle.plan_words.specs.Reading.{task_said};
+ghost use Rattle.onward.specs.Behind.{distance_onward, stop_first, tip_first, task_first, SomeTaskWord, SomeRoundTo, FillsBehind};
 
 use day::days::Day;
-use plan_words::{REST, STOP, TIP};
+use plan_words::{PlanWord, read_word};
 
 // How many rows a table of a plan has: one for each place of a plan of at most 1200 words, and the one behind it.
 pub const ROWS: usize = 1201;
@@ -88,14 +90,12 @@ fn tip_first(day: &Day, o: Onward, x: usize) -> Onward
 // One word more in front of what is left.
 fn onward_before(day: &Day, o: Onward, w: u32) -> Onward
     requires { SomeTaskWord day.now w × (o.next < places day.now) × (o.distance < 2147483648) }
-    ensures { PutsFirst day.now w o result }
+    ensures { result ≡ task_first day.now (task_said (word_of w)) o }
 {
-    if w < TIP {
-        stop_first(day, o, (w - STOP) as usize)
-    } else if w < REST {
-        tip_first(day, o, (w - TIP) as usize)
-    } else {
-        o
+    match read_word(w) {
+        Some(PlanWord::Stop(stop)) => stop_first(day, o, stop),
+        Some(PlanWord::Tip(tip)) => tip_first(day, o, tip),
+        _ => o,
     }
 }
 

@@ -1,3 +1,4 @@
 pub mod WordForms
 pub mod SaidLaws
 pub mod SaidOnce
+pub mod TaskWords

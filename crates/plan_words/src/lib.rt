@@ -2,7 +2,7 @@
 #![tactic(auto)]
 
 ghost use Rattle.std.specs.Prelude.{◌≡◌, ◌<◌, ◌==◌};
-ghost use Rattle.rules.specs.PlanWords.{kind_of, number_of, vehicle_kind, stop_kind, tip_kind, left_kind, vehicle_word, stop_word, tip_word, rest_word, back_word, left_word, word_of};
+ghost use Rattle.rules.specs.PlanWords.{number_of, vehicle_word, stop_word, tip_word, rest_word, back_word, left_word, word_of};
 ghost use Rattle.plan_words.specs.Indexes.{IndexFrom};
 ghost use Rattle.plan_words.specs.Reading.{meaning};
 
@@ -29,7 +29,7 @@ const TIP_KIND: u32 = TIP / 0x100;
 const LEFT_KIND: u32 = LEFT / 0x100;
 
 // The number of a word, in bits 7-0.
-pub fn number(word: u32) -> u32
+fn number(word: u32) -> u32
     ensures { result ≡ number_of word }
 {
     word % 0x100
@@ -65,12 +65,6 @@ pub fn read_word(word: u32) -> Option<PlanWord>
 }
 
 // A word of one kind, for those who take no word apart.
-pub fn is_stop(word: u32) -> bool
-    ensures { result ≡ (kind_of word == stop_kind) }
-{
-    word / 0x100 == STOP_KIND
-}
-
 pub fn is_rest(word: u32) -> bool
     ensures { result ≡ (word == rest_word) }
 {

@@ -1,7 +1,7 @@
 -- The tables of all vehicles of the present plan. They serve the contracts of this crate's own functions. Assumes nothing.
-use Rattle.std.specs.Prelude.{ℕ, ◌+◌, ◌*◌, ◌≤◌, ◌<◌, ◌≡◌, List, [], ◌∷◌, Option, eqb, length, get_or, take, set, if◌then◌else◌}
+use Rattle.std.specs.Prelude.{ℕ, ◌+◌, ◌*◌, ◌≤◌, ◌<◌, ◌≡◌, List, [], ◌∷◌, Option, length, get_or, take, set}
 use Rattle.rules.specs.Lists.{Every}
-use Rattle.rules.specs.PlanWords.{kind_of, number_of, stop_kind}
+use Rattle.rules.specs.PlanWords.{Word, vehicle, stop, tip, rest, back, left, stray, word_of}
 use Rattle.rules.specs.Plan.{Round, rounds_words, stops_on, Known}
 use Rattle.onward.specs.Behind.{homeward, BehindOf}
 use Rattle.onward.specs.declared.Onward.{Onward}
@@ -74,9 +74,19 @@ TracksVehicle day plan starts room v tracks after =
     (rounds : List Round) (lefts : List ℕ) → Trackable day plan starts room rounds lefts → v < length rounds
     → TracksOne day rounds v tracks.before after.before tracks.behind after.behind
 
--- the places of the stops once the word at a place is looked at
+-- the places of the stops once a word that stands at a place is looked at
+abbrev pub spot_said : Word → (at : ℕ) → List ℕ → List ℕ
+spot_said (vehicle k) at spots = spots
+spot_said (stop k) at spots = set spots k at
+spot_said (tip k) at spots = spots
+spot_said rest at spots = spots
+spot_said back at spots = spots
+spot_said (left k) at spots = spots
+spot_said stray at spots = spots
+
+-- and once the word of a number is
 abbrev pub spot_after : (w at : ℕ) → List ℕ → List ℕ
-spot_after w at spots = if eqb (kind_of w) stop_kind then set spots (number_of w) at else spots
+spot_after w at spots = spot_said (word_of w) at spots
 
 -- and once these words are, of which the first stands at a place: of a stop that stands there twice the last place is told
 unfoldable pub spots_after : (words : List ℕ) → ℕ → List ℕ → List ℕ

@@ -7,14 +7,15 @@ use crate::before::fill_before;
 use crate::plan_tables::Tracks;
 use day::days::Day;
 use onward::fill_behind;
+use plan_words::{PlanWord, read_word};
 
 // The place of a word, where it is a stop's.
 fn put_spot(word: u32, at: usize, spots: &mut [u32])
     requires { (length spots.old ≡ 256) × (at < 1200) }
     ensures { spots.new ≡ spot_after word at spots.old }
 {
-    if plan_words::is_stop(word) {
-        spots[plan_words::number(word) as usize] = at as u32;
+    if let Some(PlanWord::Stop(stop)) = read_word(word) {
+        spots[stop] = at as u32;
     }
 }
 

@@ -1,26 +1,15 @@
 -- `onward::onward_before` meets its contract.
-use Rattle.onward.proofs.FirstLaws.{stop_number, tip_number, puts_stop, puts_tip, puts_rest}
+use Rattle.plan_words.proofs.WordForms.{word_is}
+use Rattle.onward.proofs.FirstLaws.{stop_number, tip_number}
 use Rattle.onward.proofs.onward_before.Goals as goal
-
-pub overflow_sub-w : goal.overflow_sub-w
-overflow_sub-w c = (stop_number _ _ c.requires.0 c.if-w-lt-TIP.true).0
 
 pub stop_first-requires : goal.stop_first-requires
 stop_first-requires c =
     let p = c.requires in
-    let n = stop_number _ _ p.0 c.if-w-lt-TIP.true in
-    (n.1, n.2, p.1, p.2)
-
-pub returns-then-w-lt-TIP : goal.returns-then-w-lt-TIP
-returns-then-w-lt-TIP c = search puts_stop
+    let n = stop_number _ _ _ p.0 (word_is _ c.in-Some-Stop.ensures c.in-Some-Stop.field-0-is) in
+    (n.0, n.1, p.1, p.2)
 
 pub tip_first-requires : goal.tip_first-requires
 tip_first-requires c =
     let p = c.requires in
-    (tip_number _ _ p.0 c.if-w-lt-TIP.false c.if-w-lt-REST.true, p.1, p.2)
-
-pub returns-then-w-lt-REST : goal.returns-then-w-lt-REST
-returns-then-w-lt-REST c = search puts_tip
-
-pub returns-else-w-lt-REST : goal.returns-else-w-lt-REST
-returns-else-w-lt-REST c = search puts_rest
+    (tip_number _ _ _ p.0 (word_is _ c.in-Some-Tip.ensures c.in-Some-Tip.field-0-is), p.1, p.2)
