@@ -54,7 +54,7 @@ fn swap_word(word: u32, stop: u32, other: u32) -> u32
     }
 }
 
-// The tip that is task number `at` gives way.
+// The tip that is task number `at` gives way. Of a vehicle's words without its rests the tips' are the highest: no number is read.
 fn tip_word(word: u32, task: usize, at: usize, other: Change) -> Change
     ensures { result ≡ (if eqb task at && leb (tip_word 0) word then other else Change.One word) }
 {
@@ -65,7 +65,7 @@ fn tip_word(word: u32, task: usize, at: usize, other: Change) -> Change
     }
 }
 
-// What the word of a task becomes, by the task's number; a rest is taken off.
+// What the word of a task becomes, by the task's number; a rest, which is one word without a number, is taken off.
 pub fn change_word(edit: Edit, task: usize, word: u32) -> Change
     requires { EditSmall edit }
     ensures { (day : List ℕ) (t : Task) → EditKnown day edit → word ≡ task_word t → Known day t → Becomes day (edit_of edit) task t result }

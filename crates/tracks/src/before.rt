@@ -69,7 +69,7 @@ pub(crate) fn cab_at(before: &[Option<Row>], at: usize) -> Option<Cab>
     before[at].map(Row::cab)
 }
 
-// One task is walked; a rest is passed over.
+// One task is walked; a rest, which is one word without a number, is passed over.
 fn walk_task(day: &Day, cab: Option<Cab>, word: u32, part: &mut [u32]) -> Option<Cab>
     requires { IsAccepted day.now × TaskToWalk day.now part.old cab word }
     ensures { WalksOrPasses day.now part.old cab word part.new result }
