@@ -1,6 +1,7 @@
 -- A vehicle's words changed and walked again, word by word. Assumes nothing.
-use Prim.Native.Nat.{ℕ, ◌+◌, ◌-◌, ◌≤◌, ◌<◌}
-use mathlib.Core.Path.{◌≡◌, refl, ap, ◌∙◌}
+use Prim.Native.Nat.{ℕ, ◌+◌, ◌≤◌, ◌<◌}
+use mathlib.Core.Path.{◌≡◌, refl, sym, ap, ◌∙◌, subst}
+use mathlib.Core.Bool.{Bool, true, false, true≢false}
 use mathlib.Core.List.{List, [], ◌∷◌, ◌++◌}
 use mathlib.Core.Option as maybe
 use mathlib.Core.Option.{some}
@@ -8,11 +9,14 @@ use native.Mathlib.Omega.{arith}
 use lib.ListN.{length, length-append}
 use Rattle.std.specs.Prelude.{Option, Some, None}
 use Rattle.rules.specs.Fields.{stops, tips}
-use Rattle.rules.specs.PlanWords.{stop_word, tip_word}
-use Rattle.rules.specs.Plan.{Task, serve, empty, Round, stops_on, Known}
+use Rattle.rules.specs.PlanWords.{Word, vehicle, stop, tip, rest, back, left, stray, stop_word, tip_word, word_of}
+use Rattle.rules.specs.Plan.{Task, serve, empty, Round, task_word, stops_on, Known}
 use Rattle.rules.specs.Build.{Truck, resting}
 use Rattle.rules.specs.Attempts.{walk_task, walk_next, walk_on}
 use Rattle.laws.proofs.Plan.{stops_append}
+use Rattle.plan_words.specs.Reading.{task_said}
+use Rattle.plan_words.proofs.WordForms.{stop_form_lem, tip_form_lem}
+use Rattle.plan_words.proofs.TaskWords.{task_told}
 use Rattle.edits.specs.EditWords.{Means, a_stop, a_tip, Makes, makes_none, makes_two}
 use Rattle.edits.specs.declared.Change.TheVariants.{Gone, Two}
 use Rattle.walks.specs.Cabs.{failed, on_road, SomeStanding, Drives}
@@ -22,50 +26,76 @@ use Rattle.walks.proofs.CabLaws.{standing_fewer, some_standing, on_road_lem}
 use Rattle.walks.proofs.WalkLaws.{stands_goes, stands_failed}
 use Rattle.walks.proofs.Walking.{failed_on}
 
--- what a word means, by its size
-pub record StopWord (day : List ℕ) (w : ℕ) (task : Task) : Type 0 where
-  pub least : (stop_word 0) ≤ w
-  pub is : task ≡ serve (w - stop_word 0)
-  pub first : 0 < w - stop_word 0
-  pub within : w - stop_word 0 ≤ stops day
+-- what a word that is walked means, once it is taken apart
+means_said : {day : List ℕ} {w : ℕ} {task : Task} → Means day w task → task ≡ task_said (word_of w)
+unfolding task_word
+means_said {day} (a_stop k n) = task_told day (stop_word k) (serve k) n refl
+means_said {day} (a_tip x n) = task_told day (tip_word x) (empty x) n refl
 
-pub means_stop : {day : List ℕ} {w : ℕ} {task : Task} → Means day w task → w < tip_word 0 → StopWord day w task
+means_known : {day : List ℕ} {w : ℕ} {task : Task} → Means day w task → Known day task
+means_known (a_stop k n) = n
+means_known (a_tip x n) = n
+
+pub record StopWord (day : List ℕ) (k : ℕ) (task : Task) : Type 0 where
+  pub is : task ≡ serve k
+  pub first : 0 < k
+  pub within : k ≤ stops day
+
+known_stop : {day : List ℕ} {k : ℕ} {task : Task} → task ≡ serve k → Known day (serve k) → StopWord day k task
 unfolding Known
-means_stop (a_stop k n) l =
-    let e : stop_word k - stop_word 0 ≡ k = omega arith in
-    record { least = omega arith; is = rw e refl; first = rw e (omega (arith, n.0)); within = rw e n.1 }
-means_stop (a_tip x n) l = absurd (omega (arith, l))
+known_stop e n = record { is = e; first = omega (arith, n.0); within = n.1 }
 
-pub record TipWord (day : List ℕ) (w : ℕ) (task : Task) : Type 0 where
-  pub is : task ≡ empty (w - tip_word 0)
-  pub first : 0 < w - tip_word 0
-  pub within : w - tip_word 0 ≤ tips day
+pub means_stop : {day : List ℕ} {w k : ℕ} {task : Task} → Means day w task → word_of w ≡ stop k → StopWord day k task
+means_stop {day} m l = let e = means_said m ∙ ap task_said l in known_stop e (subst (Known day) e (means_known m))
 
-pub means_tip : {day : List ℕ} {w : ℕ} {task : Task} → Means day w task → (tip_word 0) ≤ w → TipWord day w task
+pub record TipWord (day : List ℕ) (x : ℕ) (task : Task) : Type 0 where
+  pub is : task ≡ empty x
+  pub first : 0 < x
+  pub within : x ≤ tips day
+
+known_tip : {day : List ℕ} {x : ℕ} {task : Task} → task ≡ empty x → Known day (empty x) → TipWord day x task
 unfolding Known
-means_tip (a_stop k n) l = absurd (omega (arith, l, n.1))
-means_tip (a_tip x n) l =
-    let e : tip_word x - tip_word 0 ≡ x = omega arith in
-    record { is = rw e refl; first = rw e (omega (arith, n.0)); within = rw e n.1 }
+known_tip e n = record { is = e; first = omega (arith, n.0); within = n.1 }
+
+pub means_tip : {day : List ℕ} {w x : ℕ} {task : Task} → Means day w task → word_of w ≡ tip x → TipWord day x task
+means_tip {day} m l = let e = means_said m ∙ ap task_said l in known_tip e (subst (Known day) e (means_known m))
+
+-- a word of another kind is not walked
+abbrev pub is_walked : Word → Bool
+is_walked (vehicle k) = false
+is_walked (stop k) = true
+is_walked (tip k) = true
+is_walked rest = false
+is_walked back = false
+is_walked (left k) = false
+is_walked stray = false
+
+means_walked : {day : List ℕ} {w : ℕ} {task : Task} → Means day w task → is_walked (word_of w) ≡ true
+unfolding Known
+means_walked (a_stop k n) = ap is_walked (stop_form_lem k (omega (arith, n.1)))
+means_walked (a_tip x n) = ap is_walked (tip_form_lem x (omega (arith, n.1)))
+
+pub word_other : {day part now : List ℕ} {c : Cab} {w : ℕ} {r : Option Cab} → is_walked (word_of w) ≡ false → WalksWord day part c w now r
+word_other f task m = absurd (true≢false (sym (means_walked m) ∙ f))
 
 one_stop : {task : Task} {k : ℕ} → task ≡ serve k → length (stops_on (task ∷ [])) ≡ 1
 unfolding stops_on
 one_stop e = rw e refl
 
-pub stop_standing : {day part : List ℕ} {c : Cab} {w : ℕ} {task : Task} → StopWord day w task → SomeStanding day (length (stops_on (task ∷ []))) part c → SomeStanding day 1 part c
+pub stop_standing : {day part : List ℕ} {c : Cab} {k : ℕ} {task : Task} → StopWord day k task → SomeStanding day (length (stops_on (task ∷ []))) part c → SomeStanding day 1 part c
 stop_standing t s = some_standing (omega (arith, one_stop t.is, s.enough)) s.standing
 
 -- a stop and a tip, behind a rest where one is due
-pub word_stop : {day part mid now : List ℕ} {c e : Cab} {w : ℕ} {r : Option Cab} → Drives day 0 part c (λ v. some (resting day v)) mid (Some e) → w < tip_word 0
-    → Drives day 1 mid e (λ v. walk_task day v (serve (w - stop_word 0))) now r → WalksWord day part c w now r
+pub word_stop : {day part mid now : List ℕ} {c e : Cab} {w k : ℕ} {r : Option Cab} → Drives day 0 part c (λ v. some (resting day v)) mid (Some e) → word_of w ≡ stop k
+    → Drives day 1 mid e (λ v. walk_task day v (serve k)) now r → WalksWord day part c w now r
 unfolding walk_on walk_next
 word_stop f l h task m start most more p v s =
     let t = means_stop m l in
     let u = on_road_lem (f start most (1 + more) p v (standing_fewer (omega (arith, one_stop t.is)) s)) in
     rw t.is (h start most more p (resting _ v) u)
 
-pub word_tip : {day part mid now : List ℕ} {c e : Cab} {w : ℕ} {r : Option Cab} → Drives day 0 part c (λ v. some (resting day v)) mid (Some e) → (tip_word 0) ≤ w
-    → Drives day 0 mid e (λ v. walk_task day v (empty (w - tip_word 0))) now r → WalksWord day part c w now r
+pub word_tip : {day part mid now : List ℕ} {c e : Cab} {w x : ℕ} {r : Option Cab} → Drives day 0 part c (λ v. some (resting day v)) mid (Some e) → word_of w ≡ tip x
+    → Drives day 0 mid e (λ v. walk_task day v (empty x)) now r → WalksWord day part c w now r
 unfolding walk_on walk_next
 word_tip f l h task m start most more p v s =
     let t = means_tip m l in

@@ -11,7 +11,7 @@ ghost use Rattle.walks.specs.Rewalks.{SomeWord, WalksWord, SomeChange, WalksChan
 use crate::cabs::{Cab, rest_cab, walk_home, walk_stop, walk_tip};
 use day::days::Day;
 use edits::{Change, Edit, change_word};
-use plan_words::{BACK, STOP, TIP, VEHICLE};
+use plan_words::{BACK, PlanWord, VEHICLE, read_word};
 use trips::drives::leave;
 
 // One word is walked, a stop or a tip; none where the trial has failed. In line, as `walk_stop` is.
@@ -21,10 +21,11 @@ pub fn walk_word(day: &Day, cab: Cab, word: u32, part: &mut [u32]) -> Option<Cab
     ensures { WalksWord day.now part.old cab word part.new result }
 {
     let rested = rest_cab(day, cab, part);
-    if word < TIP {
-        return walk_stop(day, rested, (word - STOP) as usize, part);
+    match read_word(word) {
+        Some(PlanWord::Stop(stop)) => walk_stop(day, rested, stop, part),
+        Some(PlanWord::Tip(tip)) => Some(walk_tip(day, rested, tip, part)),
+        _ => None,
     }
-    Some(walk_tip(day, rested, (word - TIP) as usize, part))
 }
 
 // What a word has become is walked. In line, as `walk_stop` is.
