@@ -1,19 +1,21 @@
 -- `spans::Tasks::span_of` meets its contract.
-use mathlib.Core.Logic.{inl, inr}
 use Rattle.spans.proofs.SpanLaws.{before_span, after_span, swap_span, remove_span, replace_span}
 use Rattle.spans.proofs.Tasks.span_of.Goals as goal
 use Rattle.spans.proofs.Tasks.span_of.Goals.{then-here, else-here}
 
 pub returns-in-Before : goal.returns-in-Before
 returns-in-Before c =
-    λ tasks q s. elim c.in-Before.is [
-      | inl e ↦
-          let w = rw e at c.requires in
-          rw e (before_span _ _ tasks q w.0 w.1 _ (rw e at s) c.span_of_two.ensures.0 c.span_of_two.ensures.1)
-      | inr e ↦
-          let w = rw e at c.requires in
-          rw e (after_span _ _ tasks q w.0 w.1 _ (rw e at s) c.span_of_two.ensures.0 c.span_of_two.ensures.1)
-    ]
+    λ tasks q s.
+    let w = rw c.in-Before.is at c.requires in
+    let o = rw c.in-Before.is at s in
+    rw c.in-Before.is (before_span _ _ tasks q w.0 w.1 _ o c.span_of_two.ensures.0 c.span_of_two.ensures.1)
+
+pub returns-in-After : goal.returns-in-After
+returns-in-After c =
+    λ tasks q s.
+    let w = rw c.in-After.is at c.requires in
+    let o = rw c.in-After.is at s in
+    rw c.in-After.is (after_span _ _ tasks q w.0 w.1 _ o c.span_of_two-in-After.ensures.0 c.span_of_two-in-After.ensures.1)
 
 pub returns-after-here : goal.returns-after-here
 returns-after-here c =
@@ -26,8 +28,7 @@ returns-after-here c =
     ]))
 
 pub returns-in-Remove : goal.returns-in-Remove
-returns-in-Remove c =
-    λ tasks q s. elim c.in-Remove.is [
-      | inl e ↦ rw e (remove_span _ tasks q c.span_of_word.ensures)
-      | inr x ↦ rw x.1 (replace_span _ tasks q c.span_of_word.ensures _)
-    ]
+returns-in-Remove c = λ tasks q s. rw c.in-Remove.is (remove_span _ tasks q c.span_of_word.ensures)
+
+pub returns-in-Replace : goal.returns-in-Replace
+returns-in-Replace c = λ tasks q s. rw c.in-Replace.is (replace_span _ tasks q c.span_of_word-in-Replace.ensures _)
