@@ -113,14 +113,6 @@ module _ (w : ℕ) where
       go (no r) (no b) (no v) (no s) (no t) (yes e) = apart_left e
       go (no r) (no b) (no v) (no s) (no t) (no l) = let r = stray_read w r b v s t l in rw r (is_stray r)
 
--- what a word says once the code has asked for it
-module _ (w : ℕ) {asked : Bool} where
-  pub rest_told : asked ≡ eqb w rest_word → asked ≡ true → word_of w ≡ rest
-  rest_told a t = rest_read w (eqb-true _ _ (sym a ∙ t))
-
-  pub back_told : asked ≡ eqb w back_word → asked ≡ true → word_of w ≡ back
-  back_told a t = back_read w (eqb-true _ _ (sym a ∙ t))
-
 -- a word that the code has taken apart
 pub word_is : (w : ℕ) {read word : PlanWord} → meaning (Some read) ≡ word_of w → read ≡ word → word_of w ≡ meaning (Some word)
 word_is w e is = sym e ∙ ap (λ (x : PlanWord). meaning (Some x)) is

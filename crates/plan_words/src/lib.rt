@@ -64,19 +64,6 @@ pub fn read_word(word: u32) -> Option<PlanWord>
     }
 }
 
-// A word of one kind, for those who take no word apart.
-pub fn is_rest(word: u32) -> bool
-    ensures { result ≡ (word == rest_word) }
-{
-    word == REST
-}
-
-pub fn is_back(word: u32) -> bool
-    ensures { result ≡ (word == back_word) }
-{
-    word == BACK
-}
-
 // The number of a stop's word less one; of any other word something that is no number of a stop less one. Kind and number are one range
 // of words, so that one test against the number of stops tells both.
 pub fn stop_index(word: u32) -> u32

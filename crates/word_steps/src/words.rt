@@ -6,7 +6,7 @@ ghost use Rattle.word_steps.specs.Steps.{fault_by, met_behind, StepOf, Within};
 
 use crate::steps::{State, come_back, empty_out, leave_out, serve, set_out, take_rest};
 use day::days::Day;
-use plan_words::{PlanWord, read_word};
+use plan_words::{BACK, PlanWord, REST, read_word};
 use rules::faults::PlanFault;
 use trips::limits::LimitedDay;
 
@@ -145,10 +145,10 @@ pub fn task_step(
     if tip < day.tips() {
         return tip_word(day, s, tip + 1);
     }
-    if plan_words::is_rest(w) {
+    if w == REST {
         return rest_word(day, s);
     }
-    if plan_words::is_back(w) {
+    if w == BACK {
         return back_word(day, s);
     }
     Err(PlanFault::Form)

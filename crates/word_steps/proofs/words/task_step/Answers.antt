@@ -2,7 +2,7 @@
 use Prim.Native.Nat.{◌+◌}
 use mathlib.Core.Path.{refl}
 use Rattle.rules.specs.PlanWords.{tip, rest, back}
-use Rattle.plan_words.proofs.WordForms.{rest_told, back_told}
+use Rattle.plan_words.proofs.WordForms.{rest_read, back_read}
 use Rattle.word_steps.proofs.Forming.{stop_ranged, tip_ranged, task_word, task_any, task_met, task_unmarked}
 use Rattle.word_steps.specs.Steps.{marked}
 use Rattle.word_steps.proofs.words.task_step.Goals as goal
@@ -20,16 +20,16 @@ pub returns-then-tip-tips-clause-met : goal.returns-then-tip-tips-clause-met
 unfolding marked
 returns-then-tip-tips-clause-met c = task_unmarked _ c.args.w _ (tip (c.tip_index-tip.result + 1)) (search tip_ranged) refl
 
-pub returns-then-is_rest-clause-step : goal.returns-then-is_rest-clause-step
-returns-then-is_rest-clause-step c = task_any _ _ _ rest (search rest_told) _ _ c.rest_word.ensures
+pub returns-then-w-eq-REST-clause-step : goal.returns-then-w-eq-REST-clause-step
+returns-then-w-eq-REST-clause-step c = task_any _ _ _ rest (search rest_read) _ _ c.rest_word.ensures
 
-pub returns-then-is_rest-clause-met : goal.returns-then-is_rest-clause-met
+pub returns-then-w-eq-REST-clause-met : goal.returns-then-w-eq-REST-clause-met
 unfolding marked
-returns-then-is_rest-clause-met c = task_unmarked _ c.args.w _ rest (search rest_told) refl
+returns-then-w-eq-REST-clause-met c = task_unmarked _ c.args.w _ rest (search rest_read) refl
 
-pub returns-then-is_back-clause-step : goal.returns-then-is_back-clause-step
-returns-then-is_back-clause-step c = task_any _ _ _ back (search back_told) _ _ c.back_word.ensures
+pub returns-then-w-eq-BACK-clause-step : goal.returns-then-w-eq-BACK-clause-step
+returns-then-w-eq-BACK-clause-step c = task_any _ _ _ back (search back_read) _ _ c.back_word.ensures
 
-pub returns-then-is_back-clause-met : goal.returns-then-is_back-clause-met
+pub returns-then-w-eq-BACK-clause-met : goal.returns-then-w-eq-BACK-clause-met
 unfolding marked
-returns-then-is_back-clause-met c = task_unmarked _ c.args.w _ back (search back_told) refl
+returns-then-w-eq-BACK-clause-met c = task_unmarked _ c.args.w _ back (search back_read) refl
