@@ -15,7 +15,8 @@ pub(crate) fn write_vehicles(day: &Day, plan: &mut [u32]) -> Written
     let mut left = Marks::all_to(day.stops());
     let mut words = 0;
     let mut number = 0;
-    // How many vehicles go out is known only at the end: there is no range to go over.
+    // How many vehicles go out is known only when none does. A `for number in 1..` would end at u32::MAX, which is no end of this loop, and
+    // would still need a break.
     while let Some(written) = write_vehicle(day, left, number + 1, &mut plan[words..]) {
         left = written.left;
         words += written.words;

@@ -15,7 +15,8 @@ pub(crate) fn write_lefts(left: Marks, part: &mut [u32], from: usize) -> usize
 {
     let mut others = left;
     let mut at = from;
-    // The marks are taken off one by one: there is no range to go over.
+    // An `impl Iterator for Marks` would need `lowest` and `unmark` as its `next`, with a ghost list of what is left and its laws, for this one
+    // loop: the two loops of `next_task` go over one word, for speed, and `fleet` lets a whole vehicle take its stops.
     while let Some(stop) = others.lowest() {
         part[at] = left_word(stop);
         others = others.unmark(stop);

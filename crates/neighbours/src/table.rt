@@ -1,4 +1,5 @@
-// The neighbours of every stop, worked out once for a planning call into a table that is lent: a row of 50 places for each stop.
+// The neighbours of every stop, worked out once for a planning call, into the table that `improve` keeps and lends. It is one flat array of
+// numbers, without a heap: stop i has the 50 places from 50 * i on, with 0 where there is no further neighbour.
 ghost use Rattle.std.specs.Prelude.{◌≡◌, ◌+◌, ◌*◌, ◌<◌, ◌≤◌, length, Some, None, if◌then◌else◌};
 ghost use Rattle.rules.specs.Fields.{stops};
 ghost use Rattle.rules.specs.Neighbours.{between, compatible, neighbour_key};
@@ -64,7 +65,7 @@ fn next_key(keys: &[u32], last: u32) -> u32
     best
 }
 
-// The stop of a key, 0 for none, as in the table, where a place is one byte.
+// The stop of a key, 0 for none: no stop has number 0, so that a place of the table is one byte. An Option in it would take two.
 fn stop_of_key(key: u32) -> u8
     ensures { result ≡ stop_of_key key }
 {
@@ -93,7 +94,7 @@ fn fill_stop(day: &Day, i: usize, row: &mut [u8])
     fill_row(keys, row);
 }
 
-// The first k neighbours of every stop.
+// The first k neighbours of every stop. Of a row's 50 places, of which those of stop i begin at 50 * i, the first k are written.
 pub fn fill_table(day: &Day, k: usize, table: &mut [u8])
     requires { (stops day.now ≤ 240) × (k ≤ 50) × (length table.old ≡ 12050) }
     ensures { TableOf day.now k table.new }

@@ -120,8 +120,9 @@ impl<'a> Choice<'a> {
             && S::is_timely(self.day, self.trip, stop)
     }
 
-    // Of the marks of a word those from the next candidate on; bit b is stop first + b. The marks are taken off one by one: there is no range
-    // to go over. The loop is kept apart from the way home, which is long and seldom asked for.
+    // Of the marks of a word those from the next candidate on; bit b is stop first + b. The loop is kept apart from the way home, which is
+    // long and seldom asked for: in one loop with it a build of 240 stops took 1.65 million instructions, so 1.21. The caller goes on with the
+    // marks that are left. An iterator over a word's bits would hold the same u64, and need its ghost list and laws, for this loop alone.
     fn from_candidate<S: Search>(&self, most: u32, marked: u64, first: usize) -> u64
         requires { first < 256 }
         ensures { FromCandidate S.near self.now.day.now self.now.trip self.now.cargo (stops self.now.day.now) most first marked result }
@@ -156,8 +157,8 @@ impl<'a> Choice<'a> {
         }
     }
 
-    // The best of the one before and the stops of one word of the marks, whose bit b is stop first + b. A call may pass over several marks:
-    // there is no range to go over.
+    // The best of the one before and the stops of one word of the marks, whose bit b is stop first + b. The loop is no `for`: `from_candidate`
+    // passes over several marks at a time, as many as its bound, the best so far, lets it.
     fn best_in_word<S: Search>(&self, word: u64, first: usize, before: Best) -> Best
         requires first { first < 256 }
         requires so_far { BestBy (key_of S.near self.now.day.now self.now.trip) (stops self.now.day.now) before }

@@ -13,8 +13,8 @@ use trips::drives::{back, leave, rest, same_trip, visit_stop, visit_tip};
 use trips::limits::LimitedDay;
 use trips::tally::{one_back, one_left, one_out, one_served, same_tally};
 
-// The walk between two words, but for the stops met. Its parts are copied field by field, as by `same_tally`, and a step is taken apart
-// by let-else: with block copies, as `..s` makes, and `?` in the loop over the words, the check took half as long again.
+// The walk between two words, but for the stops met. Its parts are copied field by field, for the reason of `same_trip`, and a step is taken
+// apart by let-else: with block copies, as `..s` makes, and `?` in the loop over the words, the check took half as long again.
 #[derive(Clone, Copy)]
 pub struct State {
     pub tally: Tally,
@@ -22,7 +22,8 @@ pub struct State {
     pub trip: Trip,
 }
 
-// B, a stop is served, and marked.
+// B, a stop is served, and marked. Day, state and marks go from function to function beside each other, as no struct: the marks are written
+// in place and never copied, while a state is copied at each step and dropped at a fault.
 pub(crate) fn serve(
     limited: &LimitedDay,
     s: State,
