@@ -9,6 +9,7 @@ use lib.Dec.{ltb}
 use lib.ListN.{length, take, drop, replicate, get_or, length-append, length-replicate}
 use lib.Seq.{drop-drop, take_at}
 use borrow.Author.Tests.{lt-ltb, le-ltb}
+use borrow.Rule.Slice.PartMut.{put_mid}
 use Rattle.rules.specs.Answers.{given, refused}
 use Rattle.rules.specs.Lists.{total, over}
 use Rattle.rules.specs.DayFile.{judge_day}
@@ -25,8 +26,7 @@ use Rattle.laws.specs.Marks.{ones_of}
 use Rattle.laws.proofs.Buffer.{over_drop, over_front, over_rest, length_over}
 use Rattle.day.proofs.Answered.{refused_not_given}
 use Rattle.marks.specs.declared.Marks.{Marks}
-use Rattle.plan_words.specs.Said.{says}
-use Rattle.plan_words.proofs.SaidLaws.{said_same, says_lefts}
+use Rattle.plan_words.proofs.SaidLaws.{said_lend, said_same, says_lefts}
 use Rattle.plan_words.proofs.SaidOnce.{plan_wrote}
 use Rattle.builder.specs.Fleet.{AllWritten}
 use Rattle.builder.specs.Lefts.{LeavesAll}
@@ -35,13 +35,14 @@ use Rattle.greedy_laws.proofs.GreedyRoom.{greedy_room}
 use Rattle.greedy_laws.proofs.LeftOut.{remaining_count}
 
 -- what the words of the vehicles say, and behind them those of the stops left out, is what the plan's say: so they are the plan's
-plan_words_lem : {day p part now : List ℕ} {m : Marks} {words end : ℕ} → AllWritten day p part m words → LeavesAll part words m now end
-    → Wrote (greedy_plan day) p now end
+plan_words_lem : {day p part lent : List ℕ} {m : Marks} {words end : ℕ} → AllWritten day p part m words
+    → LeavesAll (take (length part - words) (drop words part)) m lent end
+    → Wrote (greedy_plan day) p (put_mid words (length part - words) part lent) (words + end)
 unfolding greedy_plan
 plan_words_lem {day} {p} w l =
     let rounds = greedy_rounds day in
     let lefts = greedy_lefts day in
-    let said = l (stops day) (routed day (stops day + 1) []) (says 0 rounds []) p (omega arith) w.left_is.are w.text in
+    let said = said_lend w.text (l (stops day) (routed day (stops day + 1) []) (omega arith) w.left_is.are) in
     plan_wrote rounds lefts (said_same said (says_lefts 0 rounds lefts) refl)
 
 -- zeros behind the words
@@ -77,13 +78,16 @@ module _ {day p part : List ℕ} {m : Marks} {words : ℕ} (w : AllWritten day p
   pub lefts_are : ones_of m.words ≡ length (greedy_lefts day)
   lefts_are = w.left_is.count ∙ sym (remaining_count (routed day (stops day + 1) []) (stops day))
 
-  -- and the stops left out
-  module _ {now : List ℕ} {end : ℕ} (l : LeavesAll part words m now end) where
-    pub plan_size : end ≡ length (greedy_plan day)
+  -- and the stops left out, in the part that is left
+  module _ {lent : List ℕ} {end : ℕ} (l : LeavesAll (take (length part - words) (drop words part)) m lent end) where
+    abbrev now : List ℕ
+    now = put_mid words (length part - words) part lent
+
+    pub plan_size : words + end ≡ length (greedy_plan day)
     plan_size = (plan_words_lem w l).count
 
-    pub plan_filled : {n : ℕ} {after : List ℕ} → n ≡ stops day → end ≤ words + ones_of m.words
-        → after ≡ (take end now ++ replicate (5 * n - end) 0) ++ drop (5 * n) now → after ≡ planned day (greedy_plan day) p
+    pub plan_filled : {n : ℕ} {after : List ℕ} → n ≡ stops day → end ≤ ones_of m.words
+        → after ≡ (take (words + end) now ++ replicate (5 * n - (words + end)) 0) ++ drop (5 * n) now → after ≡ planned day (greedy_plan day) p
     plan_filled {n} e most x =
         filled day (5 * n) (plan_words_lem w l) (ap (λ (k : ℕ). 5 * k) e) (omega (arith, most, w.left_is.count, w.room)) x
 

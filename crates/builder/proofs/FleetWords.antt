@@ -7,7 +7,7 @@ use mathlib.Core.Bool.{and-true}
 use mathlib.Core.List.{List, [], ◌∷◌, ◌++◌, map, append_assoc, append-nil}
 use native.Mathlib.Omega.{arith}
 use native.Mathlib.Numerals.{add-one}
-use lib.ListN.{length, take, drop, length-append, length-drop, length-map}
+use lib.ListN.{length, take, drop, length-append, length-map}
 use borrow.Rule.Slice.PartMut.{put_mid}
 use Rattle.rules.specs.Lists.{mem, unmet}
 use Rattle.rules.specs.Fields.{stops}
@@ -15,12 +15,11 @@ use Rattle.rules.specs.PlanWords.{Word, back}
 use Rattle.rules.specs.Plan.{Round, word_for}
 use Rattle.rules.specs.Build.{one_vehicle, greedy_rounds, routed}
 use Rattle.laws.specs.Marks.{marked, ones_of, up_to}
-use Rattle.laws.proofs.Buffer.{rest_whole}
 use Rattle.laws.proofs.Lists.{unmet_nil}
 use Rattle.marks.specs.declared.Marks.{Marks}
 use Rattle.plan_words.specs.Said.{says, round_said, Said}
 use Rattle.plan_words.proofs.SaidLaws.{said_none, said_count, said_lend, said_same, says_next}
-use Rattle.vehicle_writer.specs.Going.{LeftOf, SomeLeft, WritesOne}
+use Rattle.vehicle_writer.specs.Going.{LeftOf, WritesOne}
 use Rattle.vehicle_writer.specs.declared.writer.Written.{Written}
 use Rattle.greedy_laws.specs.States.{unrouted}
 use Rattle.greedy_laws.proofs.Fleets.{fleet_from, routed_from, from_start, from_none, from_some, vehicle_unmet}

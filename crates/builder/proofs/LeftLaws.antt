@@ -10,13 +10,13 @@ use native.Mathlib.Nat.{eq-or-lt_of_le, eq-zero-or-pos}
 use native.Mathlib.Omega.{arith}
 use lib.ListN.{length, set, length-set}
 use Rattle.rules.specs.Lists.{mem}
-use Rattle.rules.specs.PlanWords.{Word, left, left_word}
+use Rattle.rules.specs.PlanWords.{left, left_word}
 use Rattle.rules.specs.Build.{remaining}
 use Rattle.laws.specs.Marks.{without, ones_of, Lowest, marked, Unmarked}
 use Rattle.laws.proofs.Marks.{without_same, without_other, up_to_low, up_to_out, unmark_words}
 use Rattle.marks.specs.declared.Marks.{Marks}
 use Rattle.plan_words.specs.Said.{Said}
-use Rattle.plan_words.proofs.SaidLaws.{said_put, said_same}
+use Rattle.plan_words.proofs.SaidLaws.{said_none, said_put, said_same}
 use Rattle.plan_words.proofs.WordForms.{left_made}
 use Rattle.greedy_laws.specs.States.{unrouted}
 use Rattle.laws.proofs.Decided.{known}
@@ -62,28 +62,23 @@ listed_unrouted n taken k (suc r) l h =
     ]
 
 -- none of the words is written yet
-leaving_none : (n : ℕ) (taken : List ℕ) {what : List Word} {p part : List ℕ} {at : ℕ} {m : Marks}
-    → marked m.words ≡ unrouted n taken → Said what p part at → Leaving n what p (marked m.words) part at m
+leaving_none : (n : ℕ) (taken : List ℕ) {p : List ℕ} {m : Marks} → marked m.words ≡ unrouted n taken → Leaving n p (marked m.words) p 0 m
 unfolding unrouted
-leaving_none n taken {what} {p} {part} {at} {m} e s = record {
+leaving_none n taken {p} {m} e = record {
   written = [];
-  text = said_same s (sym (append-nil what)) refl;
+  text = said_none p;
   whole = refl;
   low = ap (λ (q : ℕ → Bool). q 0) e ∙ rw (up_to_low n) refl;
   high = λ j l. ap (λ (q : ℕ → Bool). q j) e ∙ rw (up_to_out n j l) refl;
 }
 
 -- the word of the lowest marked stop is written, and its mark taken off
-leaving_next : {n : ℕ} {what : List Word} {p part : List ℕ} {all : ℕ → Bool} {at : ℕ} {m : Marks} (k word : ℕ) (after : Marks)
-    → Leaving n what p all part at m → Lowest (marked m.words) 256 k → k < 256 → word ≡ left_word k → at < length part
-    → Unmarked m.words k after.words → Leaving n what p all (set part at word) (at + 1) after
-leaving_next {n} {what} {p} {part} {all} {at} {m} k word after g lowest few e space u = record {
+leaving_next : {n : ℕ} {p part : List ℕ} {all : ℕ → Bool} {at : ℕ} {m : Marks} (k word : ℕ) (after : Marks)
+    → Leaving n p all part at m → Lowest (marked m.words) 256 k → k < 256 → word ≡ left_word k → at < length part
+    → Unmarked m.words k after.words → Leaving n p all (set part at word) (at + 1) after
+leaving_next {n} {p} {part} {all} {at} {m} k word after g lowest few e space u = record {
   written = g.written ++ (k ∷ []);
-  text =
-      said_same (said_put g.text word (left_made k few e) space)
-      (append_assoc what (map left g.written) (left k ∷ [])
-      ∙ ap (λ (ws : List Word). what ++ ws) (sym (map-append left g.written (k ∷ []))))
-      refl;
+  text = said_same (said_put g.text word (left_made k few e) space) (sym (map-append left g.written (k ∷ []))) refl;
   whole =
       append_assoc g.written (k ∷ []) (listed (marked after.words) 1 n)
       ∙ ap (λ (ks : List ℕ). g.written ++ ks)
@@ -112,12 +107,12 @@ leaving_next {n} {what} {p} {part} {all} {at} {m} k word after g lowest few e sp
     ]
 
 -- no mark is left, and the words of all stops that remain are written
-leaving_end : (n : ℕ) (taken : List ℕ) (first : Marks) {what : List Word} {p part : List ℕ} {at : ℕ} {m : Marks}
+leaving_end : (n : ℕ) (taken : List ℕ) (first : Marks) {p part : List ℕ} {at : ℕ} {m : Marks}
     → n < 256 → marked first.words ≡ unrouted n taken
-    → Leaving n what p (marked first.words) part at m → ((j : ℕ) → marked m.words j ≡ false)
-    → Said (what ++ map left (remaining taken 1 n)) p part at
-leaving_end n taken first {what} {p} {part} {at} {m} few e g none =
-    said_same g.text (ap (λ (ks : List ℕ). what ++ map left ks) written) refl
+    → Leaving n p (marked first.words) part at m → ((j : ℕ) → marked m.words j ≡ false)
+    → Said (map left (remaining taken 1 n)) p part at
+leaving_end n taken first {p} {part} {at} {m} few e g none =
+    said_same g.text (ap (map left) written) refl
   where
     done : listed (marked m.words) 1 n ≡ []
     done = listed_none (marked m.words) 1 n (λ j l. none j)
@@ -131,16 +126,16 @@ leaving_end n taken first {what} {p} {part} {at} {m} few e g none =
         ∙ listed_unrouted n taken 1 n (omega arith) (omega arith)
 
 -- a turn of the loop: part was old at first, and first were the marks
-pub record Turn (old : List ℕ) (from : ℕ) (first : Marks) (part : List ℕ) (m : Marks) (at : ℕ) : Type 0 where
-  pub leaves : LeavesOn old from first part at m
-  pub count : at + ones_of m.words ≡ from + ones_of first.words
+pub record Turn (old : List ℕ) (first : Marks) (part : List ℕ) (m : Marks) (at : ℕ) : Type 0 where
+  pub leaves : LeavesOn old first part at m
+  pub count : at + ones_of m.words ≡ ones_of first.words
   pub size : length part ≡ length old
-  pub room : from + ones_of first.words ≤ length old
+  pub room : ones_of first.words ≤ length old
 
-pub turn_first : {part : List ℕ} {from : ℕ} (m : Marks) → from + ones_of m.words ≤ length part → Turn part from m part m from
-turn_first m room = record { leaves = λ n taken what p few e s. leaving_none n taken e s; count = refl; size = refl; room = room }
+pub turn_first : {part : List ℕ} (m : Marks) → ones_of m.words ≤ length part → Turn part m part m 0
+turn_first m room = record { leaves = λ n taken few e. leaving_none n taken e; count = omega arith; size = refl; room = room }
 
-module _ {old : List ℕ} {from : ℕ} {first : Marks} {part : List ℕ} {m : Marks} {at : ℕ} (t : Turn old from first part m at) where
+module _ {old : List ℕ} {first : Marks} {part : List ℕ} {m : Marks} {at : ℕ} (t : Turn old first part m at) where
   -- stop k is the lowest that is still marked, so there is room for its word
   module _ {k : ℕ} (low : (k < 256) × Lowest (marked m.words) 256 k) where
     pub turn_marked : marked m.words k ≡ true
@@ -149,14 +144,14 @@ module _ {old : List ℕ} {from : ℕ} {first : Marks} {part : List ℕ} {m : Ma
     pub turn_space : at < length part
     turn_space = omega (arith, t.size, t.count, t.room, (unmark_words m.words k turn_marked).count)
 
-    pub turn_next : {word : ℕ} (after : Marks) → word ≡ left_word k → Unmarked m.words k after.words → Turn old from first (set part at word) after (at + 1)
+    pub turn_next : {word : ℕ} (after : Marks) → word ≡ left_word k → Unmarked m.words k after.words → Turn old first (set part at word) after (at + 1)
     turn_next {word} after e u =
         record {
-          leaves = λ n taken what p h q s. leaving_next k word after (t.leaves n taken what p h q s) low.1 low.0 e turn_space u;
+          leaves = λ n taken h q. leaving_next k word after (t.leaves n taken h q) low.1 low.0 e turn_space u;
           count = omega (arith, t.count, u.count);
           size = length-set part at word ∙ t.size;
           room = t.room;
         }
 
-  pub turn_last : ((j : ℕ) → marked m.words j ≡ false) → LeavesAll old from first part at
-  turn_last none = λ n taken what p few e s. leaving_end n taken first few e (t.leaves n taken what p few e s) none
+  pub turn_last : ((j : ℕ) → marked m.words j ≡ false) → LeavesAll old first part at
+  turn_last none = λ n taken few e. leaving_end n taken first few e (t.leaves n taken few e) none

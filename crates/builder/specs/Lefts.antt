@@ -1,6 +1,6 @@
 -- The words of the stops that no vehicle routes while they are written, by what they say. It serves the contracts of this crate's own functions. Assumes nothing.
 use Rattle.std.specs.Prelude.{ℕ, zero, suc, ◌<◌, ◌≡◌, Bool, false, List, [], ◌∷◌, ◌++◌, map, if◌then◌else◌}
-use Rattle.rules.specs.PlanWords.{Word, left}
+use Rattle.rules.specs.PlanWords.{left}
 use Rattle.rules.specs.Build.{remaining}
 use Rattle.laws.specs.Marks.{marked}
 use Rattle.marks.specs.declared.Marks.{Marks}
@@ -12,23 +12,20 @@ unfoldable pub listed : (ℕ → Bool) → ℕ → ℕ → List ℕ
 listed m k zero = []
 listed m k (suc r) = if m k then k ∷ listed m (suc k) r else listed m (suc k) r
 
--- behind what is said already the first marked stops are said, and the marks are those of the others; all were the marks at first, and p
--- the part
-pub record Leaving (n : ℕ) (what : List Word) (p : List ℕ) (all : ℕ → Bool) (part : List ℕ) (at : ℕ) (m : Marks) : Type 0 where
+-- the first marked stops are said at the front of the part, which was p, and the marks are those of the others; all were the marks at first
+pub record Leaving (n : ℕ) (p : List ℕ) (all : ℕ → Bool) (part : List ℕ) (at : ℕ) (m : Marks) : Type 0 where
   pub written : List ℕ
-  pub text : Said (what ++ map left written) p part at
+  pub text : Said (map left written) p part at
   pub whole : written ++ listed (marked m.words) 1 n ≡ listed all 1 n
   pub low : marked m.words 0 ≡ false
   pub high : (j : ℕ) → n < j → marked m.words j ≡ false
 
--- the stops still to be routed are said behind what stood at the front of the part
-abbrev pub LeavesAll : List ℕ → ℕ → Marks → List ℕ → ℕ → Type 0
-LeavesAll part from m now end =
-    (n : ℕ) (taken : List ℕ) (what : List Word) (p : List ℕ) → n < 256 → marked m.words ≡ unrouted n taken → Said what p part from
-    → Said (what ++ map left (remaining taken 1 n)) p now end
+-- the stops still to be routed are said at the front of the part
+abbrev pub LeavesAll : List ℕ → Marks → List ℕ → ℕ → Type 0
+LeavesAll part m now end =
+    (n : ℕ) (taken : List ℕ) → n < 256 → marked m.words ≡ unrouted n taken → Said (map left (remaining taken 1 n)) part now end
 
--- each part that stood so at first, now stands so
-abbrev pub LeavesOn : List ℕ → ℕ → Marks → List ℕ → ℕ → Marks → Type 0
-LeavesOn part from first now at m =
-    (n : ℕ) (taken : List ℕ) (what : List Word) (p : List ℕ) → n < 256 → marked first.words ≡ unrouted n taken → Said what p part from
-    → Leaving n what p (marked first.words) now at m
+-- the part, which stood so at first, now stands so
+abbrev pub LeavesOn : List ℕ → Marks → List ℕ → ℕ → Marks → Type 0
+LeavesOn part first now at m =
+    (n : ℕ) (taken : List ℕ) → n < 256 → marked first.words ≡ unrouted n taken → Leaving n part (marked first.words) now at m

@@ -19,7 +19,8 @@ fn write_plan(day: &Day, plan: &mut [u32]) -> Written
     ensures text { plan.new ≡ planned day.now (greedy_plan day.now) plan.old }
 {
     let vehicles = write_vehicles(day, plan);
-    let words = write_lefts(vehicles.left, plan, vehicles.words);
+    let lefts = write_lefts(vehicles.left, &mut plan[vehicles.words..]);
+    let words = vehicles.words + lefts;
     fill_zeros(plan, words, 5 * day.stops());
     Written { words, ..vehicles }
 }

@@ -6,15 +6,14 @@ ghost use Rattle.builder.specs.Lefts.{LeavesAll};
 use marks::Marks;
 use plan_words::left_word;
 
-// The F words of the stops still to be routed, rising, from place `from` on; how many words there are then. The place goes with the buffer:
-// the count handed back is of the whole plan.
-pub(crate) fn write_lefts(left: Marks, part: &mut [u32], from: usize) -> usize
-    requires { from + ones_of left.words ≤ length part.old }
-    ensures count { result ≤ from + ones_of left.words }
-    ensures text { LeavesAll part.old from left part.new result }
+// The F words of the stops still to be routed, rising, at the front of the part; how many words there are.
+pub(crate) fn write_lefts(left: Marks, part: &mut [u32]) -> usize
+    requires { ones_of left.words ≤ length part.old }
+    ensures count { result ≤ ones_of left.words }
+    ensures text { LeavesAll part.old left part.new result }
 {
     let mut others = left;
-    let mut at = from;
+    let mut at = 0;
     // An `impl Iterator for Marks` would need `lowest` and `unmark` as its `next`, with a ghost list of what is left and its laws, for this one
     // loop: the two loops of `next_task` go over one word, for speed, and `fleet` lets a whole vehicle take its stops.
     while let Some(stop) = others.lowest() {
