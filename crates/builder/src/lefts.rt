@@ -24,7 +24,8 @@ pub(crate) fn write_lefts(left: Marks, part: &mut [u32]) -> usize
     at
 }
 
-// Zeros from place `from` up to place `to`.
+// Zeros from place `from` up to place `to`. It takes the whole buffer, of which its contract speaks as both callers hand it on. With `fill`
+// in the callers each would need a law of its own, from the part that was lent to the whole: tried, and no plainer.
 pub fn fill_zeros(part: &mut [u32], from: usize, to: usize)
     requires { (from ≤ to) × (to ≤ length part.old) }
     ensures { part.new ≡ take from part.old ++ replicate (to - from) 0 ++ drop to part.old }
