@@ -1,7 +1,7 @@
-// The words of a plan, made and told apart. No other crate knows where kind and number stand in a word.
+// The words of a plan, made and taken apart. A word is taken apart here alone; the trials make words by adding a number to the first of its kind.
 #![tactic(auto)]
 
-ghost use Rattle.std.specs.Prelude.{◌≡◌, ◌<◌, ◌==◌};
+ghost use Rattle.std.specs.Prelude.{◌≡◌, ◌<◌};
 ghost use Rattle.rules.specs.PlanWords.{number_of, vehicle_word, stop_word, tip_word, rest_word, back_word, left_word, word_of};
 ghost use Rattle.plan_words.specs.Indexes.{IndexFrom};
 ghost use Rattle.plan_words.specs.Reading.{meaning};
