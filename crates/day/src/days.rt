@@ -2,7 +2,7 @@
 // a day as the list of its words.
 ghost use Rattle.std.specs.Prelude.{◌≡◌, ◌+◌, ◌*◌, ◌<◌, ◌≤◌, length, List, ℕ};
 ghost use Rattle.rules.specs.DayFile.{lone_number, window_opening, window_closing, words_of};
-ghost use Rattle.rules.specs.Fields.{word_at, tips, stops, places, stop_place, load_limit, day_limit, stop_limit, rest_opening, rest_closing, rest_minutes, service, quantity};
+ghost use Rattle.rules.specs.Fields.{word_at, tips, stops, places, stop_place, load_limit, day_limit, stop_limit, rest_opening, rest_closing, rest_minutes, service, quantity, leg_index};
 ghost use Rattle.day.specs.Layout.{LayoutOf, WindowOf, LegOf, VisitOf};
 
 use crate::fields::{Layout, Leg, Visit, Window, layout_of};
@@ -86,7 +86,8 @@ impl<'a> Day<'a> {
         self.layout.places
     }
 
-    // The place of a stop.
+    // The place of a stop. That a stop's or a tip's number is in range stays a clause, here and in some forty contracts more: it names a day, and
+    // a type of such numbers would carry the day to all that only count.
     pub fn stop_place(&self, stop: usize) -> usize
         requires { stop ≤ stops self.now }
         ensures { result ≡ stop_place self.now stop }
@@ -191,12 +192,21 @@ impl<'a> Day<'a> {
         }
     }
 
+    // Where the leg from place p to place q stands among the words.
+    pub fn leg_index(&self, p: usize, q: usize) -> usize
+        requires { (p < places self.now) × (q < places self.now) }
+        ensures at { result ≡ leg_index (tips self.now) (stops self.now) p q }
+        ensures inside { result < length self.now }
+    {
+        self.layout.legs + p * self.layout.places + q
+    }
+
     // The leg from place p to place q: its minutes in bits 27-16, its distance in bits 15-0.
     pub fn leg(&self, p: usize, q: usize) -> Leg
         requires { (p < places self.now) × (q < places self.now) }
         ensures { LegOf self.now p q result }
     {
-        let word = self.words[self.layout.legs + p * self.layout.places + q];
+        let word = self.words[self.leg_index(p, q)];
         Leg {
             minutes: word / 0x10000 % 0x1000,
             distance: word % 0x10000,

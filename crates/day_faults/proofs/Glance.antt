@@ -59,7 +59,7 @@ module _ (day : List ℕ) (from : ℕ) (long : length day ≡ words_of (tips day
   row_passes zero to e = ap (λ (k : ℕ). judged_from day (row_at day from + k)) (omega arith)
   row_passes (suc m) to e =
       let next : row_at day from + to + 1 ≡ row_at day from + (to + 1) = omega arith in
-      leg_judged day day from to (row_at day from) (Ok tt) (Ok tt) (sym (leg_right to (omega arith))) refl refl refl long h (omega arith)
+      leg_judged day day from to (row_at day from + to) (Ok tt) (Ok tt) (sym (leg_right to (omega arith))) refl refl refl long h (omega arith)
       ∙ ap (judged_from day) next ∙ row_passes m (to + 1) (omega arith)
 
   all_pass : judged_from day (row_at day from) ≡ judged_from day (row_at day (from + 1))
@@ -67,8 +67,9 @@ module _ (day : List ℕ) (from : ℕ) (long : length day ≡ words_of (tips day
       let first : row_at day from ≡ row_at day from + 0 = omega arith in
       ap (judged_from day) first ∙ row_passes (places day) 0 (omega arith) ∙ ap (judged_from day) (row_next day from)
 
-pub glance_passes : (day words : List ℕ) (from start wide : ℕ) → RowRight (take (start + wide - start) (drop start words)) from → start ≡ row_at day from → wide ≡ places day
+pub glance_passes : (day words : List ℕ) (from start wide : ℕ) → RowRight (take (start + wide - start) (drop start words)) from → start ≡ row_at day from + 0 → wide ≡ places day
     → words ≡ day → length day ≡ words_of (tips day) (stops day) → from < places day → judged_from day (row_at day from) ≡ judged_from day (row_at day (from + 1))
 glance_passes day words from start wide right e q same long h =
+    let begin : start ≡ row_at day from = omega (arith, e) in
     let row : start + wide - start ≡ places day = omega (arith, q) in
-    all_pass day from long h (rw (row, e, same) at right)
+    all_pass day from long h (rw (row, begin, same) at right)

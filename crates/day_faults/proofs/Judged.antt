@@ -47,14 +47,14 @@ pub row_next : (day : List ℕ) (from : ℕ) → row_at day from + places day �
 row_next day from = rw add-one (omega (arith, suc-mul from (places day)))
 
 -- one leg
-pub leg_judged : (day words : List ℕ) (from to start : ℕ) (tested : Result (Unit {0}) DayFault) (result : Result (Unit {0}) Fault)
-    → number_of_fault day_fault_number tested ≡ fault_of (if eqb from to then stay else leg) (get_or words (start + to) 0)
-    → MatchResult tested (λ _. result ≡ Ok tt) (λ fault. result ≡ Err (record { fault = fault; place = start + to }))
-    → start ≡ row_at day from → words ≡ day → length day ≡ words_of (tips day) (stops day) → from < places day → to < places day
+pub leg_judged : (day words : List ℕ) (from to place : ℕ) (tested : Result (Unit {0}) DayFault) (result : Result (Unit {0}) Fault)
+    → number_of_fault day_fault_number tested ≡ fault_of (if eqb from to then stay else leg) (get_or words place 0)
+    → MatchResult tested (λ _. result ≡ Ok tt) (λ fault. result ≡ Err (record { fault = fault; place = place }))
+    → place ≡ row_at day from + to → words ≡ day → length day ≡ words_of (tips day) (stops day) → from < places day → to < places day
     → judged_from day (row_at day from + to) ≡ judged_after day (row_at day from + to + 1) result
-leg_judged day words from to start tested result et er e same long h g =
-    let form : form_of day (start + to) ≡ (if eqb from to then stay else leg) = ap (λ (i : ℕ). form_of day (i + to)) e ∙ leg_form_lem (tips day) (stops day) from to g in
-    rw e at (word_judged day words (start + to) (if eqb from to then stay else leg) tested result same long (omega (arith, long, row_inside day day from refl long h)) form et er)
+leg_judged day words from to place tested result et er e same long h g =
+    let form : form_of day place ≡ (if eqb from to then stay else leg) = ap (form_of day) e ∙ leg_form_lem (tips day) (stops day) from to g in
+    rw e at (word_judged day words place (if eqb from to then stay else leg) tested result same long (omega (arith, long, e, row_inside day day from refl long h)) form et er)
 
 -- the end of the words
 pub end_judged : (day : List ℕ) → judged_from day (length day) ≡ given (stops day ∷ tips day ∷ [])

@@ -27,20 +27,12 @@ fn row_right(row: &[u32], own: usize) -> bool
     all_legs(row) && row[own] == 0x9000_0000
 }
 
-// Where the legs from a place begin.
-fn row_start(day: &Day, from: usize) -> usize
-    requires { from < places day.now }
-    ensures { result ≡ row_at day.now from }
-{
-    7 + 2 * day.tips() + 3 * day.stops() + from * day.places()
-}
-
 // The leg from one place to another, or to itself.
 fn check_leg(day: &Day, from: usize, to: usize) -> Result<(), Fault>
     requires { (from < places day.now) × (to < places day.now) }
     ensures { judged_from day.now (row_at day.now from + to) ≡ judged_after day.now (row_at day.now from + to + 1) result }
 {
-    let at = row_start(day, from) + to;
+    let at = day.leg_index(from, to);
     placed(test_leg(day.words()[at], from == to), at)
 }
 
@@ -61,7 +53,7 @@ pub fn check_legs(day: &Day) -> Result<(), Fault>
 {
     let words = day.words();
     for from in 0..day.places() {
-        let start = row_start(day, from);
+        let start = day.leg_index(from, 0);
         let end = start + day.places();
         if !row_right(&words[start..end], from) {
             check_row(day, from)?;

@@ -3,26 +3,25 @@ ghost use Rattle.std.specs.Prelude.{◌≡◌, ◌+◌, ◌*◌, ◌<◌};
 ghost use Rattle.rules.specs.DayFile.{lone, window, tips_end, legs_at, words_of};
 ghost use Rattle.rules.specs.Fields.{tips, stops};
 ghost use Rattle.day_faults.specs.Judging.{judged_from, judged_after, form_of};
+ghost use Rattle.day_faults.specs.Kinds.{kind_number};
 
 use crate::faults::{Fault, placed};
-use crate::words::{test_number, test_window};
+use crate::words::{Kind, test_number, test_window};
 use day::days::Day;
 
 // The lone number at an index.
-fn check_number(day: &Day, at: usize, kind: u32, least: u32, most: u32) -> Result<(), Fault>
+fn check_number(day: &Day, at: usize, kind: Kind, least: u32, most: u32) -> Result<(), Fault>
     requires inside { at < words_of (tips day.now) (stops day.now) }
-    requires kinds { kind < 16 }
-    requires form { form_of day.now at ≡ lone kind least most }
+    requires form { form_of day.now at ≡ lone (kind_number kind) least most }
     ensures { judged_from day.now at ≡ judged_after day.now (at + 1) result }
 {
     placed(test_number(day.words()[at], kind, least, most), at)
 }
 
 // The window at an index.
-fn check_window(day: &Day, at: usize, kind: u32) -> Result<(), Fault>
+fn check_window(day: &Day, at: usize, kind: Kind) -> Result<(), Fault>
     requires inside { at < words_of (tips day.now) (stops day.now) }
-    requires kinds { kind < 16 }
-    requires form { form_of day.now at ≡ window kind }
+    requires form { form_of day.now at ≡ window (kind_number kind) }
     ensures { judged_from day.now at ≡ judged_after day.now (at + 1) result }
 {
     placed(test_window(day.words()[at], kind), at)
@@ -33,12 +32,12 @@ fn check_window(day: &Day, at: usize, kind: u32) -> Result<(), Fault>
 pub fn check_head(day: &Day) -> Result<(), Fault>
     ensures { judged_from day.now 1 ≡ judged_after day.now 7 result }
 {
-    check_number(day, 1, 2, 1, 100_000)?;
-    check_number(day, 2, 3, 1, 1_000_000)?;
-    check_number(day, 3, 4, 1, 240)?;
-    check_window(day, 4, 5)?;
-    check_window(day, 5, 6)?;
-    check_number(day, 6, 7, 0, 240)
+    check_number(day, 1, Kind::Load, 1, 100_000)?;
+    check_number(day, 2, Kind::DayKg, 1, 1_000_000)?;
+    check_number(day, 3, Kind::Stops, 1, 240)?;
+    check_window(day, 4, Kind::Window)?;
+    check_window(day, 5, Kind::Rest)?;
+    check_number(day, 6, Kind::Minutes, 0, 240)
 }
 
 // The two words of every tip: its window, its service minutes.
@@ -47,8 +46,8 @@ pub fn check_tips(day: &Day) -> Result<(), Fault>
 {
     for tip in 0..day.tips() {
         let at = 7 + 2 * tip;
-        check_window(day, at, 5)?;
-        check_number(day, at + 1, 7, 0, 240)?;
+        check_window(day, at, Kind::Window)?;
+        check_number(day, at + 1, Kind::Minutes, 0, 240)?;
     }
     Ok(())
 }
@@ -59,9 +58,9 @@ pub fn check_stops(day: &Day) -> Result<(), Fault>
 {
     for stop in 0..day.stops() {
         let at = 7 + 2 * day.tips() + 3 * stop;
-        check_window(day, at, 5)?;
-        check_number(day, at + 1, 7, 0, 240)?;
-        check_number(day, at + 2, 8, 0, 100_000)?;
+        check_window(day, at, Kind::Window)?;
+        check_number(day, at + 1, Kind::Minutes, 0, 240)?;
+        check_number(day, at + 2, Kind::Quantity, 0, 100_000)?;
     }
     Ok(())
 }

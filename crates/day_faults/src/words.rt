@@ -4,8 +4,22 @@
 ghost use Rattle.std.specs.Prelude.{◌≡◌, ◌<◌, if◌then◌else◌};
 ghost use Rattle.rules.specs.DayFile.{lone, window, leg, stay, fault_of};
 ghost use Rattle.rules.specs.Faults.{day_fault_number, number_of_fault};
+ghost use Rattle.day_faults.specs.Kinds.{kind_number};
 
 use rules::faults::DayFault;
+
+// What a word of a day holds, bits 31-28 of it. A leg's kind is among them; that of word 0 is the judge's.
+#[derive(Clone, Copy)]
+pub(crate) enum Kind {
+    Load = 2,
+    DayKg = 3,
+    Stops = 4,
+    Window = 5,
+    Rest = 6,
+    Minutes = 7,
+    Quantity = 8,
+    Leg = 9,
+}
 
 // The form is looked at before the value.
 fn tested(form_right: bool, value_right: bool) -> Result<(), DayFault>
@@ -21,26 +35,24 @@ fn tested(form_right: bool, value_right: bool) -> Result<(), DayFault>
 }
 
 // A lone number: its kind in bits 31-28, bit 27 zero, its value in bits 26-0.
-pub(crate) fn test_number(word: u32, kind: u32, least: u32, most: u32) -> Result<(), DayFault>
-    requires { kind < 16 }
-    ensures { number_of_fault day_fault_number result ≡ fault_of (lone kind least most) word }
+pub(crate) fn test_number(word: u32, kind: Kind, least: u32, most: u32) -> Result<(), DayFault>
+    ensures { number_of_fault day_fault_number result ≡ fault_of (lone (kind_number kind) least most) word }
 {
     let value = word % 0x8000000;
     tested(
-        word / 0x8000000 == 2 * kind,
+        word / 0x8000000 == 2 * (kind as u32),
         (least..=most).contains(&value),
     )
 }
 
 // A window: its kind in bits 31-28, bits 27-24 zero, its opening in bits 23-12, its closing in bits 11-0.
-pub(crate) fn test_window(word: u32, kind: u32) -> Result<(), DayFault>
-    requires { kind < 16 }
-    ensures { number_of_fault day_fault_number result ≡ fault_of (window kind) word }
+pub(crate) fn test_window(word: u32, kind: Kind) -> Result<(), DayFault>
+    ensures { number_of_fault day_fault_number result ≡ fault_of (window (kind_number kind)) word }
 {
     let opening = word / 0x1000 % 0x1000;
     let closing = word % 0x1000;
     tested(
-        word / 0x1000000 == 0x10 * kind,
+        word / 0x1000000 == 0x10 * (kind as u32),
         (opening..=1440).contains(&closing),
     )
 }
@@ -54,5 +66,5 @@ pub(crate) fn test_leg(word: u32, to_itself: bool) -> Result<(), DayFault>
     } else {
         word / 0x10000 % 0x1000 <= 1440
     };
-    tested(word / 0x10000000 == 9, value_right)
+    tested(word / 0x10000000 == Kind::Leg as u32, value_right)
 }
