@@ -26,8 +26,8 @@ impl Marks {
         ensures count { ones_of result.words ≡ n }
     {
         let mut marks = Marks::none();
-        for k in 0..n {
-            marks = marks.mark(k + 1);
+        for k in 1..=n {
+            marks = marks.mark(k);
         }
         marks
     }

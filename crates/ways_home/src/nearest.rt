@@ -48,8 +48,8 @@ pub fn nearest_of_first(day: &Day, place: usize, minute: u32, count: usize) -> B
         number: 0,
         key: NO_KEY,
     };
-    for k in 0..count {
-        best = better_tip(day, place, minute, k + 1, best);
+    for tip in 1..=count {
+        best = better_tip(day, place, minute, tip, best);
     }
     best
 }
