@@ -7,7 +7,7 @@ ghost use Rattle.solomon_words.specs.Table.{Begins};
 ghost use Rattle.solomon_words.specs.Instances.{number_in, stops_in, word_at, row_at, LegAsked};
 
 use crate::Instance;
-use crate::words::{ACROSS, UPWARD};
+use crate::words::{ACROSS, LEG, UPWARD};
 
 // How far two customers are apart.
 #[derive(Clone, Copy)]
@@ -38,7 +38,7 @@ impl Apart {
     {
         let sum = self.sum_of_squares();
         let distance = roots::root_of(100 * sum, self.near_root());
-        0x90000000 + (0x10000 * (distance / 10) + distance)
+        LEG + (0x10000 * (distance / 10) + distance)
     }
 }
 

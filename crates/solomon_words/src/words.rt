@@ -7,7 +7,8 @@ ghost use Rattle.solomon_words.specs.Instances.{number_in, stops_in, word_at};
 
 use crate::Instance;
 
-// The fields of a customer that the day asks for.
+// The fields of a customer that the day asks for. A customer stays an array of seven numbers, and is no struct: the text's fields are
+// numbered in the definitions, and `number_of`, which reads them, reads any.
 pub const ACROSS: usize = 1;
 
 pub const UPWARD: usize = 2;
@@ -19,6 +20,25 @@ const OPENS: usize = 4;
 const CLOSES: usize = 5;
 
 const SERVICE: usize = 6;
+
+// The kinds of the day's words, in bits 31-28.
+const COUNTS: u32 = 0x10000000;
+
+const LOAD: u32 = 0x20000000;
+
+const DAY_KG: u32 = 0x30000000;
+
+const STOPS: u32 = 0x40000000;
+
+const WINDOW: u32 = 0x50000000;
+
+const REST: u32 = 0x60000000;
+
+const MINUTES: u32 = 0x70000000;
+
+const QUANTITY: u32 = 0x80000000;
+
+pub const LEG: u32 = 0x90000000;
 
 impl<'a> Instance<'a> {
     // Field i of customer k.
@@ -33,7 +53,7 @@ impl<'a> Instance<'a> {
         requires { k ≤ stops_in self.now }
         ensures { result ≡ hours_word (number_in self.now) k }
     {
-        0x50000000 + (0x1000 * self.number(k, OPENS) + self.number(k, CLOSES))
+        WINDOW + (0x1000 * self.number(k, OPENS) + self.number(k, CLOSES))
     }
 
     #[tactic(auto, unfolding(rules::specs::SolomonDay::head_word))]
@@ -41,13 +61,13 @@ impl<'a> Instance<'a> {
         ensures { result ≡ head_word (number_in self.now) self.now.load (stops_in self.now) i }
     {
         match i {
-            0 => 0x10000000 + (0x100 + self.stops() as u32),
-            1 => 0x20000000 + self.load,
-            2 => 0x30000000 + 1000000,
-            3 => 0x40000000 + 240,
+            0 => COUNTS + (0x100 + self.stops() as u32),
+            1 => LOAD + self.load,
+            2 => DAY_KG + 1000000,
+            3 => STOPS + 240,
             4 => self.hours(0),
-            5 => 0x60000000 + (0x1000 * 1440 + 1440),
-            _ => 0x70000000,
+            5 => REST + (0x1000 * 1440 + 1440),
+            _ => MINUTES,
         }
     }
 
@@ -55,11 +75,7 @@ impl<'a> Instance<'a> {
     fn tip_word(&self, j: usize) -> u32
         ensures { result ≡ tip_word (number_in self.now) j }
     {
-        if j % 2 == 0 {
-            self.hours(0)
-        } else {
-            0x70000000
-        }
+        if j % 2 == 0 { self.hours(0) } else { MINUTES }
     }
 
     #[tactic(auto, unfolding(rules::specs::SolomonDay::stop_word))]
@@ -70,8 +86,8 @@ impl<'a> Instance<'a> {
         let k = 1 + j / 3;
         match j % 3 {
             0 => self.hours(k),
-            1 => 0x70000000 + self.number(k, SERVICE),
-            _ => 0x80000000 + self.number(k, DEMAND),
+            1 => MINUTES + self.number(k, SERVICE),
+            _ => QUANTITY + self.number(k, DEMAND),
         }
     }
 
