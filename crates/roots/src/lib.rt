@@ -19,6 +19,7 @@ fn square(r: u32) -> u64
 }
 
 // The greatest whole number whose square is at most s. Two steps come to it, or next to it, from a guess that is off by a tenth.
+// std's `isqrt` halves sixteen times for each root, and an import asks for a root for each leg: halving was too slow (docs/DECISIONS.md).
 pub fn root_of(s: u32, guess: u32) -> u32
     requires { (s ≤ 1000000000) × (1 ≤ guess) × (guess ≤ 1000000001) }
     ensures { result ≡ root s }

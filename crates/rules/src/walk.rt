@@ -1,6 +1,7 @@
 // What the walk over a plan carries from word to word.
 
-// The plan so far: whether a vehicle is out, how many vehicles, stops served and stops left out there were, the last stop left out
+// The plan so far: whether a vehicle is out (a flag, and no Option of its cargo and trip: the definitions of the check carry those
+// between vehicles too), how many vehicles, stops served and stops left out there were, the last stop left out
 // (0 for none, as in the definitions of the check: no stop has that number), and the distance of the vehicles that are back.
 #[derive(Clone, Copy)]
 pub struct Tally {

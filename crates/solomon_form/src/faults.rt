@@ -1,4 +1,5 @@
 // What is found of one field of a line: nothing, or a fault.
+// Lines and fields stay numbers, j and i: the definitions number them, and a text is read by counting them up.
 // A text and a place stay two parameters: of a struct of them a clause says `self.entry.text.now self.entry.at`, and not `text.now at`.
 ghost use Rattle.std.specs.Prelude.{◌≡◌, ◌≤◌, ◌<◌, if◌then◌else◌};
 ghost use Rattle.rules.specs.TextFields.{number_at};

@@ -69,7 +69,7 @@ fn in_time(day: &Day, trip: Trip, visit: Visit) -> Result<Trip, PlanFault>
     Ok(visited_trip(day, trip, visit))
 }
 
-// To a stop.
+// To a stop. This and the next stay two functions: callers name stops and tips by their own numbers, and each reads its visit with its own.
 pub fn visit_stop(day: &Day, trip: Trip, stop: usize) -> Result<Trip, PlanFault>
     requires { SmallTrip day.now 4294901760 trip × (0 < stop) × (stop ≤ stops day.now) }
     ensures { DrivesTo (visit_fault day.now trip (stop_place day.now stop)) (visited day.now trip (stop_place day.now stop)) result }

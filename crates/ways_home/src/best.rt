@@ -3,7 +3,8 @@ ghost use Rattle.std.specs.Prelude.{◌≡◌, ◌<◌, IfSome};
 ghost use Rattle.rules.specs.Tests.{number_or_none};
 
 // A number from 1 on with its key; number 0 is none, with a key past every other. So one comparison tells whether a key is better, where an
-// Option would be asked first whether there is one.
+// Option would be asked first whether there is one. The promise of the pass over the tips (`CarriedAfter` in promises) speaks of number 0 and of
+// its key too.
 #[derive(Clone, Copy)]
 pub struct Best {
     pub number: usize,
