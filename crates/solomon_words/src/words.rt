@@ -7,8 +7,8 @@ ghost use Rattle.solomon_words.specs.Instances.{number_in, stops_in, word_at};
 
 use crate::Instance;
 
-// The fields of a customer that the day asks for. A customer stays an array of seven numbers, and is no struct: the text's fields are
-// numbered in the definitions, and `number_of`, which reads them, reads any.
+// The fields of a customer that the day asks for. A customer stays an array of seven numbers, and is no struct: the definitions number
+// the text's fields (`customer_number`), and `numbers_at` reads all of a line in one loop.
 pub const ACROSS: usize = 1;
 
 pub const UPWARD: usize = 2;

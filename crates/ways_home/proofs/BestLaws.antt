@@ -1,11 +1,11 @@
 -- Laws of the best so far: how it begins, how it goes on, and what the key that is carried tells. Assumes nothing.
 use Rattle.std.specs.Prelude.{if◌then◌else◌}
-use Prim.Native.Nat.{ℕ, ◌<◌, ◌≤◌}
+use Prim.Native.Nat.{ℕ, ◌<◌}
 use mathlib.Core.Path.{◌≡◌, refl}
 use mathlib.Core.Bool.{Bool, true, false, ◌||◌}
 use native.Mathlib.Omega.{arith}
 use lib.Dec.{ltb, eqb}
-use borrow.Author.Tests.{lt-ltb, ne_eqb}
+use borrow.Author.Tests.{lt-ltb}
 use Rattle.ways_home.specs.Bests.{keys_end, BestBy}
 use Rattle.ways_home.specs.declared.best.Best.{Best}
 
