@@ -3,7 +3,6 @@ ghost use Rattle.std.specs.Prelude.{◌≡◌, ◌≤◌, ◌<◌, ◌*◌, leng
 ghost use Rattle.rules.specs.Fields.{stops, IsAccepted};
 ghost use Rattle.rules.specs.AnswerValues.{plan_values};
 ghost use Rattle.rules.specs.Planned.{few_neighbours, long_enough, search_answer, search_buffer, plan_answer, plan_buffer, growing_answer, growing_buffer, SpareKept};
-ghost use Rattle.search_steps.specs.Searches.{SetsFit};
 ghost use Rattle.planner.specs.WorkedOver.{WorkedOver};
 
 use builder::greedy::build_accepted;
@@ -14,7 +13,7 @@ use trials::improve::improve;
 
 // The greedy plan, worked over in buffers that are long enough.
 fn work_over(day: &Day, set: &Setting, plan: &mut [u32], work: &mut [u32]) -> PlanAnswer
-    requires { IsAccepted day.now × SetsFit set.now.sets.now × (5 * stops day.now ≤ length plan.old) × (5 * stops day.now ≤ length work.old) }
+    requires { IsAccepted day.now × (5 * stops day.now ≤ length plan.old) × (5 * stops day.now ≤ length work.old) }
     ensures { WorkedOver day.now set.now.sets.now set.now.budget plan.old plan.new (plan_values result) }
 {
     match build_accepted(day, plan) {
@@ -56,7 +55,7 @@ fn are_long(day: &Day, room: usize, spare: usize) -> bool
 
 // The answer on an accepted day, for the K that are asked for.
 fn plan_sets(day: &Day, set: &Setting, plan: &mut [u32], work: &mut [u32]) -> PlanAnswer
-    requires { IsAccepted day.now × SetsFit set.now.sets.now }
+    requires { IsAccepted day.now }
     ensures answer { plan_values result ≡ search_answer day.now set.now.sets.now set.now.budget (length plan.old) (length work.old) }
     ensures buffer { plan.new ≡ search_buffer day.now set.now.sets.now set.now.budget (length work.old) plan.old }
     ensures spare { SpareKept (search_answer day.now set.now.sets.now set.now.budget (length plan.old) (length work.old)) work.old work.new }

@@ -4,7 +4,7 @@ ghost use Rattle.rules.specs.Fields.{stops, tips, IsAccepted};
 ghost use Rattle.rules.specs.Build.{greedy_rounds};
 ghost use Rattle.rules.specs.Attempts.{distance_of};
 ghost use Rattle.trial_list.specs.Listing.{PlanTables, CursorFits, ListAnswer};
-ghost use Rattle.search_steps.specs.Searches.{PlanAt, SomePlanAt, TakesOver, BeginsAll, k_at, ended_by, going_on, at_list, next_list};
+ghost use Rattle.search_steps.specs.Searches.{PlanAt, SomePlanAt, SetsFit, TakesOver, BeginsAll, k_at, ended_by, going_on, at_list, next_list};
 
 use crate::held::make_tables;
 use candidates::copy_words;
@@ -17,6 +17,7 @@ use trial_list::listing::{Cursor, Listed, Listing, first_trial, next_trial};
 pub struct Setting<'a> {
     pub sets: &'a [usize],
     pub budget: u64,
+    pub ghost fit: { SetsFit sets.now },
 }
 
 // A search goes on, or it has ended: its budget is spent, or its plan is settled.
@@ -122,7 +123,8 @@ pub fn list_next(
     plan: &[u32],
     s: Search,
 ) -> Listed<Cursor>
-    requires { (s.stage < length set.now.sets.now) × PlanTables (stops day.now) (tips day.now) (k_at set.now.sets.now s.stage) table.now tables.now.starts tables.now.vehicles (take (s.words - 0) (drop 0 plan.now)) s.count × CursorFits tables.now.starts s.count s.cursor × (s.words ≤ length plan.now) }
+    requires at_hand { (s.stage < length set.now.sets.now) × CursorFits tables.now.starts s.count s.cursor × (s.words ≤ length plan.now) }
+    requires held { PlanTables (stops day.now) (tips day.now) (k_at set.now.sets.now s.stage) table.now tables.now.starts tables.now.vehicles (take (s.words - 0) (drop 0 plan.now)) s.count }
     ensures { ListAnswer (stops day.now) (tips day.now) (k_at set.now.sets.now s.stage) table.now tables.now.starts tables.now.vehicles (take (s.words - 0) (drop 0 plan.now)) s.count s.cursor result }
 {
     let listing = Listing {
@@ -140,7 +142,8 @@ pub fn list_next(
 
 // The greedy plan is held; its tables are made, and no trial is made yet.
 pub fn begin(day: &Day, held: Held, plan: &[u32], tables: &mut Tables, work: &mut [u32]) -> Search
-    requires { IsAccepted day.now × PlanAt day.now plan.now held.words (greedy_rounds day.now) × (held.distance ≡ distance_of day.now (greedy_rounds day.now)) × (5 * stops day.now ≤ length work.old) }
+    requires buffers { IsAccepted day.now × (5 * stops day.now ≤ length work.old) }
+    requires plan_at { PlanAt day.now plan.now held.words (greedy_rounds day.now) × (held.distance ≡ distance_of day.now (greedy_rounds day.now)) }
     ensures { BeginsAll day.now plan.now tables.new result }
 {
     let words = held.words;

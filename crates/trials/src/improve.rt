@@ -3,7 +3,7 @@ ghost use Rattle.std.specs.Prelude.{◌≡◌, ◌≤◌, ◌*◌, length};
 ghost use Rattle.rules.specs.Fields.{stops, IsAccepted};
 ghost use Rattle.rules.specs.Build.{greedy_rounds};
 ghost use Rattle.rules.specs.Attempts.{distance_of};
-ghost use Rattle.search_steps.specs.Searches.{PlanAt, SetsFit};
+ghost use Rattle.search_steps.specs.Searches.{PlanAt};
 ghost use Rattle.trials.specs.Improvements.{Improved};
 
 use crate::search::run_trials;
@@ -22,7 +22,8 @@ pub fn improve(
     plan: &mut [u32],
     work: &mut [u32],
 ) -> Search
-    requires { IsAccepted day.now × SetsFit set.now.sets.now × (length plan.old ≡ 5 * stops day.now) × (5 * stops day.now ≤ length work.old) × PlanAt day.now plan.old words (greedy_rounds day.now) × (distance ≡ distance_of day.now (greedy_rounds day.now)) }
+    requires buffers { IsAccepted day.now × (length plan.old ≡ 5 * stops day.now) × (5 * stops day.now ≤ length work.old) }
+    requires plan_at { PlanAt day.now plan.old words (greedy_rounds day.now) × (distance ≡ distance_of day.now (greedy_rounds day.now)) }
     ensures { Improved day.now set.now.sets.now set.now.budget plan.new result }
 {
     let mut table = [0u8; 12050];

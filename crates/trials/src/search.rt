@@ -1,15 +1,11 @@
 // The search: trial after trial, list after list, from the start of the first list again once a plan is kept. The day, what is asked for and
 // the table of neighbours stay three parameters: of a struct of them each clause would say `given.now.day.now`, and not `day.now`.
-ghost use Rattle.std.specs.Prelude.{◌≡◌, true, false, List, ◌+◌, ◌-◌, ◌≤◌, ◌<◌, ◌*◌, ◌^◌, length, take, drop};
+ghost use Rattle.std.specs.Prelude.{◌≡◌, true, false, ◌+◌, ◌≤◌, ◌<◌, ◌*◌, ◌^◌, length};
 ghost use Rattle.rules.specs.Fields.{stops, IsAccepted};
-ghost use Rattle.rules.specs.Plan.{Round};
 ghost use Rattle.rules.specs.Build.{greedy_rounds};
 ghost use Rattle.rules.specs.Attempts.{distance_of};
 ghost use Rattle.neighbours.specs.Tables.{TableOf};
-ghost use Rattle.edits.specs.EditWords.{EditKnown};
-ghost use Rattle.trial_list.specs.TrialRest.{listed_trial};
-ghost use Rattle.attempts.specs.Tries.{Made, SomeMade, TriedAs};
-ghost use Rattle.search_steps.specs.Searches.{PlanAt, NextTrial, Searching, is_going, last_k, SetsFit, StepsTo};
+ghost use Rattle.search_steps.specs.Searches.{PlanAt, NextTrial, Searching, is_going, last_k, StepsTo};
 ghost use Rattle.trials.specs.Improvements.{AfterTrial};
 
 use attempts::tries::make_trial;
@@ -45,22 +41,6 @@ fn after_trial(
     }
 }
 
-// A trial of the plan held is made.
-fn try_next(
-    day: &Day,
-    t: Trial,
-    plan: &[u32],
-    tables: &Tables,
-    s: Search,
-    work: &mut [u32],
-) -> Option<Held>
-    requires { IsAccepted day.now × EditKnown day.now t.edit × SomeMade day.now (take (s.words - 0) (drop 0 plan.now)) tables.now (listed_trial t) s.count s.distance × (5 * stops day.now ≤ length work.old) × (s.words ≤ length plan.now) }
-    ensures { (rounds : List Round) → Made day.now (take (s.words - 0) (drop 0 plan.now)) tables.now (listed_trial t) s.count s.distance rounds → TriedAs day.now (listed_trial t) rounds work.new result }
-{
-    let words = s.words;
-    make_trial(day, t, &plan[0..words], tables, s.count, s.distance, work)
-}
-
 // A trial that is listed is made, and the search goes on behind it. That it can be counted is a clause: a budget that is lent tells no bound.
 fn step_on(
     day: &Day,
@@ -72,10 +52,20 @@ fn step_on(
     trial: Trial,
     next: Cursor,
 ) -> Search
-    requires { IsAccepted day.now × (5 * stops day.now ≤ length work.old) × (5 * stops day.now ≤ length plan.old) × NextTrial day.now set.now.sets.now set.now.budget plan.old tables.old s trial next × (s.made + 1 < 2 ^ 64) }
+    requires buffers { IsAccepted day.now × (5 * stops day.now ≤ length plan.old) × (5 * stops day.now ≤ length work.old) }
+    requires listed { NextTrial day.now set.now.sets.now set.now.budget plan.old tables.old s trial next × (s.made + 1 < 2 ^ 64) }
     ensures { StepsTo day.now set.now.sets.now set.now.budget plan.new tables.new s result }
 {
-    let tried = try_next(day, trial, plan, tables, s, work);
+    let words = s.words;
+    let tried = make_trial(
+        day,
+        trial,
+        &plan[0..words],
+        tables,
+        s.count,
+        s.distance,
+        work,
+    );
     after_trial(day, set, work, plan, tables, s, next, tried)
 }
 
@@ -90,7 +80,7 @@ fn next_step(
     tables: &mut Tables,
     s: Search,
 ) -> Search
-    requires buffers { IsAccepted day.now × SetsFit set.now.sets.now × TableOf day.now (last_k set.now.sets.now) table.now × (5 * stops day.now ≤ length work.old) × (5 * stops day.now ≤ length plan.old) }
+    requires buffers { IsAccepted day.now × TableOf day.now (last_k set.now.sets.now) table.now × (5 * stops day.now ≤ length plan.old) × (5 * stops day.now ≤ length work.old) }
     requires searching { Searching day.now set.now.sets.now set.now.budget plan.old tables.old s × (is_going s.standing ≡ true) }
     ensures { StepsTo day.now set.now.sets.now set.now.budget plan.new tables.new s result }
 {
@@ -114,7 +104,7 @@ pub(crate) fn run_trials(
     plan: &mut [u32],
     tables: &mut Tables,
 ) -> Search
-    requires buffers { IsAccepted day.now × SetsFit set.now.sets.now × TableOf day.now (last_k set.now.sets.now) table.now × (5 * stops day.now ≤ length work.old) × (5 * stops day.now ≤ length plan.old) }
+    requires buffers { IsAccepted day.now × TableOf day.now (last_k set.now.sets.now) table.now × (5 * stops day.now ≤ length plan.old) × (5 * stops day.now ≤ length work.old) }
     requires plan_at { PlanAt day.now plan.old held.words (greedy_rounds day.now) × (held.distance ≡ distance_of day.now (greedy_rounds day.now)) }
     ensures { Searching day.now set.now.sets.now set.now.budget plan.new tables.new result × (is_going result.standing ≡ false) }
 {

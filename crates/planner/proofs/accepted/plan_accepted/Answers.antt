@@ -1,10 +1,9 @@
 -- `planner::accepted::plan_accepted` meets its contract.
 use Rattle.planner.proofs.PlanCalls.{one_fits, outside_answer, outside_buffer, few_answer, few_buffer, few_spare}
-use borrow.Author.Rules.{rules}
 use Rattle.planner.proofs.accepted.plan_accepted.Goals as goal
 
-pub plan_sets-requires : goal.plan_sets-requires
-plan_sets-requires c = (search rules, search one_fits)
+pub invariant_of-one : goal.invariant_of-one
+invariant_of-one c = record { fit = one_fits _ c.is_few.ensures c.if-is_few.true }
 
 pub returns-then-is_few-clause-answer : goal.returns-then-is_few-clause-answer
 returns-then-is_few-clause-answer c = search few_answer

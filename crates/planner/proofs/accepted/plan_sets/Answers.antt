@@ -4,12 +4,12 @@ use mathlib.Core.Path.{refl}
 use Rattle.planner.proofs.accepted.plan_sets.Goals as goal
 
 pub are_long-requires : goal.are_long-requires
-are_long-requires c = few_stops _ refl c.requires.0
+are_long-requires c = few_stops _ refl c.requires
 
 pub work_over-requires : goal.work_over-requires
 work_over-requires c =
     let long = c.are_long.ensures in
-    (c.requires.0, c.requires.1, long_plan c.args.day.now refl _ _ long c.if-are_long.true, long_spare c.args.day.now refl _ _ long c.if-are_long.true)
+    (c.requires, long_plan c.args.day.now refl _ _ long c.if-are_long.true, long_spare c.args.day.now refl _ _ long c.if-are_long.true)
 
 pub returns-then-are_long-clause-answer : goal.returns-then-are_long-clause-answer
 returns-then-are_long-clause-answer c = search worked_answer

@@ -5,7 +5,7 @@ use Rattle.search_steps.proofs.SearchSteps.{is_on, is_off}
 use Rattle.trials.proofs.search.run_trials.Goals as goal
 
 pub loop-work-init : goal.loop-work-init
-loop-work-init c = (c.begin-s.ensures _ _ c.requires.buffers.1.some, refl, refl)
+loop-work-init c = (c.begin-s.ensures _ _ c.args.set.now.fit.some, refl, refl)
 
 pub next_step-s-requires-clause-searching : goal.next_step-s-requires-clause-searching
 next_step-s-requires-clause-searching c = (c.loop-work.invariant.0, is_on (search rules))
