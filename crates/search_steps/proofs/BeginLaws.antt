@@ -13,20 +13,20 @@ use Rattle.trial_list.specs.declared.listing.Cursor.{Cursor}
 use Rattle.trial_list.proofs.ListRests.{start_fits, start_valid}
 use Rattle.search_laws.proofs.Searching.{loop_start}
 use Rattle.tracks.specs.declared.plan_tables.Tables.{Tables}
-use Rattle.search_steps.specs.Searches.{PlanAt, MakesTables, k_at, Searching, going_on}
-use Rattle.search_steps.specs.declared.steps.Search.{Search}
+use Rattle.search_steps.specs.Searches.{PlanAt, MakesTables, k_at, Searching}
+use Rattle.search_steps.specs.declared.steps.Standing.TheVariants as Standings
 use Rattle.search_steps.proofs.SetLaws.{lists_at}
 use Rattle.search_steps.proofs.TakeOverLaws.{taken_over}
 
 -- the greedy plan is held
-pub begins : {day plan : List ℕ} {tables : Tables} {words count distance : ℕ} {first : Cursor} {s : Search} → PlanAt day plan words (greedy_rounds day)
+pub begins : {day plan : List ℕ} {tables : Tables} {words count distance : ℕ} {first : Cursor} → PlanAt day plan words (greedy_rounds day)
     → MakesTables day (take (words - 0) (drop 0 plan)) tables count → distance ≡ distance_of day (greedy_rounds day)
-    → first ≡ list_start → s ≡ going_on words count distance 0 0 first
-    → (Ks : List ℕ) (budget : ℕ) → 0 < length Ks → Searching day Ks budget plan tables s
+    → first ≡ list_start → (Ks : List ℕ) (budget : ℕ) → 0 < length Ks
+    → Searching day Ks budget plan tables (record { words = words; count = count; distance = distance; made = 0; stage = 0; cursor = first; standing = Standings.Going })
 unfolding searched
-begins {day} p f far n e Ks budget some =
+begins {day} p f far n Ks budget some =
     let over = taken_over p f in
-    rw e (record {
+    record {
       rounds = greedy_rounds day;
       held = over;
       drives = far;
@@ -38,4 +38,4 @@ begins {day} p f far n e Ks budget some =
         same = rw (n, lists_at day Ks (greedy_rounds day) 0 some) (loop_start (trial_lists day Ks) (attempt day (greedy_lefts day)) budget (greedy_rounds day));
       };
       done = λ n. absurd (true≢false n);
-    })
+    }

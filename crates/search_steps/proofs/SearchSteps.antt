@@ -27,7 +27,7 @@ use Rattle.trial_list.specs.declared.listing.Trial as Code
 use Rattle.trial_list.proofs.ListRests.{plan_tables, start_fits, start_valid, next_valid, valid_names, Names}
 use Rattle.search_laws.proofs.Searching.{run_nil, run_next, loop_spent}
 use Rattle.tracks.specs.declared.plan_tables.Tables.{Tables}
-use Rattle.search_steps.specs.Searches.{SetsFit, k_at, last_k, Going, is_going, is_settled, Searching, ended_by, at_list, next_list, StepsTo, NextTrial}
+use Rattle.search_steps.specs.Searches.{SetsFit, k_at, last_k, Going, is_going, is_settled, Searching, next_list, StepsTo, NextTrial}
 use Rattle.search_steps.specs.declared.steps.Search.{Search}
 use Rattle.search_steps.specs.declared.steps.Standing.{Standing}
 use Rattle.search_steps.specs.declared.steps.Standing.TheVariants as Standings
@@ -56,7 +56,7 @@ module _ {day Ks : List ℕ} {budget : ℕ} {table plan : List ℕ} {tables : Ta
 
   -- the search ends
   ends : record { plan = h.rounds; trials = s.made; settled = false } ≡ searched day Ks budget
-      → Searching day Ks budget plan tables (ended_by s Standings.Spent)
+      → Searching day Ks budget plan tables (record s { standing = Standings.Spent })
   ends e =
       record { rounds = h.rounds; held = h.held; drives = h.drives; within = h.within; going = λ n. absurd (true≢false (sym n)); done = λ _. e }
 
@@ -78,7 +78,7 @@ module _ {day Ks : List ℕ} {budget : ℕ} {table plan : List ℕ} {tables : Ta
           ∙ rw (lists_past day Ks h.rounds (s.stage + 1) last) at behind
 
       -- else that of the next K begins
-      begins : s.stage + 1 < length Ks → Going day Ks budget tables.starts h.rounds (at_list s (s.stage + 1) list_start Standings.Going)
+      begins : s.stage + 1 < length Ks → Going day Ks budget tables.starts h.rounds (record s { stage = s.stage + 1; cursor = list_start; standing = Standings.Going })
       begins more =
           record {
             staged = more;
@@ -125,11 +125,11 @@ module _ {day Ks : List ℕ} {budget : ℕ} {table plan : List ℕ} {tables : Ta
       next_is_lem = (a.tells held_tables).some m f
 
       -- but the budget is gone
-      pub ends_spent : {r : Search} → s.made ≡ budget → r ≡ ended_by s Standings.Spent → StepsTo day Ks budget plan tables s r
-      ends_spent b e =
+      pub ends_spent : s.made ≡ budget → StepsTo day Ks budget plan tables s (record s { standing = Standings.Spent })
+      ends_spent b =
           let same = (h.going g).same in
           let spent = loop_spent (trial_lists day Ks) (attempt day (greedy_lefts day)) budget h.rounds (listed_trial m) (rest_of day K h.rounds l.next) _ s.made b in
-          rw (e, g) (ends (sym spent ∙ rw next_is_lem at same), omega (arith, at_hand))
+          rw g (ends (sym spent ∙ rw next_is_lem at same), omega (arith, at_hand))
 
       -- it may be made
       next_may : Valid day h.rounds (listed_trial m) × Every (Valid day h.rounds) (rest_of day K h.rounds l.next)

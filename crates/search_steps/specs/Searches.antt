@@ -104,23 +104,9 @@ pub record Searching (day Ks : List ℕ) (budget : ℕ) (plan : List ℕ) (table
   pub going : is_going s.standing ≡ true → Going day Ks budget tables.starts rounds s
   pub done : is_going s.standing ≡ false → record { plan = rounds; trials = s.made; settled = is_settled s.standing } ≡ searched day Ks budget
 
--- the search goes on with a plan held
-abbrev pub going_on : (words count distance made stage : ℕ) → Cursor → Search
-going_on words count distance made stage cursor =
-    record { words = words; count = count; distance = distance; made = made; stage = stage; cursor = cursor; standing = Standings.Going }
-
--- the search at a place of its lists, where it goes on or has ended
-abbrev pub at_list : Search → (stage : ℕ) → Cursor → Standing → Search
-at_list s stage cursor standing =
-    record { words = s.words; count = s.count; distance = s.distance; made = s.made; stage = stage; cursor = cursor; standing = standing }
-
--- the search has ended where it is
-abbrev pub ended_by : Search → Standing → Search
-ended_by s standing = at_list s s.stage s.cursor standing
-
 -- the list at hand is at its end: that of the next K begins, or behind the last the search has ended, settled
 abbrev pub next_list : (Ks : List ℕ) → Search → Search
-next_list Ks s = at_list s (s.stage + 1) list_start (if eqb (s.stage + 1) (length Ks) then Standings.Settled else Standings.Going)
+next_list Ks s = record s { stage = s.stage + 1; cursor = list_start; standing = if eqb (s.stage + 1) (length Ks) then Standings.Settled else Standings.Going }
 
 -- trials and lists to come: each step makes a trial, goes to the next K or ends the search
 abbrev pub steps_left : (Ks : List ℕ) (budget : ℕ) → Search → ℕ

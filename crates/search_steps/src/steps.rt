@@ -1,10 +1,13 @@
 // The search but for the making of a trial: it begins with the greedy plan, lists the next trial, takes a plan over, and ends.
+// That a lent buffer has five words for each stop is a clause of each function that writes in it, here and in candidates, attempts, trials and
+// planner: it is a fact of a buffer and a day. A struct of both would be lent as `&mut`, and each function would ensure besides that its
+// buffer stays the same one, as those with `Words` in vehicle_writer do.
 ghost use Rattle.std.specs.Prelude.{◌≡◌, ◌+◌, ◌-◌, ◌≤◌, ◌<◌, ◌*◌, ◌^◌, length, take, drop};
 ghost use Rattle.rules.specs.Fields.{stops, tips, IsAccepted};
 ghost use Rattle.rules.specs.Build.{greedy_rounds};
 ghost use Rattle.rules.specs.Attempts.{distance_of};
 ghost use Rattle.trial_list.specs.Listing.{PlanTables, CursorFits, ListAnswer};
-ghost use Rattle.search_steps.specs.Searches.{PlanAt, SomePlanAt, SetsFit, TakesOver, BeginsAll, k_at, ended_by, going_on, at_list, next_list};
+ghost use Rattle.search_steps.specs.Searches.{PlanAt, SomePlanAt, SetsFit, TakesOver, BeginsAll, k_at, next_list};
 
 use crate::held::make_tables;
 use candidates::copy_words;
@@ -56,50 +59,6 @@ pub fn take_over(
     make_tables(day, &plan[0..words], tables, work)
 }
 
-// The search goes on with a plan held.
-pub fn going(
-    words: usize,
-    count: usize,
-    distance: u32,
-    made: u64,
-    stage: usize,
-    cursor: Cursor,
-) -> Search
-    ensures { result ≡ going_on words count distance made stage cursor }
-{
-    Search {
-        words,
-        count,
-        distance,
-        made,
-        stage,
-        cursor,
-        standing: Standing::Going,
-    }
-}
-
-// The search at a place of its lists, where it goes on or has ended.
-fn at_list(s: Search, stage: usize, cursor: Cursor, standing: Standing) -> Search
-    ensures { result ≡ at_list s stage cursor standing }
-{
-    Search {
-        words: s.words,
-        count: s.count,
-        distance: s.distance,
-        made: s.made,
-        stage,
-        cursor,
-        standing,
-    }
-}
-
-// The search has ended where it is, spent or settled.
-pub fn end(s: Search, standing: Standing) -> Search
-    ensures { result ≡ ended_by s standing }
-{
-    at_list(s, s.stage, s.cursor, standing)
-}
-
 // The list at hand is at its end: that of the next K begins, or behind the last the search has ended, settled.
 pub fn next_list(set: &Setting, s: Search) -> Search
     requires { s.stage + 1 < 2 ^ 64 }
@@ -111,7 +70,12 @@ pub fn next_list(set: &Setting, s: Search) -> Search
     } else {
         Standing::Going
     };
-    at_list(s, stage, first_trial(), standing)
+    Search {
+        stage,
+        cursor: first_trial(),
+        standing,
+        ..s
+    }
 }
 
 // The next trial of the plan held, or none.
@@ -149,5 +113,13 @@ pub fn begin(day: &Day, held: Held, plan: &[u32], tables: &mut Tables, work: &mu
     let words = held.words;
     let front = &plan[0..words];
     let count = make_tables(day, front, tables, work);
-    going(words, count, held.distance, 0, 0, first_trial())
+    Search {
+        words,
+        count,
+        distance: held.distance,
+        made: 0,
+        stage: 0,
+        cursor: first_trial(),
+        standing: Standing::Going,
+    }
 }

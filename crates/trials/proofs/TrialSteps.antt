@@ -22,8 +22,9 @@ use Rattle.tracks.specs.declared.plan_tables.Tables.{Tables}
 use Rattle.attempts.specs.Tries.{Made, SomeMade, Kept, TriedAs}
 use Rattle.search_laws.proofs.KeptTrials.{attempt_kept}
 use Rattle.search_laws.proofs.Searching.{loop_none, loop_some}
-use Rattle.search_steps.specs.Searches.{PlanAt, SomePlanAt, TakesOver, k_at, going_on, StepsTo, Ahead, NextTrial}
+use Rattle.search_steps.specs.Searches.{PlanAt, SomePlanAt, TakesOver, k_at, StepsTo, Ahead, NextTrial}
 use Rattle.search_steps.specs.declared.steps.Search.{Search}
+use Rattle.search_steps.specs.declared.steps.Standing.TheVariants as Standings
 use Rattle.search_steps.proofs.SetLaws.{fewer_trials, lists_at}
 use Rattle.search_steps.proofs.TakeOverLaws.{slice_is}
 use Rattle.trials.specs.Improvements.{AfterTrial}
@@ -67,18 +68,18 @@ module _ {day Ks : List ℕ} {budget : ℕ} {work plan : List ℕ} {tables : Tab
   later = trial_lists day (drop (s.stage + 1) Ks) h.rounds
 
   -- no plan is kept, and the list goes on
-  pub goes_on_lem : {r : Search} → tried ≡ None → r ≡ going_on s.words s.count s.distance (s.made + 1) s.stage next → StepsTo day Ks budget plan tables s r
-  goes_on_lem k e =
+  pub goes_on_lem : tried ≡ None → StepsTo day Ks budget plan tables s (record s { made = s.made + 1; cursor = next })
+  goes_on_lem k =
       let turn =
       loop_none (trial_lists day Ks) (attempt day (greedy_lefts day)) budget h.rounds after.m rest later s.made h.left (rw k at after.tried_as) in
-      rw (e, h.on) (
+      rw h.on (
         record {
           rounds = h.rounds;
           held = h.held;
           drives = h.drives;
           within = omega (arith, h.left);
           going = λ _. record { staged = h.staged; fits = h.fits; valid = h.valid; same = sym turn ∙ rw h.ms at h.same };
-          done = λ n. absurd (true≢false n);
+          done = λ n. absurd (true≢false (sym h.on ∙ n));
         },
         fewer_trials Ks s.stage s.stage h.left h.staged,
       )
@@ -96,17 +97,17 @@ module _ {day Ks : List ℕ} {budget : ℕ} {work plan : List ℕ} {tables : Tab
     pub kept_plan : SomePlanAt day work held.words
     kept_plan = record { rounds = kept.q; plan_at = plan_at }
 
-    pub keeps_plan : {now : List ℕ} {made : Tables} {count : ℕ} {r : Search} {first : Cursor}
-        → TakesOver day work held.words now made count → first ≡ list_start
-        → r ≡ going_on held.words count held.distance (s.made + 1) 0 first → StepsTo day Ks budget now made s r
-    keeps_plan f n e =
+    pub keeps_plan : {now : List ℕ} {made : Tables} {count : ℕ} {first : Cursor}
+        → TakesOver day work held.words now made count → first ≡ list_start → StepsTo day Ks budget now made s
+        (record { words = held.words; count = count; distance = held.distance; made = s.made + 1; stage = 0; cursor = first; standing = Standings.Going })
+    keeps_plan f n =
         let a = kept in
         let p = plan_at in
         let over = f a.q p in
         let turn =
         loop_some (trial_lists day Ks) (attempt day (greedy_lefts day)) budget h.rounds a.q after.m rest later s.made h.left a.is in
         let some : 0 < length Ks = omega (arith, h.staged) in
-        rw (e, h.on) (
+        rw h.on (
           record {
             rounds = a.q;
             held = over;

@@ -1,5 +1,7 @@
 // The search: trial after trial, list after list, from the start of the first list again once a plan is kept. The day, what is asked for and
-// the table of neighbours stay three parameters: of a struct of them each clause would say `given.now.day.now`, and not `day.now`.
+// the table of neighbours stay three parameters: of a struct of them each clause would say `given.now.day.now`, and not `day.now`. So do the
+// lent buffers and the tables, by which `after_trial` and `step_on` have eight: of a struct of them each clause would say `lent.old.plan.now`,
+// and each function would ensure besides that its buffers stay the same ones, as those with `Words` in vehicle_writer do.
 ghost use Rattle.std.specs.Prelude.{◌≡◌, true, false, ◌+◌, ◌≤◌, ◌<◌, ◌*◌, ◌^◌, length};
 ghost use Rattle.rules.specs.Fields.{stops, IsAccepted};
 ghost use Rattle.rules.specs.Build.{greedy_rounds};
@@ -10,9 +12,7 @@ ghost use Rattle.trials.specs.Improvements.{AfterTrial};
 
 use attempts::tries::make_trial;
 use day::days::Day;
-use search_steps::steps::{
-    Search, Setting, Standing, begin, end, going, list_next, next_list, take_over,
-};
+use search_steps::steps::{Search, Setting, Standing, begin, list_next, next_list, take_over};
 use tracks::plan_tables::{Held, Tables};
 use trial_list::listing::{Cursor, Trial, first_trial};
 
@@ -35,9 +35,21 @@ fn after_trial(
     match tried {
         Some(held) => {
             let count = take_over(day, work, held.words, plan, tables);
-            going(held.words, count, held.distance, made, 0, first_trial())
+            Search {
+                words: held.words,
+                count,
+                distance: held.distance,
+                made,
+                stage: 0,
+                cursor: first_trial(),
+                standing: Standing::Going,
+            }
         }
-        None => going(s.words, s.count, s.distance, made, s.stage, next),
+        None => Search {
+            made,
+            cursor: next,
+            ..s
+        },
     }
 }
 
@@ -89,7 +101,10 @@ fn next_step(
         return next_list(set, s);
     };
     if s.made == set.budget {
-        return end(s, Standing::Spent);
+        return Search {
+            standing: Standing::Spent,
+            ..s
+        };
     }
     step_on(day, set, work, plan, tables, s, trial, listed.next)
 }

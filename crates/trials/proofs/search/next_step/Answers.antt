@@ -17,7 +17,7 @@ returns-in_default c = let p = c.requires.buffers in
 pub returns-then-s-set : goal.returns-then-s-set
 returns-then-s-set c =
     let p = c.requires.buffers in
-    ends_spent p.0 c.args.set.now.fit p.1 c.requires.searching.0 c.requires.searching.1 c.list_next-listed.ensures c.in-Some.is c.if-s-set.true c.end.ensures
+    ends_spent p.0 c.args.set.now.fit p.1 c.requires.searching.0 c.requires.searching.1 c.list_next-listed.ensures c.in-Some.is c.if-s-set.true
 
 pub step_on-requires : goal.step_on-requires
 step_on-requires c =
