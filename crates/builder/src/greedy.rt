@@ -10,6 +10,7 @@ use crate::fleet::write_vehicles;
 use crate::lefts::{fill_zeros, write_lefts};
 use day::days::Day;
 use rules::answers::{Answer, PlanAnswer};
+use rules::faults::CallFault;
 use vehicle_writer::writer::Written;
 
 // The vehicles, the stops left out, and zeros to the end of the five words for each stop; the stops left out, and how many words the plan has.
@@ -34,7 +35,7 @@ pub fn build_accepted(day: &Day, plan: &mut [u32]) -> PlanAnswer
     let need = 5 * day.stops();
     if plan.len() < need {
         return PlanAnswer::Refused {
-            number: 14,
+            number: CallFault::Room as u32,
             place: need,
         };
     }

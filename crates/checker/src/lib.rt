@@ -11,6 +11,7 @@ use crate::run::check_words;
 use day::days::Day;
 use judge::lay_out;
 use rules::answers::Answer;
+use rules::faults::CallFault;
 
 // The answer on a plan of a day that is laid out: for callers that check many plans of one accepted day.
 pub fn check_laid_out(day: &Day, plan: &[u32]) -> Answer
@@ -18,7 +19,7 @@ pub fn check_laid_out(day: &Day, plan: &[u32]) -> Answer
 {
     if 4096 < plan.len() {
         return Answer::Refused {
-            number: 6,
+            number: CallFault::Plan as u32,
             place: 4096,
         };
     }
@@ -31,9 +32,6 @@ pub fn check(day: &[u32], plan: &[u32]) -> Answer
 {
     match lay_out(day) {
         Ok(laid) => check_laid_out(&laid, plan),
-        Err(refusal) => Answer::Refused {
-            number: refusal.number(),
-            place: refusal.place(),
-        },
+        Err(refusal) => refusal.into(),
     }
 }

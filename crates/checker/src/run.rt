@@ -9,6 +9,7 @@ use day::days::Day;
 use plan_parts::parts::all_parts;
 use plan_parts::start::{first_state, no_stops};
 use rules::answers::Answer;
+use rules::faults::PlanFault;
 use rules::walk::Tally;
 use trips::limits::LimitedDay;
 use word_steps::words::word_step;
@@ -20,13 +21,13 @@ fn finish(y: Tally, stops: usize, end: usize) -> Answer
 {
     if y.inside {
         return Answer::Refused {
-            number: 7,
+            number: PlanFault::Form as u32,
             place: end,
         };
     }
     if ((y.served + y.left) as usize) < stops {
         return Answer::Refused {
-            number: 8,
+            number: PlanFault::Stop as u32,
             place: end,
         };
     }

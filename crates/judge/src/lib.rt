@@ -5,7 +5,7 @@ ghost use Rattle.std.specs.Prelude.{◌≡◌, MatchResult};
 ghost use Rattle.rules.specs.Answers.{refused};
 ghost use Rattle.rules.specs.DayFile.{judge_day};
 ghost use Rattle.rules.specs.Fields.{IsAccepted};
-ghost use Rattle.rules.specs.AnswerValues.{day_values};
+ghost use Rattle.rules.specs.AnswerValues.{day_values, answer_values, plan_values};
 ghost use Rattle.day_faults.specs.Judging.{judged_from};
 ghost use Rattle.judge.specs.Refusals.{refusal_number, refusal_place};
 ghost use Rattle.judge.specs.declared.Refusal.TheVariants.{Word};
@@ -14,8 +14,8 @@ use day::days::Day;
 use day_faults::faults::Fault;
 use day_faults::legs::check_legs;
 use day_faults::parts::{check_head, check_stops, check_tips};
-use rules::answers::DayAnswer;
-use rules::faults::DayFault;
+use rules::answers::{Answer, DayAnswer, PlanAnswer};
+use rules::faults::{CallFault, DayFault};
 
 // Why a day is refused: it has no whole head, too many stops or no tip, another length than they ask for, or a word at fault.
 #[derive(Clone, Copy, PartialEq, Eq, Debug)]
@@ -36,19 +36,19 @@ impl From<Fault> for Refusal {
 
 impl Refusal {
     // Its number.
-    pub fn number(self) -> u32
+    fn number(self) -> u32
         ensures { result ≡ refusal_number self }
     {
         match self {
-            Refusal::Short { .. } => 1,
-            Refusal::Sizes => 3,
-            Refusal::Length { .. } => 4,
+            Refusal::Short { .. } => CallFault::Short as u32,
+            Refusal::Sizes => CallFault::Sizes as u32,
+            Refusal::Length { .. } => CallFault::Length as u32,
             Refusal::Word(found) => found.fault as u32,
         }
     }
 
     // Its place.
-    pub fn place(self) -> usize
+    fn place(self) -> usize
         ensures { result ≡ refusal_place self }
     {
         match self {
@@ -56,6 +56,40 @@ impl Refusal {
             Refusal::Sizes => 0,
             Refusal::Length { words } => words,
             Refusal::Word(found) => found.place,
+        }
+    }
+}
+
+// A refused day as each call answers it.
+impl From<Refusal> for DayAnswer {
+    ghost from_gives = { λ refusal answer. day_values answer ≡ refused (refusal_number refusal) (refusal_place refusal) };
+
+    fn from(refusal: Refusal) -> DayAnswer {
+        DayAnswer::Refused {
+            number: refusal.number(),
+            place: refusal.place(),
+        }
+    }
+}
+
+impl From<Refusal> for Answer {
+    ghost from_gives = { λ refusal answer. answer_values answer ≡ refused (refusal_number refusal) (refusal_place refusal) };
+
+    fn from(refusal: Refusal) -> Answer {
+        Answer::Refused {
+            number: refusal.number(),
+            place: refusal.place(),
+        }
+    }
+}
+
+impl From<Refusal> for PlanAnswer {
+    ghost from_gives = { λ refusal answer. plan_values answer ≡ refused (refusal_number refusal) (refusal_place refusal) };
+
+    fn from(refusal: Refusal) -> PlanAnswer {
+        PlanAnswer::Refused {
+            number: refusal.number(),
+            place: refusal.place(),
         }
     }
 }
@@ -109,9 +143,6 @@ pub fn judge(day: &[u32]) -> DayAnswer
             stops: laid.stops() as u32,
             tips: laid.tips() as u32,
         },
-        Err(refusal) => DayAnswer::Refused {
-            number: refusal.number(),
-            place: refusal.place(),
-        },
+        Err(refusal) => refusal.into(),
     }
 }

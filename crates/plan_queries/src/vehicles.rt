@@ -7,6 +7,7 @@ ghost use Rattle.rules.specs.AnswerValues.{place_values};
 
 use plan_words::{PlanWord, read_word};
 use rules::answers::PlaceAnswer;
+use rules::faults::CallFault;
 
 // Whether a word is the A word of a number.
 fn is_vehicle(w: u32, number: u64) -> bool
@@ -58,7 +59,7 @@ pub(crate) fn place_in(plan: &[u32], number: u64) -> PlaceAnswer
             length: part_length(plan, start),
         },
         None => PlaceAnswer::Refused {
-            number: 15,
+            number: CallFault::Vehicle as u32,
             place: number as usize,
         },
     }

@@ -8,6 +8,7 @@ ghost use Rattle.planner.specs.WorkedOver.{WorkedOver};
 use builder::greedy::build_accepted;
 use day::days::Day;
 use rules::answers::PlanAnswer;
+use rules::faults::CallFault;
 use search_steps::steps::{Setting, Standing};
 use trials::improve::improve;
 
@@ -64,7 +65,7 @@ fn plan_sets(day: &Day, set: &Setting, plan: &mut [u32], work: &mut [u32]) -> Pl
         return work_over(day, set, plan, work);
     }
     PlanAnswer::Refused {
-        number: 14,
+        number: CallFault::Room as u32,
         place: 5 * day.stops(),
     }
 }
@@ -90,7 +91,7 @@ pub(crate) fn plan_accepted(
         return plan_sets(day, &one, plan, work);
     }
     PlanAnswer::Refused {
-        number: 13,
+        number: CallFault::Neighbours as u32,
         place: k as usize,
     }
 }

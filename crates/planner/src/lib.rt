@@ -19,10 +19,7 @@ pub fn build(day: &[u32], plan: &mut [u32]) -> PlanAnswer
 {
     match lay_out(day) {
         Ok(laid) => { build_accepted(&laid, plan) }
-        Err(refusal) => PlanAnswer::Refused {
-            number: refusal.number(),
-            place: refusal.place(),
-        },
+        Err(refusal) => refusal.into(),
     }
 }
 
@@ -34,10 +31,7 @@ pub fn plan(day: &[u32], k: u64, budget: u64, plan: &mut [u32], work: &mut [u32]
 {
     match lay_out(day) {
         Ok(laid) => { plan_accepted(&laid, k, budget, plan, work) }
-        Err(refusal) => PlanAnswer::Refused {
-            number: refusal.number(),
-            place: refusal.place(),
-        },
+        Err(refusal) => refusal.into(),
     }
 }
 
@@ -49,9 +43,6 @@ pub fn plan_growing(day: &[u32], budget: u64, plan: &mut [u32], work: &mut [u32]
 {
     match lay_out(day) {
         Ok(laid) => { grow_accepted(&laid, budget, plan, work) }
-        Err(refusal) => PlanAnswer::Refused {
-            number: refusal.number(),
-            place: refusal.place(),
-        },
+        Err(refusal) => refusal.into(),
     }
 }

@@ -1,4 +1,4 @@
-// Why a word or a field is refused. Each fault has the number of its refusal.
+// Why a word, a field or a whole call is refused. Each fault has the number of its refusal.
 
 // Of a word of a day: its kind or its zero bits, or its value.
 #[derive(Clone, Copy, PartialEq, Eq, Debug)]
@@ -16,6 +16,18 @@ pub enum PlanFault {
     Load = 10,
     Late = 11,
     Rest = 12,
+}
+
+// Of a whole call: a day with no whole head, its sizes, its length, a plan too long, K, a lent buffer too short, or a vehicle that isn't there.
+#[derive(Clone, Copy, PartialEq, Eq, Debug)]
+pub enum CallFault {
+    Short = 1,
+    Sizes = 3,
+    Length = 4,
+    Plan = 6,
+    Neighbours = 13,
+    Room = 14,
+    Vehicle = 15,
 }
 
 // Of a field of a text: its form, or its value.

@@ -9,6 +9,7 @@ ghost use Rattle.rules.specs.AnswerValues.{import_values, ImportNumbered};
 ghost use Rattle.solomon_form.proofs.Judged.{TextRight};
 
 use rules::answers::ImportAnswer;
+use rules::faults::CallFault;
 use solomon_form::judge_text;
 use solomon_words::Instance;
 use solomon_words::numbers::{capacity_of, store_numbers};
@@ -55,7 +56,7 @@ pub fn import_solomon(text: &[u8], words: &mut [u32]) -> ImportAnswer
     let total = words_needed(stops);
     if words.len() < total {
         return ImportAnswer::Refused {
-            number: 14,
+            number: CallFault::Room as u32,
             place: total,
         };
     }

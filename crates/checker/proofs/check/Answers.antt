@@ -1,5 +1,5 @@
 -- `checker::check` meets its contract: a refused day is answered as it was judged, an accepted day is laid out and its plan is walked.
-use Rattle.judge.proofs.Refusing.{refused_by}
+use mathlib.Core.Path.{◌∙◌}
 use Rattle.checker.proofs.Answering.{day_refused, day_accepted}
 use Rattle.checker.proofs.check.Goals as goal
 
@@ -9,4 +9,4 @@ returns-in-Ok c =
     day_accepted _ _ laid.1 laid.0 _ c.check_laid_out.ensures
 
 pub returns-in-Err : goal.returns-in-Err
-returns-in-Err c = day_refused _ _ (refused_by _ c.number.ensures c.place.ensures (rw c.in-Err.is at c.lay_out.ensures))
+returns-in-Err c = c.into.ensures ∙ day_refused _ _ (rw c.in-Err.is at c.lay_out.ensures)

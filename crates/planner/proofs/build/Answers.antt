@@ -1,5 +1,5 @@
 -- `planner::build` meets its contract.
-use Rattle.judge.proofs.Refusing.{refused_by}
+use mathlib.Core.Path.{◌∙◌}
 use Rattle.builder.proofs.BuiltPlans.{accepted_answer, accepted_buffer, refused_answer, refused_buffer}
 use Rattle.planner.proofs.build.Goals as goal
 
@@ -17,7 +17,7 @@ returns-in-Ok-clause-buffer c =
     accepted_buffer _ laid.1 _ _ (rw laid.0 at c.build_accepted.ensures.buffer)
 
 pub returns-in-Err-clause-answer : goal.returns-in-Err-clause-answer
-returns-in-Err-clause-answer c = refused_answer _ (refused_by _ c.number.ensures c.place.ensures (rw c.in-Err.is at c.lay_out.ensures)) _
+returns-in-Err-clause-answer c = c.into.ensures ∙ refused_answer _ (rw c.in-Err.is at c.lay_out.ensures) _
 
 pub returns-in-Err-clause-buffer : goal.returns-in-Err-clause-buffer
-returns-in-Err-clause-buffer c = refused_buffer _ (refused_by _ c.number.ensures c.place.ensures (rw c.in-Err.is at c.lay_out.ensures)) _
+returns-in-Err-clause-buffer c = refused_buffer _ (rw c.in-Err.is at c.lay_out.ensures) _
