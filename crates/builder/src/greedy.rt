@@ -48,6 +48,7 @@ pub fn build_accepted(day: &Day, plan: &mut [u32]) -> PlanAnswer
             left_out: written.left.remaining() as usize,
             words: written.words,
         },
+        // Not by From: a lawful answer doesn't say the words and the stops left out.
         Answer::Refused { number, place } => PlanAnswer::Refused { number, place },
     }
 }

@@ -20,6 +20,7 @@ pub fn vehicle_place(day: &[u32], plan: &[u32], number: u64) -> PlaceAnswer
 {
     match check(day, plan) {
         Answer::Lawful { .. } => place_in(plan, number),
+        // Not by From: it would give a lawful answer a place too, and that alone has none.
         Answer::Refused { number, place } => PlaceAnswer::Refused { number, place },
     }
 }
@@ -50,6 +51,7 @@ fn second_answer(day: &[u32], first: &[u32], second: &[u32]) -> RoundsAnswer
                 RoundsAnswer::Different
             }
         }
+        // Not by From: the place counts on from the first plan's length.
         Answer::Refused { number, place } => RoundsAnswer::Refused {
             number,
             place: place + first.len(),
@@ -64,6 +66,7 @@ pub fn same_rounds(day: &[u32], first: &[u32], second: &[u32]) -> RoundsAnswer
 {
     match check(day, first) {
         Answer::Lawful { .. } => second_answer(day, first, second),
+        // Not by From: a lawful answer on one plan is none on the rounds of two.
         Answer::Refused { number, place } => RoundsAnswer::Refused { number, place },
     }
 }

@@ -34,6 +34,7 @@ fn work_over(day: &Day, set: &Setting, plan: &mut [u32], work: &mut [u32]) -> Pl
                 words: last.words,
             }
         }
+        // Named, and not a default: that it is a refusal is what the proof takes up.
         PlanAnswer::Refused { number, place } => PlanAnswer::Refused { number, place },
     }
 }
