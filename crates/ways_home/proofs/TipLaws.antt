@@ -1,6 +1,6 @@
 -- The nearest open tip: what a tip's test comes to, and the pass over the tips.
 -- Assumes nothing.
-use Prim.Native.Nat.{ℕ, ◌+◌, ◌-◌, ◌≤◌, ◌<◌}
+use Prim.Native.Nat.{ℕ, ◌+◌, ◌≤◌, ◌<◌}
 use mathlib.Core.Path.{◌≡◌, sym, ap, ◌∙◌}
 use mathlib.Core.Bool.{Bool, true, false, ◌||◌}
 use mathlib.Core.List.{List}
@@ -37,10 +37,6 @@ module _ (day : List ℕ) (place minute : ℕ) where
   pub tips_none : 0 ≡ least (open_tip day place minute) (leg_minutes day place) 0
   tips_none = sym (least_none _ _)
 
-  pub tips_next : (tip best : ℕ) {next : ℕ} → 1 ≤ tip → best ≡ least (open_tip day place minute) (leg_minutes day place) (tip - 1)
-      → next ≡ better (open_tip day place minute) (leg_minutes day place) tip best → next ≡ least (open_tip day place minute) (leg_minutes day place) tip
-  tips_next tip best h e n =
-      let before : tip - 1 + 1 ≡ tip = omega arith in
-      let test = open_tip day place minute in
-      let key = leg_minutes day place in
-      n ∙ ap (better test key tip) e ∙ rw before at (sym (least_suc test key (tip - 1)))
+  pub tips_next : (k best : ℕ) {next : ℕ} → best ≡ least (open_tip day place minute) (leg_minutes day place) k
+      → next ≡ better (open_tip day place minute) (leg_minutes day place) (k + 1) best → next ≡ least (open_tip day place minute) (leg_minutes day place) (k + 1)
+  tips_next k best e n = n ∙ ap (better _ _ (k + 1)) e ∙ sym (least_suc _ _ k)

@@ -48,8 +48,9 @@ pub fn nearest_of_first(day: &Day, place: usize, minute: u32, count: usize) -> B
         number: 0,
         key: NO_KEY,
     };
-    for tip in 1..=count {
-        best = better_tip(day, place, minute, tip, best);
+    // From 0: a range with its end included has two exits, and its proof was 22 lines longer.
+    for k in 0..count {
+        best = better_tip(day, place, minute, k + 1, best);
     }
     best
 }
