@@ -59,13 +59,14 @@ pub fn take_over(
     make_tables(day, &plan[0..words], tables, work)
 }
 
-// The list at hand is at its end: that of the next K begins, or behind the last the search has ended, settled.
-pub fn next_list(set: &Setting, s: Search) -> Search
+// The list at hand is at its end: that of the next K begins, or behind the last the search has ended, settled. The K are lent without their
+// `Setting`: neither this nor the listing of a trial asks that they fit.
+pub fn next_list(sets: &[usize], s: Search) -> Search
     requires { s.stage + 1 < 2 ^ 64 }
-    ensures { result ≡ next_list set.now.sets.now s }
+    ensures { result ≡ next_list sets.now s }
 {
     let stage = s.stage + 1;
-    let standing = if stage == set.sets.len() {
+    let standing = if stage == sets.len() {
         Standing::Settled
     } else {
         Standing::Going
@@ -81,20 +82,20 @@ pub fn next_list(set: &Setting, s: Search) -> Search
 // The next trial of the plan held, or none.
 pub fn list_next(
     day: &Day,
-    set: &Setting,
+    sets: &[usize],
     table: &[u8],
     tables: &Tables,
     plan: &[u32],
     s: Search,
 ) -> Listed<Cursor>
-    requires at_hand { (s.stage < length set.now.sets.now) × CursorFits tables.now.starts s.count s.cursor × (s.words ≤ length plan.now) }
-    requires held { PlanTables (stops day.now) (tips day.now) (k_at set.now.sets.now s.stage) table.now tables.now.starts tables.now.vehicles (take (s.words - 0) (drop 0 plan.now)) s.count }
-    ensures { ListAnswer (stops day.now) (tips day.now) (k_at set.now.sets.now s.stage) table.now tables.now.starts tables.now.vehicles (take (s.words - 0) (drop 0 plan.now)) s.count s.cursor result }
+    requires at_hand { (s.stage < length sets.now) × CursorFits tables.now.starts s.count s.cursor × (s.words ≤ length plan.now) }
+    requires held { PlanTables (stops day.now) (tips day.now) (k_at sets.now s.stage) table.now tables.now.starts tables.now.vehicles (take (s.words - 0) (drop 0 plan.now)) s.count }
+    ensures { ListAnswer (stops day.now) (tips day.now) (k_at sets.now s.stage) table.now tables.now.starts tables.now.vehicles (take (s.words - 0) (drop 0 plan.now)) s.count s.cursor result }
 {
     let listing = Listing {
         stops: day.stops(),
         tips: day.tips(),
-        k: set.sets[s.stage],
+        k: sets[s.stage],
         neighbours: table,
         starts: &tables.starts,
         vehicles: &tables.vehicles,

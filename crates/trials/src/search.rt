@@ -96,9 +96,9 @@ fn next_step(
     requires searching { Searching day.now set.now.sets.now set.now.budget plan.old tables.old s × (is_going s.standing ≡ true) }
     ensures { StepsTo day.now set.now.sets.now set.now.budget plan.new tables.new s result }
 {
-    let listed = list_next(day, set, table, tables, plan, s);
+    let listed = list_next(day, set.sets, table, tables, plan, s);
     let Some(trial) = listed.trial else {
-        return next_list(set, s);
+        return next_list(set.sets, s);
     };
     if s.made == set.budget {
         return Search {

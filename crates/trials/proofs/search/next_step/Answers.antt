@@ -1,5 +1,6 @@
 -- `trials::search::next_step` meets its contract.
 use native.Mathlib.Omega.{arith}
+use borrow.Author.Rules.{rules}
 use Rattle.search_steps.proofs.SearchSteps.{at_hand, held_tables, list_ends, ends_spent, next_trial}
 use Rattle.trials.proofs.search.next_step.Goals as goal
 
@@ -12,7 +13,7 @@ list_next-listed-requires c = let p = c.requires.buffers in
 
 pub returns-in_default : goal.returns-in_default
 returns-in_default c = let p = c.requires.buffers in
-    list_ends p.0 c.args.set.now.fit p.1 c.requires.searching.0 c.requires.searching.1 c.list_next-listed.ensures c.in_default.is c.next_list.ensures
+    list_ends p.0 c.args.set.now.fit p.1 c.requires.searching.0 c.requires.searching.1 c.list_next-listed.ensures c.in_default.is (search rules)
 
 pub returns-then-s-set : goal.returns-then-s-set
 returns-then-s-set c =
