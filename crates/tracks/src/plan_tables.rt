@@ -1,5 +1,6 @@
 // The tables of the present plan, by which its trials are listed and measured.
-ghost use Rattle.std.specs.Prelude.{◌≡◌, length};
+ghost use Rattle.std.specs.Prelude.{◌≡◌, None, length, replicate};
+ghost use Rattle.onward.specs.Behind.{homeward};
 ghost use Rattle.onward.specs.declared.TheConstants.{ROWS};
 
 use crate::before::Row;
@@ -30,8 +31,11 @@ pub struct Tables {
 }
 
 impl Tables {
-    // Room for the tables of a plan.
-    pub fn new() -> Self {
+    // Room for the tables of a plan: each number is 0, no vehicle is held, and what is left is the way back.
+    pub fn new() -> Self
+        ensures numbers { (result.starts ≡ replicate 256 0) × (result.vehicles ≡ replicate 256 0) × (result.distances ≡ replicate 256 0) }
+        ensures rows { (result.tracks.before ≡ replicate ROWS None) × (result.tracks.behind ≡ replicate ROWS homeward) × (result.tracks.spots ≡ replicate 256 0) }
+    {
         Tables {
             starts: [0; 256],
             vehicles: [0; 256],
