@@ -1,22 +1,20 @@
 -- Words copied to the front of a part, and the parts of a vehicle's words. Assumes nothing.
-use Prim.Native.Nat.{ℕ, ◌-◌, ◌≤◌}
-use mathlib.Core.Path.{◌≡◌, refl, ap, ◌∙◌}
-use mathlib.Core.List.{List, [], ◌∷◌, ◌++◌, map}
+use Prim.Native.Nat.{ℕ, ◌+◌, ◌-◌, ◌≤◌, ◌<◌}
+use mathlib.Core.Path.{◌≡◌, refl, sym, ap}
+use mathlib.Core.List.{List, [], ◌∷◌, map}
 use native.Mathlib.Omega.{arith}
-use lib.ListN.{length, length-append, take, drop}
-use lib.Seq.{take_at}
-use Rattle.rules.specs.Lists.{over}
+use native.Mathlib.Numerals.{add-one}
+use lib.ListN.{length, length-append, get_or, take, drop, set}
+use lib.Seq.{take-suc, take_at}
 use Rattle.rules.specs.PlanWords.{back_word}
 use Rattle.rules.specs.Plan.{Round, task_word, round_words}
 use Rattle.laws.specs.Buffer.{Wrote}
-use Rattle.laws.proofs.Buffer.{length_over}
+use Rattle.laws.proofs.Buffer.{wrote_put, wrote_same}
 
--- the words stand at the front
-pub words_copied : {words p front : List ℕ} → front ≡ words → length words ≤ length p → Wrote words p (front ++ drop (length words) p) (length words)
-unfolding over
-words_copied {words} {p} e h =
-    let text = ap (λ (xs : List ℕ). xs ++ drop (length words) p) e in
-    record { count = refl; text = text; size = ap length text ∙ length_over words p h }
+-- one word more is copied
+pub copy_next : (words : List ℕ) (i d : ℕ) {p part : List ℕ} → Wrote (take i words) p part i → i < length words → length words ≤ length p
+    → Wrote (take (i + 1) words) p (set part i (get_or words i d)) (i + 1)
+copy_next words i d w l h = wrote_same (wrote_put w (get_or words i d) (omega arith)) (sym (rw add-one (take-suc words i d l))) refl
 
 -- a part from the front
 pub front_part : (n : ℕ) (xs : List ℕ) → take (n - 0) (drop 0 xs) ≡ take n xs

@@ -13,12 +13,15 @@ use edits::Edit;
 use trial_list::listing::Trial;
 use walks::vehicle::walk_vehicle;
 
-// The words are copied to the front of the part.
+// The words are copied to the front of the part. Word by word: `copy_from_slice` calls the C library's memmove, and the archive asks for
+// nothing but memset.
 pub fn copy_words(words: &[u32], part: &mut [u32])
     requires { length words.now ≤ length part.old }
     ensures { Wrote words.now part.old part.new (length words.now) }
 {
-    part[..words.len()].copy_from_slice(words);
+    for (i, word) in words.iter().enumerate() {
+        part[i] = *word;
+    }
 }
 
 // One vehicle of the candidate: walked again where the trial touches it, else as it is. How many words it has; none where the trial fails.
