@@ -29,7 +29,7 @@ const TIP_KIND: u32 = TIP / 0x100;
 const LEFT_KIND: u32 = LEFT / 0x100;
 
 // The number of a word, in bits 7-0.
-fn number(word: u32) -> u32
+pub fn number(word: u32) -> u32
     ensures { result ≡ number_of word }
 {
     word % 0x100

@@ -35,7 +35,7 @@ fn bytes_from(text: &[u8], at: usize) -> &[u8]
 }
 
 // The first place, from `at` on, whose byte is not of the kind that the test tells.
-fn pass<F: Fn(u8) -> bool>(text: &[u8], at: usize, test: F) -> usize
+pub fn pass<F: Fn(u8) -> bool>(text: &[u8], at: usize, test: F) -> usize
     requires { F.IsAlwaysCallable test }
     ensures passed { (kind : ℕ → Bool) → Tests (F.post test) kind → result ≡ passed kind text.now at }
     ensures later { at ≤ result }
