@@ -3,7 +3,7 @@
 use Rattle.std.specs.Prelude.{if◌then◌else◌}
 use Prim.Native.Nat.{ℕ, ◌+◌, ◌-◌, ◌*◌, ◌/◌, ◌%◌, ◌<◌, ◌≤◌}
 use mathlib.Core.Path.{◌≡◌, ap, ◌∙◌}
-use native.Mathlib.Nat.{mul-le-mul_right, suc-mul, mul-add-div_right, mul-add-mod_self_right, div-eq_of_lt, mod-eq_of_lt}
+use native.Mathlib.Nat.{mul-le-mul, mul-le-mul_right, suc-mul, mul-add-div_right, mul-add-mod_self_right, div-eq_of_lt, mod-eq_of_lt}
 use native.Mathlib.Omega.{arith}
 use lib.Dec.{eqb}
 use borrow.Author.Tests.{lt-ltb, le-ltb, eq-eqb, ne_eqb}
@@ -56,6 +56,12 @@ module _ (d n k : ℕ) (h : k < n) where
   unfolding stop_form
   stop_quantity_form i e =
       rw e (stop_form_lem 2 (omega arith) ∙ rw (ne_eqb ((3 * k + 2) % 3) 0 (λ z. omega arith), ne_eqb ((3 * k + 2) % 3) 1 (λ z. omega arith)))
+
+-- the legs of a day are few
+pub legs_few : (d n : ℕ) → d < 16 → n < 256 → places_of d n * places_of d n ≤ 90000
+legs_few d n h g =
+    let few : places_of d n ≤ 300 = omega arith in
+    mul-le-mul few few
 
 -- row p, column q of a square stands below its size
 pub square_below : (p q s : ℕ) → p < s → q < s → p * s + q < s * s

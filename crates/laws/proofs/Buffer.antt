@@ -109,3 +109,45 @@ module _ {A : Type 0} where
     text = w.text ∙ ap (λ (x : List A). over x p) q;
     size = w.size;
   }
+
+-- a fill with zeros from place `from` on: before it, one place more, and its end
+pub zeros_start : (p : List ℕ) (i : ℕ) → i ≤ length p → Wrote (zeros p i i) p p i
+unfolding zeros
+zeros_start p i l = wrote_same front none refl
+  where
+    size : length (take i p) ≡ i
+    size = length-take-le i p l
+
+    front : Wrote (take i p) p p i
+    front = record {
+      count = sym size;
+      text = sym (over_drop (take i p) p i size ∙ take-append-drop i p);
+      size = refl;
+    }
+
+    none : take i p ≡ zeros p i i
+    none =
+        let e : i - i ≡ 0 = omega arith in
+        sym (ap (λ (k : ℕ). take i p ++ replicate k 0) e ∙ append-nil (take i p))
+
+pub zeros_next : {p part : List ℕ} {from i : ℕ} → Wrote (zeros p from i) p part i → from ≤ i → i < length p
+    → Wrote (zeros p from (i + 1)) p (set part i 0) (i + 1)
+unfolding zeros
+zeros_next {p} {part} {from} {i} w l h = wrote_same (wrote_put w 0 h) more refl
+  where
+    count : (i - from) + 1 ≡ (i + 1) - from
+    count = omega arith
+
+    more : zeros p from i ++ (0 ∷ []) ≡ zeros p from (i + 1)
+    more =
+        append_assoc (take from p) (replicate (i - from) 0) (0 ∷ [])
+        ∙ ap (λ (q : List ℕ). take from p ++ q) (replicate-append-replicate (i - from) 1 0)
+        ∙ ap (λ (k : ℕ). take from p ++ replicate k 0) count
+
+pub zeros_end : {p part : List ℕ} {i : ℕ} (from to : ℕ) → Wrote (zeros p from i) p part i → i ≡ to
+    → part ≡ take from p ++ replicate (to - from) 0 ++ drop to p
+unfolding zeros
+zeros_end {p} {part} {i} from to w e =
+    w.text
+    ∙ over_drop (zeros p from i) p i (sym w.count)
+    ∙ ap (λ (k : ℕ). take from p ++ replicate (k - from) 0 ++ drop k p) e

@@ -3,7 +3,7 @@ use Prim.Native.Nat.{ℕ, ◌+◌, ◌-◌, ◌*◌, ◌≤◌, ◌<◌}
 use mathlib.Core.Path.{◌≡◌, refl, sym, ap, subst, ◌∙◌}
 use mathlib.Core.List.{List}
 use native.Mathlib.Omega.{arith}
-use native.Mathlib.Nat.{mul-le-mul_right, add-mul}
+use native.Mathlib.Nat.{mul-le-mul, mul-le-mul_right, add-mul}
 use lib.ListN.{length, get_or, drop, set, get_or-append}
 use borrow.Author.Tests.{le-ltb}
 use Rattle.rules.specs.DayFile.{legs_at, words_of}
@@ -13,7 +13,7 @@ use Rattle.laws.specs.Buffer.{Wrote}
 use Rattle.day.proofs.Forms.{row_of, column_of}
 use Rattle.laws.proofs.Buffer.{length_over}
 use Rattle.laws.proofs.Listed.{length_listed, get_listed, wrote_front, wrote_next, wrote_all, wrote_at, over_again}
-use Rattle.solomon_words.specs.Table.{Begins}
+use Rattle.solomon_words.specs.Table.{Begins, Fit}
 use Rattle.solomon_words.specs.Instances.{number_in, stops_in, word_at, row_at, LegAsked}
 use Rattle.solomon_words.specs.declared.Instance.{Instance}
 use Rattle.solomon_words.proofs.LegLaws.{way_back}
@@ -32,6 +32,14 @@ row_within row places h = omega (arith, mul-le-mul_right places h, row_next row 
 
 pub leg_within : (row places column : ℕ) → row < places → column < places → row * places + column < places * places
 leg_within row places column h g = omega (arith, row_within row places h)
+
+-- the place of a leg among the bytes of the day fits 64 bits
+module _ {number : ℕ → ℕ → ℕ} {load n : ℕ} (f : Fit number load n) where
+  pub byte_fits : (row column : ℕ) → row < 2 + n → column < 2 + n → (9 + 3 * n + (row * (2 + n) + column)) * 4 < 18446744073709551616
+  byte_fits row column h g =
+      let most : 2 + n ≤ 242 = omega (arith, f.stops_most) in
+      let square : (2 + n) * (2 + n) ≤ 242 * 242 = mul-le-mul most most in
+      omega (arith, leg_within row (2 + n) column h g, square, f.stops_most)
 
 -- the word of a leg
 module _ (number : ℕ → ℕ → ℕ) (load n : ℕ) where
