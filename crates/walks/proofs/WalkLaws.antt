@@ -82,11 +82,17 @@ unfolding walk_task
 tip_driven {c = c} x z h start most more p v s =
     let e : ltb 0 v.cargo.load ≡ true = lt-ltb 0 v.cargo.load (omega (arith, s.riding.load_is, z)) in rw e (h start most more p v s)
 
--- before the way back
-pub home_drives : {day part mid now : List ℕ} {c e : Cab} {r : Option Cab} → Drives day 0 part c (λ v. some (resting day v)) mid (Some e)
-    → Drives day 0 mid e (λ v. emptied_first day (ltb 0 e.load) v) now r → Drives day 0 part c (λ v. walk_home day (some v)) now r
+-- before the way back: the vehicle that goes on is the one that has rested
+pub home_stands : {day mid : List ℕ} {e b : Cab} → SomeStanding day 0 mid e → b ≡ e → SomeStanding day 0 mid b
+home_stands s q = rw q s
+
+pub home_loaded : {load kept : ℕ} → kept ≡ load → ltb 0 load ≡ true → 0 < kept
+home_loaded q l = rw q (ltb-true _ _ l)
+
+pub home_drives : {day part mid now : List ℕ} {c e b : Cab} {r : Option Cab} → Drives day 0 part c (λ v. some (resting day v)) mid (Some e)
+    → Drives day 0 mid b (λ v. emptied_first day (ltb 0 e.load) v) now r → b ≡ e → Drives day 0 part c (λ v. walk_home day (some v)) now r
 unfolding walk_home
-home_drives {day} {e = e} h g start most more p v s =
+home_drives {day} {e = e} h g q start most more p v s =
     let t = on_road_lem (h start most more p v s) in
     let l : ltb 0 (resting day v).cargo.load ≡ ltb 0 e.load = ap (ltb 0) (sym t.riding.load_is) in
-    rw l (g start most more p (resting day v) (standing_fewer (omega arith) t))
+    rw l (g start most more p (resting day v) (rw q (standing_fewer (omega arith) t)))
