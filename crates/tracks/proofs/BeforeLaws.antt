@@ -9,34 +9,25 @@ use native.Mathlib.Numerals.{add-one}
 use native.Mathlib.Decide.{ℕ_discrete}
 use lib.ListN.{length, length-append, length-map, get_or, take, drop}
 use lib.Seq.{take-suc, drop-cons}
-use Rattle.std.specs.Prelude.{Option, Some, None, IfSome}
+use Rattle.std.specs.Prelude.{Option, Some, IfSome}
 use Rattle.rules.specs.PlanWords.{vehicle_word, rest_word}
 use Rattle.rules.specs.Plan.{Task, serve, empty, lunch, Round, task_word, stops_on, Known}
 use Rattle.rules.specs.Trip.{leaving}
 use Rattle.rules.specs.Build.{Truck, fresh}
 use Rattle.rules.specs.Attempts.{walk_on}
-use Rattle.rules.specs.declared.walk.Trip.{Trip}
 use Rattle.laws.specs.Buffer.{Wrote}
 use Rattle.laws.proofs.Plan.{stops_append}
 use Rattle.laws.proofs.Lists.{every_at, get_map}
 use Rattle.edits.specs.EditWords.{Means, a_stop, a_tip}
 use Rattle.edits.specs.Kept.{kept}
 use Rattle.walks.specs.Cabs.{Start, at_depot, Stands, failed, on_road}
-use Rattle.walks.specs.Rewalks.{SomeWord, WalksWord}
+use Rattle.walks.specs.Rewalks.{one_task, SomeWord, WalksWord}
 use Rattle.walks.specs.declared.cabs.Cab.{Cab}
-use Rattle.walks.proofs.CabLaws.{standing_fewer, some_standing, riding_trip}
+use Rattle.walks.proofs.CabLaws.{stands_fewer, riding_trip}
 use Rattle.walks.proofs.MidwayLaws.{fresh_stands}
 use Rattle.walks.proofs.RewalkLaws.{walk_append}
-use Rattle.walks.proofs.Walking.{failed_on}
-use Rattle.walks.proofs.WalkLaws.{stands_goes, stands_failed}
 use Rattle.tracks.specs.declared.before.Row.{Row}
 use Rattle.tracks.specs.Before.{cab_at, RowHolds, RidesIf, halted, rides, truck_before, BeforeTo, BeforeOf, RowsKept, VehicleTasks, TaskToWalk, WalksOrPasses}
-
--- it may serve as many stops or fewer
-stands_fewer : {day : List ℕ} {start : Start} {most more less : ℕ} {p part : List ℕ} {o : maybe.Option Truck} {c : Option Cab} → less ≤ more
-    → Stands day start most more p part o c → Stands day start most less p part o c
-stands_fewer l (failed z) = failed z
-stands_fewer l (on_road v c s) = on_road v c (standing_fewer l s)
 
 -- the part keeps its length
 pub stands_size : {day : List ℕ} {start : Start} {most more : ℕ} {p part : List ℕ} {o : maybe.Option Truck} {c : Option Cab} → Stands day start most more p part o c
@@ -51,11 +42,6 @@ task_passed z start most more p o (serve k) e n s = absurd (omega (arith, z, e, 
 task_passed z start most more p o (empty x) e n s = absurd (omega (arith, z, e, n.1))
 task_passed z start most more p o lunch e n s = stands_fewer (omega arith) s
 
--- a trial that has failed stays so
-pub task_failed : {day part : List ℕ} {w : ℕ} → WalksOrPasses day part None w part None
-task_failed {day} start most more p o task e n s =
-    let f = stands_failed o s in rw (f.0, failed_on day (kept (task ∷ []))) (failed f.1)
-
 -- any other task is a word that is walked
 task_means : {day : List ℕ} {w : ℕ} (task : Task) → (w ≡ rest_word → ⊥) → w ≡ task_word task → Known day task → (kept (task ∷ []) ≡ task ∷ []) × Means day w task
 unfolding task_word kept
@@ -63,21 +49,25 @@ task_means {day} (serve k) z e n = (refl, subst (λ (w : ℕ). Means day w (serv
 task_means {day} (empty x) z e n = (refl, subst (λ (w : ℕ). Means day w (empty x)) (sym e) (a_tip x n))
 task_means lunch z e n = absurd (z e)
 
--- the vehicle before that word
-pub task_word_lem : {day part : List ℕ} {c : Cab} {w : ℕ} → (w ≡ rest_word → ⊥) → TaskToWalk day part (Some c) w → SomeWord day part c w
+-- the vehicle before that word, or the trial that has failed
+pub task_word_lem : {day part : List ℕ} {c : Option Cab} {w : ℕ} → (w ≡ rest_word → ⊥) → TaskToWalk day part c w → SomeWord day part c w
 task_word_lem z s =
     record {
-      task = s.task;
-      means = (task_means s.task z s.is s.known).1;
-      stands = some_standing (omega arith) (stands_goes s.o s.stands).standing;
+      start = s.start;
+      most = s.most;
+      more = s.more;
+      p = s.p;
+      o = s.o;
+      tasks = s.task ∷ [];
+      means = one_task _ _ (task_means s.task z s.is s.known).1;
+      stands = s.stands;
     }
 
 -- the word is walked as the task is
-pub task_walked : {day part now : List ℕ} {c : Cab} {r : Option Cab} {w : ℕ} → (w ≡ rest_word → ⊥) → WalksWord day part c w now r → WalksOrPasses day part (Some c) w now r
+pub task_walked : {day part now : List ℕ} {c r : Option Cab} {w : ℕ} → (w ≡ rest_word → ⊥) → WalksWord day part c w now r → WalksOrPasses day part c w now r
 task_walked z h start most more p o task e n s =
     let t = task_means task z e n in
-    let g = stands_goes o s in
-    rw (t.0, g.is) (h task t.1 start most more p g.v g.standing)
+    rw t.0 (h start most more p o (task ∷ []) (one_task _ _ t.1) s)
 
 -- the place of a vehicle that goes on is small
 pub place_small : {day : List ℕ} {start : Start} {most more : ℕ} {p part : List ℕ} {o : maybe.Option Truck} {c : Option Cab} → Stands day start most more p part o c

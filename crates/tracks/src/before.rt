@@ -77,7 +77,7 @@ fn walk_task(day: &Day, cab: Option<Cab>, word: u32, part: &mut [u32]) -> Option
     if word == REST {
         return cab;
     }
-    walk_word(day, cab?, word, part)
+    walk_word(day, cab, word, part)
 }
 
 // The rows of the vehicle whose tasks are these words, of which the first stands at a place of the plan. The part is worked in.

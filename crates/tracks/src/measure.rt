@@ -54,7 +54,7 @@ fn walk_span(
         }
         cab = walk_task(day, edit, task, cab, tasks[task], part)?;
     }
-    let back = come_back(day, cab, part)?;
+    let back = come_back(day, Some(cab), part)?;
     Some(back.distance)
 }
 

@@ -3,8 +3,9 @@ use Prim.Native.Nat.{ℕ, ◌+◌, ◌*◌, ◌≤◌, ◌<◌}
 use mathlib.Core.Path.{◌≡◌, refl, sym, ap, ◌∙◌, subst}
 use mathlib.Core.Bool.{Bool, true, false}
 use mathlib.Core.List.{List, [], ◌∷◌, ◌++◌, map-append, append_assoc}
+use mathlib.Core.Option as maybe
 use mathlib.Core.Option.{some}
-use Rattle.std.specs.Prelude.{Some, None}
+use Rattle.std.specs.Prelude.{Option, Some, None}
 use native.Mathlib.Omega.{arith}
 use lib.ListN.{length, length-append, length-map, set}
 use borrow.Author.Tests.{ne_eqb}
@@ -59,6 +60,11 @@ standing_fewer l s =
       text = s.text;
       room = s.room;
     }
+
+pub stands_fewer : {day : List ℕ} {start : Start} {most more less : ℕ} {p part : List ℕ} {o : maybe.Option Truck} {c : Option Cab} → less ≤ more
+    → Stands day start most more p part o c → Stands day start most less p part o c
+stands_fewer l (failed z) = failed z
+stands_fewer l (on_road v c s) = on_road v c (standing_fewer l s)
 
 module _ {day : List ℕ} {start : Start} {most more : ℕ} {p part : List ℕ} {v : Truck} {c : Cab} where
   pub standing_space : Standing day start most more p part v c → Space part c.at

@@ -18,38 +18,58 @@ use Rattle.rules.specs.Attempts.{walk_on, walk_home, done_by, walked_again}
 use Rattle.rules.specs.declared.walk.Trip.{Trip}
 use Rattle.laws.specs.Buffer.{Wrote}
 use Rattle.laws.proofs.Buffer.{wrote_put, wrote_same}
-use Rattle.walks.specs.Cabs.{Start, at_depot, failed, on_road, SomeStanding, Drives}
-use Rattle.walks.specs.Rewalks.{WalksTask, Walkable, Midway, Through, Back, BackAs, ComesBack, Again, AgainAs, WalkedAs}
+use Rattle.walks.specs.Cabs.{Start, at_depot, Standing, failed, on_road, SomeStanding, Drives}
+use Rattle.walks.specs.Rewalks.{WalksTask, Walkable, Midway, Through, SomeDone, Back, BackAs, ComesBack, Again, AgainAs, WalkedAs}
 use Rattle.walks.specs.declared.cabs.Cab.{Cab}
 use Rattle.walks.specs.declared.vehicle.Walked.{Walked}
 use Rattle.walks.proofs.CabLaws.{standing_fewer, standing_space, some_standing}
 use Rattle.walks.proofs.MidwayLaws.{midway_fails, midway_size, midway_done, midway_whole}
-use Rattle.walks.proofs.WalkLaws.{stands_goes, stands_failed}
+use Rattle.walks.proofs.WalkLaws.{stands_goes, stands_failed, some_served}
 use Rattle.walks.proofs.Walking.{walked_on, walked_home, walked_distance}
 
--- the trial fails on the way back
-pub back_fails : {day part now : List ℕ} {c : Cab} → Drives day 0 part c (λ v. walk_home day (some v)) now None → ComesBack day part c now None
-back_fails {day} d start most p v s =
-    let f = stands_failed (walk_home day (some v)) (d start most 0 p v (standing_fewer (omega arith) s)) in
-    record { size = f.1; back = f.0 }
+-- the vehicle before its way back, where the trial has not failed, and on it
+pub standing_done : {day : List ℕ} {start : Start} {most : ℕ} {p part : List ℕ} {v : Truck} {c : Cab} → Standing day start most 0 p part v c → SomeDone day part (Some c)
+standing_done s = record { start = _; most = _; p = _; o = some _; stands = on_road _ _ s }
 
--- the vehicle is back
-pub back_comes : {day part now : List ℕ} {c b : Cab} {leg : ℕ} (r : Walked) → Drives day 0 part c (λ v. walk_home day (some v)) now (Some b)
-    → leg ≡ leg_distance day b.trip.place 0 → r.words ≡ b.at + 1 → r.distance ≡ b.trip.distance + leg → ComesBack day part c now (Some r)
-back_comes {day} {b = b} r d k n l start most p v s =
-    let f = stands_goes (walk_home day (some v)) (d start most 0 p v (standing_fewer (omega arith) s)) in
-    record {
-      size = f.standing.text.size;
-      back = record {
-        v = f.v;
-        is = f.is;
-        cab = b;
-        standing = f.standing;
-        words = n;
-        distance =
-            l ∙ ap (λ (x : ℕ). b.trip.distance + x) k ∙ ap (λ (x : Trip). x.distance + leg_distance day x.place 0) f.standing.riding.trip_is;
-      };
-    }
+module _ {day part : List ℕ} {o : Option Cab} where
+  pub done_standing : {c : Cab} → SomeDone day part o → o ≡ Some c → SomeStanding day 0 part c
+  done_standing s q = let t = rw q at s.stands in some_standing (omega arith) (stands_goes s.o t).standing
+
+  pub back_standing : {now : List ℕ} {c b : Cab} → SomeDone day part o → Drives day 0 part c (λ v. walk_home day (some v)) now (Some b) → o ≡ Some c → SomeStanding day 0 now b
+  back_standing s d q = some_served _ (done_standing s q) d
+
+  -- the trial has failed before the way back
+  pub back_failed : {r : Option Walked} → o ≡ None → r ≡ None → ComesBack day part o part r
+  unfolding walk_home
+  back_failed q e start most p u h =
+      let f = stands_failed u (rw q at h) in
+      rw e (record { size = f.1; back = rw f.0 refl })
+
+  -- or it fails on it
+  pub back_fails : {now : List ℕ} {c : Cab} {r : Option Walked} → Drives day 0 part c (λ v. walk_home day (some v)) now None → r ≡ None → o ≡ Some c → ComesBack day part o now r
+  back_fails d e q start most p u h =
+      let t = stands_goes u (rw q at h) in
+      let f = stands_failed (walk_home day (some t.v)) (d start most 0 p t.v (standing_fewer (omega arith) t.standing)) in
+      rw e (record { size = f.1; back = ap (walk_home day) t.is ∙ f.0 })
+
+  -- the vehicle is back
+  pub back_comes : {now : List ℕ} {c b : Cab} {leg : ℕ} (r : Walked) → Drives day 0 part c (λ v. walk_home day (some v)) now (Some b)
+      → leg ≡ leg_distance day b.trip.place 0 → r.words ≡ b.at + 1 → r.distance ≡ b.trip.distance + leg → o ≡ Some c → ComesBack day part o now (Some r)
+  back_comes {b = b} r d k n l q start most p u h =
+      let t = stands_goes u (rw q at h) in
+      let f = stands_goes (walk_home day (some t.v)) (d start most 0 p t.v (standing_fewer (omega arith) t.standing)) in
+      record {
+        size = f.standing.text.size;
+        back = record {
+          v = f.v;
+          is = ap (walk_home day) t.is ∙ f.is;
+          cab = b;
+          standing = f.standing;
+          words = n;
+          distance =
+              l ∙ ap (λ (x : ℕ). b.trip.distance + x) k ∙ ap (λ (x : Trip). x.distance + leg_distance day x.place 0) f.standing.riding.trip_is;
+        };
+      }
 
 -- how far a vehicle that is back drives
 home_drives : (day : List ℕ) (tasks : Round) (o : maybe.Option Truck) (u : Truck) → Every (Known day) tasks → walk_on day tasks (some (fresh day [])) ≡ o → walk_home day o ≡ some u
@@ -89,24 +109,15 @@ module _ {day : List ℕ} {e : Edit} {number : ℕ} {words p part : List ℕ} {t
   tasks_done l m = record { stands = rw (midway_whole h l m) (on_road m.v c (midway_done h l m)) }
 
 module _ {day : List ℕ} {e : Edit} {number : ℕ} {words p part : List ℕ} {tasks : Round} (h : Walkable day e words p tasks) where
-  -- the trial has failed among the tasks
-  pub through_fails : Through day e number p part tasks None → WalkedAs day number (changed e 0 tasks) p part None
-  unfolding walk_home
-  through_fails m =
-      let f = stands_failed (whole day e tasks) m.stands in
-      record { size = f.1; written = again_none day (changed e 0 tasks) (rw f.0 refl) }
-
-  module _ {c : Cab} (m : Through day e number p part tasks (Some c)) where
-    -- there is a vehicle before its way back
-    pub through_some : SomeStanding day 0 part c
-    through_some = some_standing (omega arith) (stands_goes (whole day e tasks) m.stands).standing
+  module _ {c : Option Cab} (m : Through day e number p part tasks c) where
+    -- there is a vehicle before its way back, or the trial has failed among the tasks
+    pub through_done : SomeDone day part c
+    through_done = record { start = at_depot number; most = _; p = p; o = whole day e tasks; stands = m.stands }
 
     came : {mid : List ℕ} {r : Option Walked} → ComesBack day part c mid r → BackAs day (at_depot number) (length (stops_on (changed e 0 tasks))) p mid (whole day e tasks) r
-    came {mid} {r} b =
-        let t = stands_goes (whole day e tasks) m.stands in
-        subst (λ (o : maybe.Option Truck). BackAs day (at_depot number) (length (stops_on (changed e 0 tasks))) p mid o r) (sym t.is) (b (at_depot number) _ p t.v t.standing)
+    came b = b (at_depot number) _ p (whole day e tasks) m.stands
 
-    -- the trial has failed on the way back
+    -- the trial has failed, among the tasks or on the way back
     pub walked_failed : {mid : List ℕ} → ComesBack day part c mid None → WalkedAs day number (changed e 0 tasks) p mid None
     walked_failed b = record { size = (came b).size; written = again_none day (changed e 0 tasks) (came b).back }
 

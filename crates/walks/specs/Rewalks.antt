@@ -21,17 +21,29 @@ use Rattle.walks.specs.declared.vehicle.Walked.{Walked}
 abbrev pub Walks : List ℕ → List ℕ → Cab → Round → List ℕ → Option Cab → Type 0
 Walks day part c tasks now r = Drives day (length (stops_on tasks)) part c (λ v. walk_on day tasks (some v)) now r
 
--- a vehicle before a word
-pub record SomeWord (day part : List ℕ) (c : Cab) (w : ℕ) : Type 0 where
-  pub task : Task
-  pub means : Means day w task
-  pub stands : SomeStanding day (length (stops_on (task ∷ []))) part c
+-- the tasks that a word stands for: a stop's or a tip's one, and of word 0 none
+pub data MeansTasks (day : List ℕ) : ℕ → Round → Type 0 where
+  nothing : MeansTasks day 0 []
+  one_task : (w : ℕ) (task : Task) → Means day w task → MeansTasks day w (task ∷ [])
+
+-- a vehicle or a failed trial, with a word before it
+pub record SomeWord (day part : List ℕ) (c : Option Cab) (w : ℕ) : Type 0 where
+  pub start : Start
+  pub most : ℕ
+  pub more : ℕ
+  pub p : List ℕ
+  pub o : maybe.Option Truck
+  pub tasks : Round
+  pub means : MeansTasks day w tasks
+  pub stands : Stands day start most (length (stops_on tasks) + more) p part o c
 
 -- it has walked the word
-abbrev pub WalksWord : List ℕ → List ℕ → Cab → ℕ → List ℕ → Option Cab → Type 0
-WalksWord day part c w now r = (task : Task) → Means day w task → Walks day part c (task ∷ []) now r
+abbrev pub WalksWord : List ℕ → List ℕ → Option Cab → ℕ → List ℕ → Option Cab → Type 0
+WalksWord day part c w now r =
+    (start : Start) (most more : ℕ) (p : List ℕ) (o : maybe.Option Truck) (tasks : Round) → MeansTasks day w tasks
+    → Stands day start most (length (stops_on tasks) + more) p part o c → Stands day start most more p now (walk_on day tasks o) r
 
--- and so of what a word has become
+-- a vehicle before what a word has become
 pub record SomeChange (day part : List ℕ) (c : Cab) (made : Change) : Type 0 where
   pub tasks : Round
   pub makes : Makes day made tasks
@@ -76,6 +88,14 @@ pub record Through (day : List ℕ) (e : Edit) (number : ℕ) (p part : List ℕ
 abbrev pub WalksAll : List ℕ → Edit → ℕ → List ℕ → List ℕ → List ℕ → Option Cab → Type 0
 WalksAll day e number words p part r = (tasks : Round) → Walkable day e words p tasks → Through day e number p part tasks r
 
+-- a vehicle or a failed trial, and no task left
+pub record SomeDone (day part : List ℕ) (c : Option Cab) : Type 0 where
+  pub start : Start
+  pub most : ℕ
+  pub p : List ℕ
+  pub o : maybe.Option Truck
+  pub stands : Stands day start most 0 p part o c
+
 -- the vehicle is back, but for its E word
 pub record Back (day : List ℕ) (start : Start) (most : ℕ) (p part : List ℕ) (o : maybe.Option Truck) (r : Walked) : Type 0 where
   pub v : Truck
@@ -94,8 +114,9 @@ pub record BackAs (day : List ℕ) (start : Start) (most : ℕ) (p part : List �
   pub size : length part ≡ length p
   pub back : BackIf day start most p part o r
 
-abbrev pub ComesBack : List ℕ → List ℕ → Cab → List ℕ → Option Walked → Type 0
-ComesBack day part c now r = (start : Start) (most : ℕ) (p : List ℕ) (v : Truck) → Standing day start most 0 p part v c → BackAs day start most p now (some v) r
+abbrev pub ComesBack : List ℕ → List ℕ → Option Cab → List ℕ → Option Walked → Type 0
+ComesBack day part c now r =
+    (start : Start) (most : ℕ) (p : List ℕ) (o : maybe.Option Truck) → Stands day start most 0 p part o c → BackAs day start most p now o r
 
 -- the vehicle is walked again: what it has done, and how far it drives
 pub record Again (day : List ℕ) (tasks : Round) (distance : ℕ) : Type 0 where

@@ -5,8 +5,7 @@ ghost use Rattle.rules.specs.Plan.{Round};
 ghost use Rattle.rules.specs.Trip.{leaving};
 ghost use Rattle.rules.specs.Edits.{changed};
 ghost use Rattle.edits.specs.EditWords.{edit_of, EditKnown};
-ghost use Rattle.walks.specs.Cabs.{SomeStanding};
-ghost use Rattle.walks.specs.Rewalks.{SomeWord, WalksWord, SomeChange, WalksChange, SomeTask, WalksTask, Walkable, SomeWalkable, WalksAll, ComesBack, WalkedAs};
+ghost use Rattle.walks.specs.Rewalks.{SomeWord, WalksWord, SomeChange, WalksChange, SomeTask, WalksTask, Walkable, SomeWalkable, WalksAll, SomeDone, ComesBack, WalkedAs};
 
 use crate::cabs::{Cab, rest_cab, walk_home, walk_stop, walk_tip};
 use day::days::Day;
@@ -14,17 +13,23 @@ use edits::{Change, Edit, change_word};
 use plan_words::{BACK, PlanWord, VEHICLE, read_word};
 use trips::drives::leave;
 
-// One word is walked, a stop or a tip; none where the trial has failed. In line, as `walk_stop` is.
+// One word is walked, a stop or a tip, behind a rest where one is due. Of the others only word 0 may come, which means no task: it is passed
+// over, and so no rest stands before it. A vehicle whose trial has failed is none, and stays so. In line, as `walk_stop` is.
 #[inline(always)]
-pub fn walk_word(day: &Day, cab: Cab, word: u32, part: &mut [u32]) -> Option<Cab>
+pub fn walk_word(day: &Day, cab: Option<Cab>, word: u32, part: &mut [u32]) -> Option<Cab>
     requires { IsAccepted day.now × SomeWord day.now part.old cab word }
     ensures { WalksWord day.now part.old cab word part.new result }
 {
-    let rested = rest_cab(day, cab, part);
     match read_word(word) {
-        Some(PlanWord::Stop(stop)) => walk_stop(day, rested, stop, part),
-        Some(PlanWord::Tip(tip)) => Some(walk_tip(day, rested, tip, part)),
-        _ => None,
+        Some(PlanWord::Stop(stop)) => {
+            let rested = rest_cab(day, cab?, part);
+            walk_stop(day, rested, stop, part)
+        }
+        Some(PlanWord::Tip(tip)) => {
+            let rested = rest_cab(day, cab?, part);
+            Some(walk_tip(day, rested, tip, part))
+        }
+        _ => cab,
     }
 }
 
@@ -36,10 +41,10 @@ fn walk_change(day: &Day, cab: Cab, change: Change, part: &mut [u32]) -> Option<
 {
     match change {
         Change::Gone => Some(cab),
-        Change::One(word) => walk_word(day, cab, word, part),
+        Change::One(word) => walk_word(day, Some(cab), word, part),
         Change::Two(first, second) => {
-            let next = walk_word(day, cab, first, part)?;
-            walk_word(day, next, second, part)
+            let next = walk_word(day, Some(cab), first, part)?;
+            walk_word(day, Some(next), second, part)
         }
     }
 }
@@ -92,12 +97,13 @@ pub struct Walked {
     pub distance: u32,
 }
 
-// The way back, once the tasks are done. The words are counted with the E word, which is not written.
-pub fn come_back(day: &Day, cab: Cab, part: &mut [u32]) -> Option<Walked>
-    requires { IsAccepted day.now × SomeStanding day.now 0 part.old cab }
+// The way back, once the tasks are done; none where the trial has failed, before it or on it. The words are counted with the E word, which is
+// not written.
+pub fn come_back(day: &Day, cab: Option<Cab>, part: &mut [u32]) -> Option<Walked>
+    requires { IsAccepted day.now × SomeDone day.now part.old cab }
     ensures { ComesBack day.now part.old cab part.new result }
 {
-    let back = walk_home(day, cab, part)?;
+    let back = walk_home(day, cab?, part)?;
     let leg = day.leg(back.trip.place, 0);
     Some(Walked {
         words: back.at + 1,
@@ -116,7 +122,7 @@ pub fn walk_vehicle(
     requires { IsAccepted day.now × EditKnown day.now edit × (number < 256) × SomeWalkable day.now (edit_of edit) tasks.now part.old }
     ensures { (ts : Round) → Walkable day.now (edit_of edit) tasks.now part.old ts → WalkedAs day.now number (changed (edit_of edit) 0 ts) part.old part.new result }
 {
-    let cab = walk_tasks(day, edit, number, tasks, part)?;
+    let cab = walk_tasks(day, edit, number, tasks, part);
     let walked = come_back(day, cab, part)?;
     part[walked.words - 1] = BACK;
     Some(walked)

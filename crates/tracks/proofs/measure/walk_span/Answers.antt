@@ -1,8 +1,8 @@
 -- `tracks::measure::walk_span` meets its contract.
-use native.Mathlib.Omega.{arith}
 use mathlib.Core.Path.{refl, sym, ◌∙◌}
-use Rattle.walks.proofs.CabLaws.{some_standing}
-use Rattle.walks.proofs.HomeLaws.{again_back}
+use mathlib.Core.Option.{some}
+use Rattle.walks.specs.Cabs.{on_road}
+use Rattle.walks.proofs.HomeLaws.{standing_done, again_back}
 use Rattle.walks.proofs.MidwayLaws.{midway_task, midway_step, midway_fails, midway_done, midway_whole}
 use Rattle.tracks.proofs.MeasureLaws.{drives_none, left_drives, left_small}
 use Rattle.tracks.proofs.measure.walk_span.Goals as goal
@@ -34,16 +34,16 @@ loop-task-preserved c = λ ts start p h m. midway_step h.walkable c.loop-task-te
 pub come_back-requires : goal.come_back-requires
 come_back-requires c =
     let s = c.requires.4 in
-    (c.requires.0, some_standing (omega arith) (midway_done s.cuttable.walkable c.loop-task-test.false (c.loop-task.invariant s.tasks s.start s.p s.cuttable s.midway)))
+    (c.requires.0, standing_done (midway_done s.cuttable.walkable c.loop-task-test.false (c.loop-task.invariant s.tasks s.start s.p s.cuttable s.midway)))
 
 pub returns-in_err-back : goal.returns-in_err-back
 returns-in_err-back c =
     λ ts start p h m.
     let w = c.loop-task.invariant ts start p h m in
-    rw c.from_residual-in_err-back.ensures (again_back _ _ _ _ h.walkable.edited (midway_whole h.walkable c.loop-task-test.false w) (c.in_err-back.ensures start _ p _ (midway_done h.walkable c.loop-task-test.false w)))
+    rw c.from_residual-in_err-back.ensures (again_back _ _ _ _ h.walkable.edited (midway_whole h.walkable c.loop-task-test.false w) (c.in_err-back.ensures start _ p (some _) (on_road _ _ (midway_done h.walkable c.loop-task-test.false w))))
 
 pub returns : goal.returns
 returns c =
     λ ts start p h m.
     let w = c.loop-task.invariant ts start p h m in
-    again_back _ _ _ _ h.walkable.edited (midway_whole h.walkable c.loop-task-test.false w) (c.in_ok-back.ensures start _ p _ (midway_done h.walkable c.loop-task-test.false w))
+    again_back _ _ _ _ h.walkable.edited (midway_whole h.walkable c.loop-task-test.false w) (c.in_ok-back.ensures start _ p (some _) (on_road _ _ (midway_done h.walkable c.loop-task-test.false w)))

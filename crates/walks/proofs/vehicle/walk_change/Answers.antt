@@ -1,6 +1,12 @@
 -- `walks::vehicle::walk_change` meets its contract.
-use Rattle.walks.proofs.RewalkLaws.{change_none, change_failed, change_two, some_first, some_second}
+use Rattle.walks.proofs.RewalkLaws.{change_none, change_one, change_failed, change_two, some_one, some_first, some_second}
 use Rattle.walks.proofs.vehicle.walk_change.Goals as goal
+
+pub walk_word-requires : goal.walk_word-requires
+walk_word-requires c = (c.requires.0, some_one (rw c.in-One.is at c.requires.1))
+
+pub returns-in-One : goal.returns-in-One
+returns-in-One c = rw c.in-One.is (change_one c.walk_word.ensures)
 
 pub walk_word-requires-in-Two : goal.walk_word-requires-in-Two
 walk_word-requires-in-Two c = (c.requires.0, some_first (rw c.in-Two.is at c.requires.1))
