@@ -1,13 +1,13 @@
 // The first leg at fault. A row is looked at as a whole, and word by word only where that finds something.
 ghost use Rattle.std.specs.Prelude.{◌≡◌, ◌+◌, ◌<◌, true, length};
-ghost use Rattle.rules.specs.DayFile.{legs_at};
-ghost use Rattle.rules.specs.Fields.{tips, stops, places};
-ghost use Rattle.day_faults.specs.Judging.{judged_from, judged_after, row_at};
+ghost use Rattle.rules.specs.DayFile.{places_of, legs_at};
+ghost use Rattle.day_faults.specs.Judging.{row_at};
+ghost use Rattle.day_faults.specs.Parts.{PartJudged};
 ghost use Rattle.day_faults.specs.Rows.{InRange, RowRight};
 
 use crate::faults::{Fault, placed};
+use crate::sizes::SizedDay;
 use crate::words::test_leg;
-use day::days::Day;
 
 // Whether each word is a leg of at most 1,440 minutes. Such legs are one range of words: kind 9 in bits 31-28, minutes 0 to 0x5A0 in
 // bits 27-16, any distance in bits 15-0. The fold has no way out but its end, so that several words are compared at once.
@@ -28,18 +28,18 @@ fn row_right(row: &[u32], own: usize) -> bool
 }
 
 // The leg from one place to another, or to itself.
-fn check_leg(day: &Day, from: usize, to: usize) -> Result<(), Fault>
-    requires { (from < places day.now) × (to < places day.now) }
-    ensures { judged_from day.now (row_at day.now from + to) ≡ judged_after day.now (row_at day.now from + to + 1) result }
+fn check_leg(day: &SizedDay, from: usize, to: usize) -> Result<(), Fault>
+    requires { (from < places_of day.now.tips day.now.stops) × (to < places_of day.now.tips day.now.stops) }
+    ensures { PartJudged day.now (row_at day.now.tips day.now.stops from + to) (row_at day.now.tips day.now.stops from + to + 1) result }
 {
     let at = day.leg_index(from, to);
-    placed(test_leg(day.words()[at], from == to), at)
+    placed(test_leg(day.words[at], from == to), at)
 }
 
 // The legs from a place, word by word.
-fn check_row(day: &Day, from: usize) -> Result<(), Fault>
-    requires { from < places day.now }
-    ensures { judged_from day.now (row_at day.now from) ≡ judged_after day.now (row_at day.now (from + 1)) result }
+fn check_row(day: &SizedDay, from: usize) -> Result<(), Fault>
+    requires { from < places_of day.now.tips day.now.stops }
+    ensures { PartJudged day.now (row_at day.now.tips day.now.stops from) (row_at day.now.tips day.now.stops (from + 1)) result }
 {
     for to in 0..day.places() {
         check_leg(day, from, to)?;
@@ -48,14 +48,14 @@ fn check_row(day: &Day, from: usize) -> Result<(), Fault>
 }
 
 // The legs from every place.
-pub fn check_legs(day: &Day) -> Result<(), Fault>
-    ensures { judged_from day.now (legs_at (tips day.now) (stops day.now)) ≡ judged_after day.now (length day.now) result }
+pub fn check_legs(day: &SizedDay) -> Result<(), Fault>
+    ensures { PartJudged day.now (legs_at day.now.tips day.now.stops) (length day.now.words.now) result }
 {
-    let words = day.words();
-    for from in 0..day.places() {
+    let places = day.places();
+    for from in 0..places {
         let start = day.leg_index(from, 0);
-        let end = start + day.places();
-        if !row_right(&words[start..end], from) {
+        let end = start + places;
+        if !row_right(&day.words[start..end], from) {
             check_row(day, from)?;
         }
     }

@@ -4,4 +4,5 @@
 pub mod faults;
 pub mod legs;
 pub mod parts;
+pub mod sizes;
 mod words;

@@ -1,10 +1,10 @@
 // A day judged: accepted, or refused at its first word at fault.
 #![tactic(auto)]
 
-ghost use Rattle.std.specs.Prelude.{◌≡◌, MatchResult};
+ghost use Rattle.std.specs.Prelude.{◌≡◌, IfOk, IfErr, MatchResult};
 ghost use Rattle.rules.specs.Answers.{refused};
 ghost use Rattle.rules.specs.DayFile.{judge_day};
-ghost use Rattle.rules.specs.Fields.{IsAccepted};
+ghost use Rattle.rules.specs.Fields.{tips, stops, IsAccepted};
 ghost use Rattle.rules.specs.AnswerValues.{day_values, answer_values, plan_values};
 ghost use Rattle.day_faults.specs.Judging.{judged_from};
 ghost use Rattle.judge.specs.Refusals.{refusal_number, refusal_place};
@@ -14,6 +14,7 @@ use day::days::Day;
 use day_faults::faults::Fault;
 use day_faults::legs::check_legs;
 use day_faults::parts::{check_head, check_stops, check_tips};
+use day_faults::sizes::SizedDay;
 use rules::answers::{Answer, DayAnswer, PlanAnswer};
 use rules::faults::{CallFault, DayFault};
 
@@ -94,10 +95,13 @@ impl From<Refusal> for PlanAnswer {
     }
 }
 
-// The day, where its length is right for what word 0 says: kind 1 in bits 31-28, zeros in bits 27-12, d in bits 11-8, n in bits 7-0.
-#[tactic(auto, unfolding(rules::specs::DayFile::judge_day, rules::specs::DayFile::judge_sized, day_faults::specs::Judging::judged_from))]
-fn sized(day: &[u32]) -> Result<Day<'_>, Refusal>
-    ensures { MatchResult result (λ laid. (laid ≡ day.now) × (judged_from laid 1 ≡ judge_day day.now)) (λ refusal. refused (refusal_number refusal) (refusal_place refusal) ≡ judge_day day.now) }
+// The day's words with the tips and stops of word 0, where its length is right for them: kind 1 in bits 31-28, zeros in bits 27-12, d in
+// bits 11-8, n in bits 7-0.
+#[tactic(auto, using(day_faults::proofs::Judged::whole_day), unfolding(rules::specs::DayFile::judge_day, rules::specs::DayFile::judge_sized, day_faults::specs::Judging::judged_from))]
+fn sized(day: &[u32]) -> Result<SizedDay<'_>, Refusal>
+    ensures size { IfOk result (λ sized. (sized.words.now ≡ day.now) × (sized.tips ≡ tips day.now) × (sized.stops ≡ stops day.now)) }
+    ensures judged { IfOk result (λ sized. judged_from sized.tips sized.stops day.now 1 ≡ judge_day day.now) }
+    ensures refusal { IfErr result (λ refusal. refused (refusal_number refusal) (refusal_place refusal) ≡ judge_day day.now) }
 {
     if day.len() < 7 {
         return Err(Refusal::Short { words: day.len() });
@@ -118,7 +122,11 @@ fn sized(day: &[u32]) -> Result<Day<'_>, Refusal>
     if day.len() != 7 + 2 * tips + 3 * stops + places * places {
         return Err(Refusal::Length { words: day.len() });
     }
-    Ok(Day::new(day))
+    Ok(SizedDay {
+        words: day,
+        tips,
+        stops,
+    })
 }
 
 // A day of any words and any length, laid out where it is accepted.
@@ -126,12 +134,12 @@ fn sized(day: &[u32]) -> Result<Day<'_>, Refusal>
 pub fn lay_out(day: &[u32]) -> Result<Day<'_>, Refusal>
     ensures { MatchResult result (λ laid. (laid ≡ day.now) × IsAccepted day.now) (λ refusal. refused (refusal_number refusal) (refusal_place refusal) ≡ judge_day day.now) }
 {
-    let day = sized(day)?;
-    check_head(&day)?;
-    check_tips(&day)?;
-    check_stops(&day)?;
-    check_legs(&day)?;
-    Ok(day)
+    let sized = sized(day)?;
+    check_head(&sized)?;
+    check_tips(&sized)?;
+    check_stops(&sized)?;
+    check_legs(&sized)?;
+    Ok(Day::new(day))
 }
 
 // A day of any words and any length is accepted, or refused by 1 to 5.

@@ -15,5 +15,5 @@ loop-from-preserved c =
       | then-not-row_right+in_ok-check_row w ↦ search rules
       | else-not-row_right w ↦
           let right = c.row_right.ensures w.if-not-row_right.false in
-          glance_passes _ _ c.loop-from.from _ _ right c.leg_index-start.ensures.at c.places.ensures c.words-words.ensures.same c.words-words.ensures.long (omega arith)
+          glance_passes _ _ _ c.loop-from.from _ _ right c.leg_index-start.ensures.at c.places-places.ensures c.args.day.now.whole.long (omega arith)
     ]
