@@ -16,8 +16,11 @@ const DAY_WORDS: usize = 16384;
 // Five words for each of 240 stops.
 const PLAN_WORDS: usize = 1200;
 
+// The most bytes that are printed: the plan's words take nine each, and the line before them at most 88.
+pub const ROOM: usize = 16384;
+
 // The text of a day's words, planned with neighbourhoods of five stops and six trials.
-fn put_day(text: &mut Text, day: &[u32])
+fn put_day(text: &mut Text<ROOM>, day: &[u32])
     requires { text.old ≡ [] }
     ensures { text.new ≡ day_text day.now }
 {
@@ -28,7 +31,7 @@ fn put_day(text: &mut Text, day: &[u32])
 }
 
 // The text of a day file's bytes, four to a word.
-fn put_file(text: &mut Text, bytes: &[u8])
+fn put_file(text: &mut Text<ROOM>, bytes: &[u8])
     requires { text.old ≡ [] }
     ensures { text.new ≡ bytes_text bytes.now }
 {
@@ -39,8 +42,8 @@ fn put_file(text: &mut Text, bytes: &[u8])
     }
 }
 
-// What the program prints of a day file with these bytes: as any text, at most 16,384 bytes.
-pub fn plan_text(bytes: &[u8]) -> Text
+// What the program prints of a day file with these bytes: as its room says, at most 16,384 bytes.
+pub fn plan_text(bytes: &[u8]) -> Text<ROOM>
     ensures { result ≡ printed bytes.now }
 {
     let mut text = Text::new();

@@ -5,4 +5,4 @@ mod lines;
 mod numbers;
 mod put;
 
-pub use put::{ROOM, Text};
+pub use put::Text;

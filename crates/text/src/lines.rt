@@ -3,10 +3,10 @@ ghost use Rattle.std.specs.Prelude.{◌≡◌, ◌+◌, ◌*◌, ◌≤◌, ◌+
 ghost use Rattle.rules.specs.AnswerValues.{plan_values};
 ghost use Rattle.text.specs.Lines.{yes, no, refused_line, planned_line, answer_text, Within};
 
-use crate::put::{ROOM, Text};
+use crate::put::Text;
 use rules::answers::PlanAnswer;
 
-impl Text {
+impl<const ROOM: usize> Text<ROOM> {
     // "refused", number, place.
     #[tactic(auto, unfolding(crate::specs::Lines::refused_line))]
     pub fn put_refused(&mut self, number: u32, place: usize)

@@ -3,7 +3,7 @@ ghost use Rattle.std.specs.Prelude.{◌≡◌, ◌+◌, ◌*◌, ◌<◌, ◌≤
 ghost use Rattle.text.specs.Lines.{number, word_line, word_lines};
 ghost use Rattle.text.specs.Numbers.{decimal, hexadecimal, digit as Numbers·digit};
 
-use crate::put::{ROOM, Text};
+use crate::put::Text;
 
 // A number below 16 as `0` to `9` or `A` to `F`.
 #[tactic(auto, unfolding(crate::specs::Numbers::digit))]
@@ -17,7 +17,7 @@ fn digit(value: u8) -> u8
     }
 }
 
-impl Text {
+impl<const ROOM: usize> Text<ROOM> {
     // A number's decimal digits.
     fn put_decimal(&mut self, n: u64)
         requires { length self.old + 20 ≤ ROOM }

@@ -1,21 +1,17 @@
-// A text, and bytes put at its end. A clause sees the bytes written so far.
+// A text of at most ROOM bytes, and bytes put at its end. A clause sees the bytes written so far.
 ghost use Rattle.std.specs.Prelude.{◌≡◌, ◌+◌, ◌<◌, ◌≤◌, [], ◌∷◌, ◌++◌, length};
 
 use std::marker::Model;
 
-// The most bytes that a text may have.
-pub const ROOM: usize = 16384;
-
 // No fmt::Write: its clauses speak of Ok alone, so that writing here could fail.
 #[derive(Drop)]
-pub struct Text {
+pub struct Text<const ROOM: usize> {
     bytes: [u8; ROOM],
     len: usize,
 }
 
-impl Model for Text {
+impl<const ROOM: usize> Model for Text<ROOM> {
     ghost use Rattle.std.specs.Prelude.{ℕ, ◌≤◌, List, take};
-    ghost use Rattle.text.specs.declared.put.TheConstants.{ROOM};
 
     ghost Value = { List ℕ };
 
@@ -24,9 +20,9 @@ impl Model for Text {
     ghost invariant = { λ t. t.len ≤ ROOM };
 }
 
-impl Text {
+impl<const ROOM: usize> Text<ROOM> {
     // Nothing is written yet.
-    pub fn new() -> Text
+    pub fn new() -> Text<ROOM>
         ensures { result ≡ [] }
     {
         Text {
@@ -58,7 +54,9 @@ impl Text {
         ensures { self.new ≡ self.old ++ bytes.now }
     {
         let end = self.len + bytes.len();
-        self.bytes[self.len..end].copy_from_slice(bytes);
+        // a slice first: no part of an array whose length is a parameter is lent
+        let slots = &mut self.bytes[..];
+        slots[self.len..end].copy_from_slice(bytes);
         self.len = end;
     }
 }

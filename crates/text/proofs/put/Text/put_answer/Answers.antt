@@ -5,7 +5,7 @@ use Rattle.text.proofs.LineLaws.{plan_text, refusal_text}
 use Rattle.text.proofs.put.Text.put_answer.Goals as goal
 
 pub returns-in-Planned : goal.returns-in-Planned
-returns-in-Planned c = rw (c.in-Planned.is, plan_text) (grind (arith, common_steps))
+returns-in-Planned g c = rw (c.in-Planned.is, plan_text) (grind (arith, common_steps))
 
 pub returns-in-Refused : goal.returns-in-Refused
-returns-in-Refused c = rw (c.in-Refused.is, refusal_text) (grind (arith, common_steps))
+returns-in-Refused g c = rw (c.in-Refused.is, refusal_text) (grind (arith, common_steps))

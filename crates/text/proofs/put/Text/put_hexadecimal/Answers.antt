@@ -5,13 +5,13 @@ use Rattle.text.proofs.DigitLaws.{hex_none, hex_turn, hex_all, hex_length}
 use Rattle.text.proofs.put.Text.put_hexadecimal.Goals as goal
 
 pub loop-i-init : goal.loop-i-init
-loop-i-init c = grind (arith, common_steps, hex_none)
+loop-i-init g c = grind (arith, common_steps, hex_none)
 
 pub put-requires : goal.put-requires
-put-requires c = rw (c.loop-i.invariant, length-append, hex_length) (omega arith)
+put-requires g c = rw (c.loop-i.invariant, length-append, hex_length) (omega arith)
 
 pub loop-i-preserved : goal.loop-i-preserved
-loop-i-preserved c = c.put.ensures ∙ rw (c.digit.ensures, c.loop-i.invariant, hex_turn, append_assoc)
+loop-i-preserved g c = c.put.ensures ∙ rw (c.digit.ensures, c.loop-i.invariant, hex_turn, append_assoc)
 
 pub returns : goal.returns
-returns c = grind (arith, common_steps, hex_all)
+returns g c = grind (arith, common_steps, hex_all)

@@ -4,4 +4,4 @@ use Rattle.text.specs.Numbers.{hex_digits}
 use Rattle.text.proofs.put.Text.put_hexadecimal.Given as goal
 
 abbrev pub invariant-loop-i : goal.invariant-loop-i
-invariant-loop-i l = l.self ≡ l.initial.self ++ hex_digits l.word l.i
+invariant-loop-i g l = l.self ≡ l.initial.self ++ hex_digits l.word l.i
