@@ -1,5 +1,5 @@
 // Numbers put at the end of a text: decimal, and words of eight hexadecimal digits.
-ghost use Rattle.std.specs.Prelude.{◌≡◌, ◌+◌, ◌*◌, ◌<◌, ◌≤◌, ◌++◌, length};
+ghost use Rattle.std.specs.Prelude.{◌≡◌, ◌+◌, ◌-◌, ◌*◌, ◌/◌, ◌%◌, ◌^◌, ◌<◌, ◌≤◌, ◌++◌, length};
 ghost use Rattle.text.specs.Lines.{number, word_line, word_lines};
 ghost use Rattle.text.specs.Numbers.{decimal, hexadecimal, digit as Numbers·digit};
 
@@ -15,6 +15,14 @@ fn digit(value: u8) -> u8
         0..=9 => b'0' + value,
         _ => b'A' + (value - 10),
     }
+}
+
+// Digit i of a word's eight hexadecimal digits, the highest first.
+fn hexadecimal_digit(word: u32, i: u32) -> u8
+    requires { i < 8 }
+    ensures { result ≡ Numbers·digit (word / 2 ^ (28 - 4 * i) % 16) }
+{
+    digit(((word >> (28 - 4 * i)) % 16) as u8)
 }
 
 impl<const ROOM: usize> Text<ROOM> {
@@ -46,7 +54,7 @@ impl<const ROOM: usize> Text<ROOM> {
         ensures { self.new ≡ self.old ++ hexadecimal word }
     {
         for i in 0..8u32 {
-            self.put(digit(((word >> (28 - 4 * i)) % 16) as u8));
+            self.put(hexadecimal_digit(word, i));
         }
     }
 
