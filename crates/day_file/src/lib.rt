@@ -6,6 +6,7 @@ ghost use Rattle.std.specs.Prelude.{◌≤◌, length, IfOk};
 use std::io::Read;
 use std::rt::Files;
 use std::{fs, io};
+use text::Text;
 
 // One byte more than a day file may have, to tell a longer one.
 const SPACE: usize = 65537;
@@ -35,6 +36,7 @@ fn read_day<'a>(rt: &impl Files, space: &'a mut [u8]) -> io::Result<&'a [u8]>
 pub fn print_plan(rt: &(impl Files + Print)) -> io::Result<()> {
     let mut space = [0; SPACE];
     let bytes = read_day(rt, &mut space).unwrap_or(&[]);
-    let text = plan_text::plan_text(bytes);
+    let mut text = Text::new();
+    plan_text::plan_text(bytes, &mut text);
     rt.write_all(text.as_bytes())
 }

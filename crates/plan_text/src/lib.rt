@@ -42,15 +42,15 @@ fn put_file(text: &mut Text<ROOM>, bytes: &[u8])
     }
 }
 
-// What the program prints of a day file with these bytes: as its room says, at most 16,384 bytes.
-pub fn plan_text(bytes: &[u8]) -> Text<ROOM>
-    ensures { result ≡ printed bytes.now }
+// What the program prints of a day file with these bytes, in a text that is lent: handed back by value, it would stand on the stack three
+// times. What the text held before is gone.
+pub fn plan_text(bytes: &[u8], text: &mut Text<ROOM>)
+    ensures { text.new ≡ printed bytes.now }
 {
-    let mut text = Text::new();
+    text.clear();
     if MOST_BYTES < bytes.len() {
         text.put_all(b"too long\n");
     } else {
-        put_file(&mut text, bytes);
+        put_file(text, bytes);
     }
-    text
 }

@@ -31,6 +31,13 @@ impl<const ROOM: usize> Text<ROOM> {
         }
     }
 
+    // Nothing is written any more.
+    pub fn clear(&mut self)
+        ensures { self.new ≡ [] }
+    {
+        self.len = 0;
+    }
+
     // The bytes written so far, never more than its room.
     pub fn as_bytes(&self) -> &[u8]
         ensures text { result.now ≡ self.now }
