@@ -1,7 +1,7 @@
 // What a vehicle carries, and the day's limits.
-ghost use Rattle.std.specs.Prelude.{◌≡◌, ◌<◌};
-ghost use Rattle.rules.specs.Cargo.{empty, loaded, emptied};
-ghost use Rattle.trips.specs.Trips.{CargoWithin};
+ghost use Rattle.std.specs.Prelude.{◌≡◌, ◌<◌, List, ℕ};
+ghost use Rattle.rules.specs.Cargo.{empty, loaded, emptied, over_limits};
+ghost use Rattle.trips.specs.Trips.{CargoWithin, LimitsOf};
 
 use rules::walk::Cargo;
 
@@ -53,4 +53,13 @@ pub struct Limits {
     pub load: u32,
     pub kg: u32,
     pub visits: u32,
+}
+
+impl Limits {
+    // Over the load, the day's kg or the day's stops, for each day that has these limits, of any length.
+    pub fn is_over(self, cargo: Cargo) -> bool
+        ensures { (day : List ℕ) → LimitsOf day self → result ≡ over_limits day cargo }
+    {
+        (self.load < cargo.load) | (self.kg < cargo.kg) | (self.visits < cargo.visits)
+    }
 }

@@ -33,7 +33,6 @@ impl<'a> LimitedDay<'a> {
     pub fn is_over(&self, cargo: Cargo) -> bool
         ensures { result ≡ over_limits self.now.day.now cargo }
     {
-        let limits = self.limits;
-        (limits.load < cargo.load) | (limits.kg < cargo.kg) | (limits.visits < cargo.visits)
+        self.limits.is_over(cargo)
     }
 }
