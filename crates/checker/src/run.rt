@@ -38,7 +38,7 @@ fn finish(y: Tally, stops: usize, end: usize) -> Answer
     }
 }
 
-// The answer word by word.
+// The answer word by word. A word that names no stop marks number 0, which no stop has.
 fn check_each(limited: &LimitedDay, plan: &[u32]) -> Answer
     requires { length plan.now ≤ 4096 }
     ensures { answer_values result ≡ check_from limited.now.day.now plan.now 0 (start limited.now.day.now) }
@@ -46,8 +46,11 @@ fn check_each(limited: &LimitedDay, plan: &[u32]) -> Answer
     let mut s = first_state(limited.day);
     let mut met = no_stops();
     for (i, word) in plan.iter().enumerate() {
-        match word_step(limited, s, &mut met, *word) {
-            Ok(next) => s = next,
+        match word_step(limited, s, &met, *word) {
+            Ok(step) => {
+                met[step.stop] = true;
+                s = step.state;
+            }
             Err(fault) => {
                 return Answer::Refused {
                     number: fault as u32,

@@ -20,6 +20,7 @@ use Rattle.laws.proofs.Tests.{both_true, only_second}
 use Rattle.word_steps.specs.Steps.{Next, Within}
 use Rattle.trips.specs.Trips.{CargoWithin, TripWithin, TallyWithin}
 use Rattle.word_steps.specs.declared.steps.State.{State}
+use Rattle.word_steps.specs.declared.steps.Step.{Step}
 use Rattle.plan_laws.proofs.Loads.{not_over}
 use Rattle.plan_laws.proofs.Passing.{Passes, within_both}
 use Rattle.plan_parts.specs.Walked.{walk_of}
@@ -102,7 +103,7 @@ module _ (day : List ℕ) (i : ℕ) (s : State) (h : Within day i s) where
   driven_within (left k) e = omega (arith, h.driven e)
   driven_within stray e = omega (arith, h.driven e)
 
-  pub within_step : (met : List ℕ) (w : Word) (r : State) → Passes day (walk_of s met) w → Next day s w r → Within day (i + 1) r
+  pub within_step : (met : List ℕ) (w : Word) (r : Step) → Passes day (walk_of s met) w → Next day s w r → Within day (i + 1) r.state
   within_step met w r p x =
       record {
         cargo_small = rw x.cargo_is (cargo_within day s.cargo w h.cargo_small p.cargo);

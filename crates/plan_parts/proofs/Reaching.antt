@@ -23,9 +23,10 @@ use Rattle.rules.specs.Check.{within, well_formed, met_again, met_after, tally_a
 use Rattle.rules.specs.declared.walk.Trip.{Trip}
 use Rattle.laws.proofs.Lists.{mem_same, mem_other, unmet_nil, unmet_less}
 use Rattle.laws.proofs.Tests.{both_true}
-use Rattle.word_steps.specs.Steps.{is_met, is_met_in, marked, formed_fault, fault_by, Next, StepOf, Within}
+use Rattle.word_steps.specs.Steps.{is_met, stop_in, is_met_in, formed_fault, fault_by, Next, StepOf, Within}
 use Rattle.trips.specs.Trips.{TallyWithin}
 use Rattle.word_steps.specs.declared.steps.State.{State}
+use Rattle.word_steps.specs.declared.steps.Step.{Step}
 use Rattle.plan_laws.proofs.Passing.{Passes, fault_passes, within_both}
 use Rattle.plan_parts.specs.Walked.{none_met, walk_of, end_of, met_by, Reached}
 use Rattle.plan_parts.proofs.Bounds.{within_step, within_start, within_more}
@@ -50,16 +51,16 @@ fault_some Faults.Load e = omega arith
 fault_some Faults.Late e = omega arith
 fault_some Faults.Rest e = omega arith
 
--- a mark more, and there are as many
-length_marked : (flags : List Bool) (w : Word) → length (marked flags w) ≡ length flags
-unfolding marked
-length_marked flags (vehicle k) = refl
-length_marked flags (stop k) = length-set flags k true
-length_marked flags (tip k) = refl
-length_marked flags rest = refl
-length_marked flags back = refl
-length_marked flags (left k) = length-set flags k true
-length_marked flags stray = refl
+-- so each word that has the form names a small number
+named_below : (day : List ℕ) (s : State) (w : Word) → well_formed day s.tally s.cargo w ≡ true → stop_in w < 256
+unfolding stop_in
+named_below day s (vehicle k) f = omega arith
+named_below day s (stop k) f = omega (arith, (stop_known day s k f).1)
+named_below day s (tip k) f = omega arith
+named_below day s rest f = omega arith
+named_below day s back f = omega arith
+named_below day s (left k) f = omega (arith, (left_known day s k f).1)
+named_below day s stray f = omega arith
 
 -- marks and list agree on every stop's number
 module _ (flags : List Bool) (met : List ℕ) (marks : (k : ℕ) → 0 < k → k < 256 → is_met flags k ≡ mem k met) where
@@ -83,7 +84,7 @@ module _ (flags : List Bool) (met : List ℕ) (marks : (k : ℕ) → 0 < k → k
       go true same = rw (same refl)
       go false same = refl
 
-  -- one more stop is met
+  -- one more stop is met; a word that names none marks number 0
   mark_stop : length flags ≡ 256 → (k j : ℕ) → 0 < j → j < 256 → is_met (set flags k true) j ≡ mem j (k ∷ met)
   mark_stop long k j h g = go (ℕ_discrete j k)
     where
@@ -91,15 +92,18 @@ module _ (flags : List Bool) (met : List ℕ) (marks : (k : ℕ) → 0 < k → k
       go (yes q) = rw (q, get_or-set_same flags k true false (omega arith)) (sym (mem_same k k met refl))
       go (no q) = rw (get_or-set_other flags k j true false q) (marks j h g ∙ sym (mem_other k j met q))
 
-  mark_word : length flags ≡ 256 → (w : Word) → (j : ℕ) → 0 < j → j < 256 → is_met (marked flags w) j ≡ mem j (met_after met w)
-  unfolding marked met_after
-  mark_word long (vehicle k) = marks
+  mark_none : (j : ℕ) → 0 < j → j < 256 → is_met (set flags 0 true) j ≡ mem j met
+  mark_none j h g = rw (get_or-set_other flags 0 j true false (λ q. omega arith)) (marks j h g)
+
+  mark_word : length flags ≡ 256 → (w : Word) → (j : ℕ) → 0 < j → j < 256 → is_met (set flags (stop_in w) true) j ≡ mem j (met_after met w)
+  unfolding stop_in met_after
+  mark_word long (vehicle k) = mark_none
   mark_word long (stop k) = mark_stop long k
-  mark_word long (tip k) = marks
-  mark_word long rest = marks
-  mark_word long back = marks
+  mark_word long (tip k) = mark_none
+  mark_word long rest = mark_none
+  mark_word long back = mark_none
   mark_word long (left k) = mark_stop long k
-  mark_word long stray = marks
+  mark_word long stray = mark_none
 
 -- each stop that is met counts as served or left out
 count_word : (day : List ℕ) (s : State) (met : List ℕ) (w : Word) (t : Trip) → Passes day (walk_of s met) w
@@ -128,33 +132,51 @@ module _ (day plan : List ℕ) (i : ℕ) (s : State) (flags : List Bool) (so_far
   unfolding check_from
   turn = rw (same_fault flags (met_by plan i) so_far.marks day s word_here, add-one) (sym (rw (drop-cons plan i 0)) ∙ so_far.remains)
 
-  abbrev StepsTo : Result State PlanFault → Type 0
+  abbrev StepsTo : Result Step PlanFault → Type 0
   StepsTo r = StepOf (fault_by day flags s word_here) day s word_here r
 
   pub reached_fault : {f : PlanFault} → StepsTo (Err f) → refused (plan_fault_number f) i ≡ check_from day plan 0 (start day)
   reached_fault {f} step = rw (← step.fault_is, ne_eqb _ _ (fault_some f)) at turn
 
-  module _ {r : State} (step : StepsTo (Ok r)) where
+  module _ {r : Step} (step : StepsTo (Ok r)) where
     no_fault : fault_by day flags s word_here ≡ 0
     no_fault = sym step.fault_is
+
+    next : Next day s word_here r
+    next = step.next_is
 
     passed : Passes day (walk_of s (met_by plan i)) word_here
     passed = fault_passes day _ word_here (sym (same_fault flags (met_by plan i) so_far.marks day s word_here) ∙ no_fault)
 
     pub reached_passed : Next day s word_here r × Passes day (walk_of s (met_by plan i)) word_here
-    reached_passed = (step.next_is, passed)
+    reached_passed = (next, passed)
 
-    pub reached_next : {after : List Bool} → after ≡ marked flags word_here → Reached day plan (i + 1) r after
+    -- the number of the stop that the word names has a mark
+    pub stop_below : r.stop < 256
+    stop_below = rw next.stop_is (named_below day s word_here passed.formed)
+
+    -- behind the word, where marks tell the stops met
+    reached_by : {after : List Bool} → length after ≡ 256 → ((k : ℕ) → 0 < k → k < 256 → is_met after k ≡ mem k (met_after (met_by plan i) word_here))
+        → Reached day plan (i + 1) r.state after
     unfolding met_by
-    reached_next m =
-        let next : Next day s word_here r = step.next_is in
+    reached_by long marks =
         record {
           remains = rw (next.tally_is, next.cargo_is, next.trip_is, add-one) (rw (no_fault, add-one) at turn);
           within = within_step day i s so_far.within (met_by plan i) word_here r passed next;
-          long = rw m (length_marked flags word_here ∙ so_far.long);
-          marks = rw (m, add-one) (mark_word flags (met_by plan i) so_far.marks so_far.long word_here);
+          long = long;
+          marks = rw add-one marks;
           count = rw (next.tally_is, add-one) (count_word day s (met_by plan i) word_here _ passed so_far.count);
         }
+
+    pub reached_next : {after : List Bool} → after ≡ set flags r.stop true → Reached day plan (i + 1) r.state after
+    reached_next m =
+        reached_by (rw m (length-set flags r.stop true ∙ so_far.long))
+        (rw (m, next.stop_is) (mark_word flags (met_by plan i) so_far.marks so_far.long word_here))
+
+    -- a vehicle's word marks nothing
+    pub reached_vehicle : (k : ℕ) → word_here ≡ vehicle k → Reached day plan (i + 1) r.state flags
+    unfolding met_after
+    reached_vehicle k word = reached_by so_far.long (rw word so_far.marks)
 
 -- before the first word
 pub reached_start : (day plan : List ℕ) (s : State) (flags : List Bool) → walk_of s [] ≡ start day → flags ≡ none_met → Reached day plan 0 s flags

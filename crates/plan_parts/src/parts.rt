@@ -38,7 +38,8 @@ fn out_with(y: Tally, cargo: Cargo, trip: Trip) -> State
     }
 }
 
-// The words of a vehicle behind its A word. Between two words only cargo and trip change.
+// The words of a vehicle behind its A word. Between two words only cargo and trip change. A word that names no stop marks number 0, which
+// no stop has.
 fn round(
     limited: &LimitedDay,
     y: Tally,
@@ -55,9 +56,11 @@ fn round(
     // instructions.
     for i in from..plan.len() {
         let s = out_with(y, cargo, trip);
-        let Ok(state) = task_step(limited, s, met, plan[i]) else {
+        let Ok(step) = task_step(limited, s, met, plan[i]) else {
             return None;
         };
+        met[step.stop] = true;
+        let state = step.state;
         if !state.tally.inside {
             return Some(Part { end: i + 1, state });
         }
@@ -83,12 +86,14 @@ fn next_part(
             let Ok(out) = vehicle_word(limited.day, s, number) else {
                 return None;
             };
-            round(limited, out.tally, met, plan, i + 1)
+            round(limited, out.state.tally, met, plan, i + 1)
         }
         Some(PlanWord::Left(stop)) => {
-            let Ok(state) = left_word(limited.day, s, met, stop) else {
+            let Ok(left) = left_word(limited.day, s, met, stop) else {
                 return None;
             };
+            met[left.stop] = true;
+            let state = left.state;
             Some(Part { end: i + 1, state })
         }
         _ => None,

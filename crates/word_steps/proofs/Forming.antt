@@ -12,8 +12,9 @@ use Rattle.rules.specs.Check.{within, well_formed}
 use Rattle.rules.specs.declared.faults.PlanFault.{PlanFault}
 use Rattle.rules.specs.declared.faults.PlanFault.TheVariants as Faults
 use Rattle.laws.proofs.Tests.{both_true}
-use Rattle.word_steps.specs.Steps.{is_met_in, marked, met_behind, formed_fault, fault_by, StepOf}
+use Rattle.word_steps.specs.Steps.{is_met_in, formed_fault, fault_by, StepOf}
 use Rattle.word_steps.specs.declared.steps.State.{State}
+use Rattle.word_steps.specs.declared.steps.Step.{Step}
 use Rattle.word_steps.proofs.Stepping.{step_fault}
 use Rattle.plan_words.specs.Indexes.{IndexFrom}
 use Rattle.plan_words.specs.Reading.{meaning}
@@ -84,7 +85,7 @@ module _ (day : List ℕ) (met : List Bool) (s : State) (w : Word) (b : Bool) (e
   unfolding fault_by
   met_again_lem h m = step_fault day s w Faults.Stop (rw (← e, h, m) refl)
 
-  pub goes_on_lem : (r : Result State PlanFault) → b ≡ true → is_met_in met w ≡ false → StepOf (formed_fault day s w) day s w r → StepOf (fault_by day met s w) day s w r
+  pub goes_on_lem : (r : Result Step PlanFault) → b ≡ true → is_met_in met w ≡ false → StepOf (formed_fault day s w) day s w r → StepOf (fault_by day met s w) day s w r
   unfolding fault_by
   goes_on_lem r h m x = rw (← e, h, m) x
 
@@ -92,44 +93,25 @@ pub as_stray : (day : List ℕ) (met : List Bool) (s : State) (w : ℕ) → stra
 unfolding well_formed
 as_stray day met s w e = rw (← e) (misformed day met s stray false refl refl)
 
--- the step of a word that the code has taken apart, where it marks no stop, whatever stops were met; and the marks behind it
-module _ (met : List Bool) (w : ℕ) (r : Result State PlanFault) {read word : PlanWord} (e : meaning (Some read) ≡ word_of w) (is : read ≡ word) where
-  pub any_word : (day : List ℕ) (s : State) → ((met : List Bool) → StepOf (fault_by day met s (meaning (Some word))) day s (meaning (Some word)) r)
-      → StepOf (fault_by day met s (word_of w)) day s (word_of w) r
-  any_word day s h = rw (← e, is) (h met)
-
-  pub unmarked : met ≡ marked met (meaning (Some word)) → met ≡ met_behind met (word_of w) r
-  unmarked same = rw (← e, is) (go r)
-    where
-      go : (r : Result State PlanFault) → met ≡ met_behind met (meaning (Some word)) r
-      go (Ok next) = same
-      go (Err f) = refl
+-- the step of a word that the code has taken apart, where it names no stop, whatever stops were met
+pub any_word : (day : List ℕ) (met : List Bool) (s : State) (w : ℕ) (r : Result Step PlanFault) {read word : PlanWord} → meaning (Some read) ≡ word_of w → read ≡ word
+    → ((met : List Bool) → StepOf (fault_by day met s (meaning (Some word))) day s (meaning (Some word)) r)
+    → StepOf (fault_by day met s (word_of w)) day s (word_of w) r
+any_word day met s w r e is h = rw (← e, is) (h met)
 
 -- a fact that holds at any result holds of one without a fault
-on_ok : (P : Type 0) (r : Result State PlanFault) → P → OnOk r P
+on_ok : (P : Type 0) (r : Result Step PlanFault) → P → OnOk r P
 on_ok P (Ok next) p = p
 on_ok P (Err f) p = tt
 
--- the step of a word of a vehicle that is out, and the marks behind it
-module _ (met : List Bool) (w : ℕ) (r : Result State PlanFault) (x : Word) (e : word_of w ≡ x) where
-  module _ (day : List ℕ) (s : State) where
-    pub task_word : StepOf (fault_by day met s x) day s x r → OnOk r (StepOf (fault_by day met s (word_of w)) day s (word_of w) r)
-    task_word h = on_ok (StepOf (fault_by day met s (word_of w)) day s (word_of w) r) r (rw e h)
+-- the step of a word of a vehicle that is out
+module _ (day : List ℕ) (met : List Bool) (s : State) (w : ℕ) (r : Result Step PlanFault) (x : Word) (e : word_of w ≡ x) where
+  pub task_word : StepOf (fault_by day met s x) day s x r → OnOk r (StepOf (fault_by day met s (word_of w)) day s (word_of w) r)
+  task_word h = on_ok (StepOf (fault_by day met s (word_of w)) day s (word_of w) r) r (rw e h)
 
-    -- whatever stops were met
-    pub task_any : ((met : List Bool) → StepOf (fault_by day met s x) day s x r) → OnOk r (StepOf (fault_by day met s (word_of w)) day s (word_of w) r)
-    task_any h = task_word (h met)
-
-  pub task_met : {m : List Bool} → m ≡ met_behind met x r → OnOk r (m ≡ met_behind met (word_of w) r)
-  task_met {m} h = on_ok (m ≡ met_behind met (word_of w) r) r (rw e h)
-
-  -- where it marks no stop
-  pub task_unmarked : met ≡ marked met x → OnOk r (met ≡ met_behind met (word_of w) r)
-  task_unmarked same = task_met (go r)
-    where
-      go : (r : Result State PlanFault) → met ≡ met_behind met x r
-      go (Ok next) = same
-      go (Err f) = refl
+  -- whatever stops were met
+  pub task_any : ((met : List Bool) → StepOf (fault_by day met s x) day s x r) → OnOk r (StepOf (fault_by day met s (word_of w)) day s (word_of w) r)
+  task_any h = task_word (h met)
 
 -- a word by its distance from the first stop's word, or from the first tip's
 module _ (w n r : ℕ) where

@@ -1,5 +1,5 @@
 -- What the check hands on from word to word. It serves contracts; no definition of the check rests on it. Assumes nothing.
-use Rattle.std.specs.Prelude.{ℕ, ◌+◌, ◌*◌, ◌≤◌, ◌≡◌, Bool, true, false, not, List, get_or, slice_set, Result, Ok, Err, IfOk, if◌then◌else◌}
+use Rattle.std.specs.Prelude.{ℕ, ◌+◌, ◌*◌, ◌≤◌, ◌≡◌, Bool, true, false, not, List, get_or, Result, IfOk, if◌then◌else◌}
 use Rattle.rules.specs.Faults.{plan_fault_number, number_of_fault}
 use Rattle.rules.specs.Tests.{neb}
 use Rattle.rules.specs.declared.faults.PlanFault.{PlanFault}
@@ -8,11 +8,22 @@ use Rattle.rules.specs.Cargo.{cargo_fault, cargo_after}
 use Rattle.rules.specs.Trip.{trip_fault, trip_after}
 use Rattle.rules.specs.Check.{well_formed, tally_after}
 use Rattle.word_steps.specs.declared.steps.State.{State}
+use Rattle.word_steps.specs.declared.steps.Step.{Step}
 use Rattle.trips.specs.Trips.{CargoWithin, TripWithin, TallyWithin}
 
--- a stop is met, by its mark
+-- a stop is met, by its mark; mark 0 stands for no stop
 abbrev pub is_met : List Bool → ℕ → Bool
 is_met met k = get_or met k false
+
+-- the stop that a word names, 0 for none
+unfoldable pub stop_in : Word → ℕ
+stop_in (vehicle k) = 0
+stop_in (stop k) = k
+stop_in (tip k) = 0
+stop_in rest = 0
+stop_in back = 0
+stop_in (left k) = k
+stop_in stray = 0
 
 -- the stop that a word names was met before, by its mark
 unfoldable pub is_met_in : List Bool → Word → Bool
@@ -23,21 +34,6 @@ is_met_in met rest = false
 is_met_in met back = false
 is_met_in met (left k) = is_met met k
 is_met_in met stray = false
-
--- the marks with that of the stop that a word names
-unfoldable pub marked : List Bool → Word → List Bool
-marked met (vehicle k) = met
-marked met (stop k) = slice_set met k true
-marked met (tip k) = met
-marked met rest = met
-marked met back = met
-marked met (left k) = slice_set met k true
-marked met stray = met
-
--- the marks behind a word's step: those before, where the word is at fault
-abbrev pub met_behind : List Bool → Word → Result State PlanFault → List Bool
-met_behind met w (Ok _) = marked met w
-met_behind met w (Err _) = met
 
 -- what is wrong with a word that has the form and names no stop that was met before
 unfoldable pub formed_fault : List ℕ → State → Word → ℕ
@@ -51,14 +47,15 @@ fault_by day met s w =
     else if is_met_in met w then 8
     else formed_fault day s w
 
--- the state after a word
-pub record Next (day : List ℕ) (s : State) (w : Word) (r : State) : Type 0 where
-  pub tally_is : r.tally ≡ tally_after s.tally (trip_after day s.trip w) w
-  pub cargo_is : r.cargo ≡ cargo_after day s.cargo w
-  pub trip_is : r.trip ≡ trip_after day s.trip w
+-- the state after a word, and the stop that the word names
+pub record Next (day : List ℕ) (s : State) (w : Word) (r : Step) : Type 0 where
+  pub stop_is : r.stop ≡ stop_in w
+  pub tally_is : r.state.tally ≡ tally_after s.tally (trip_after day s.trip w) w
+  pub cargo_is : r.state.cargo ≡ cargo_after day s.cargo w
+  pub trip_is : r.state.trip ≡ trip_after day s.trip w
 
 -- one word's step, where what is wrong with the word is known
-pub record StepOf (fault : ℕ) (day : List ℕ) (s : State) (w : Word) (r : Result State PlanFault) : Type 0 where
+pub record StepOf (fault : ℕ) (day : List ℕ) (s : State) (w : Word) (r : Result Step PlanFault) : Type 0 where
   pub fault_is : number_of_fault plan_fault_number r ≡ fault
   pub next_is : IfOk r (Next day s w)
 

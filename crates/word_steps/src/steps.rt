@@ -3,7 +3,7 @@ ghost use Rattle.std.specs.Prelude.{◌≡◌, true, ◌<◌, ◌≤◌, List, �
 ghost use Rattle.rules.specs.Fields.{tips, stops};
 ghost use Rattle.rules.specs.PlanWords.{vehicle, stop, tip, rest, back, left};
 ghost use Rattle.trips.specs.Trips.{TallyWithin};
-ghost use Rattle.word_steps.specs.Steps.{formed_fault, met_behind, Next, StepOf, Within};
+ghost use Rattle.word_steps.specs.Steps.{formed_fault, Next, StepOf, Within};
 
 use day::days::Day;
 use rules::faults::PlanFault;
@@ -22,17 +22,18 @@ pub struct State {
     pub trip: Trip,
 }
 
-// B, a stop is served, and marked. Day, state and marks go from function to function beside each other, as no struct: the marks are written
-// in place and never copied, while a state is copied at each step and dropped at a fault.
-pub(crate) fn serve(
-    limited: &LimitedDay,
-    s: State,
-    met: &mut [bool; 256],
-    number: usize,
-) -> Result<State, PlanFault>
+// The state after a word, and the stop that the word names, 0 for none, which the caller marks. Day, state and marks go from function to
+// function beside each other, as no struct: the marks are lent and never copied, while a state is copied at each step and dropped at a fault.
+#[derive(Clone, Copy)]
+pub struct Step {
+    pub stop: usize,
+    pub state: State,
+}
+
+// B, a stop is served.
+pub(crate) fn serve(limited: &LimitedDay, s: State, number: usize) -> Result<Step, PlanFault>
     requires { Within limited.now.day.now 4096 s × (0 < number) × (number ≤ stops limited.now.day.now) }
-    ensures step { StepOf (formed_fault limited.now.day.now s (stop number)) limited.now.day.now s (stop number) result }
-    ensures met { met.new ≡ met_behind met.old (stop number) result }
+    ensures { StepOf (formed_fault limited.now.day.now s (stop number)) limited.now.day.now s (stop number) result }
 {
     let cargo = load_on(s.cargo, limited.day.stop_quantity(number));
     if limited.is_over(cargo) {
@@ -40,34 +41,42 @@ pub(crate) fn serve(
     }
     let trip = visit_stop(limited.day, s.trip, number)?;
     let tally = one_served(s.tally);
-    met[number] = true;
-    Ok(State { tally, cargo, trip })
+    Ok(Step {
+        stop: number,
+        state: State { tally, cargo, trip },
+    })
 }
 
 // C, the load is tipped.
-pub(crate) fn empty_out(day: &Day, s: State, number: usize) -> Result<State, PlanFault>
+pub(crate) fn empty_out(day: &Day, s: State, number: usize) -> Result<Step, PlanFault>
     requires { Within day.now 4096 s × (0 < number) × (number ≤ tips day.now) }
     ensures { StepOf (formed_fault day.now s (tip number)) day.now s (tip number) result }
 {
     let trip = visit_tip(day, s.trip, number)?;
     let tally = same_tally(s.tally);
     let cargo = tip_out(s.cargo);
-    Ok(State { tally, cargo, trip })
+    Ok(Step {
+        stop: 0,
+        state: State { tally, cargo, trip },
+    })
 }
 
 // D, the vehicle rests.
-pub(crate) fn take_rest(day: &Day, s: State) -> Result<State, PlanFault>
+pub(crate) fn take_rest(day: &Day, s: State) -> Result<Step, PlanFault>
     requires { Within day.now 4096 s }
     ensures { StepOf (formed_fault day.now s rest) day.now s rest result }
 {
     let trip = rest(day, s.trip)?;
     let tally = same_tally(s.tally);
     let cargo = same_cargo(s.cargo);
-    Ok(State { tally, cargo, trip })
+    Ok(Step {
+        stop: 0,
+        state: State { tally, cargo, trip },
+    })
 }
 
 // E, the vehicle is back.
-pub(crate) fn come_back(day: &Day, s: State) -> Result<State, PlanFault>
+pub(crate) fn come_back(day: &Day, s: State) -> Result<Step, PlanFault>
     requires { Within day.now 4096 s × (s.tally.inside ≡ true) }
     ensures { StepOf (formed_fault day.now s back) day.now s back result }
 {
@@ -77,29 +86,38 @@ pub(crate) fn come_back(day: &Day, s: State) -> Result<State, PlanFault>
     let trip = back(day, s.trip)?;
     let tally = one_back(s.tally, trip.distance);
     let cargo = same_cargo(s.cargo);
-    Ok(State { tally, cargo, trip })
+    Ok(Step {
+        stop: 0,
+        state: State { tally, cargo, trip },
+    })
 }
 
 // A, a vehicle leaves.
-pub(crate) fn set_out(day: &Day, s: State) -> State
+pub(crate) fn set_out(day: &Day, s: State) -> Step
     requires { Within day.now 4096 s }
     ensures { (number : ℕ) → Next day.now s (vehicle number) result }
 {
-    State {
-        tally: one_out(s.tally),
-        cargo: nothing(),
-        trip: leave(day),
+    Step {
+        stop: 0,
+        state: State {
+            tally: one_out(s.tally),
+            cargo: nothing(),
+            trip: leave(day),
+        },
     }
 }
 
 // F, a stop is left out.
-pub(crate) fn leave_out(s: State, number: u32) -> State
+pub(crate) fn leave_out(s: State, number: u32) -> Step
     requires { TallyWithin 4096 s.tally }
     ensures { (day : List ℕ) → Next day s (left number) result }
 {
-    State {
-        tally: one_left(s.tally, number),
-        cargo: same_cargo(s.cargo),
-        trip: same_trip(s.trip),
+    Step {
+        stop: number as usize,
+        state: State {
+            tally: one_left(s.tally, number),
+            cargo: same_cargo(s.cargo),
+            trip: same_trip(s.trip),
+        },
     }
 }

@@ -1,10 +1,10 @@
 // A word of the plan: its form, then whether the stop that it names was met before, then what the word does.
-ghost use Rattle.std.specs.Prelude.{◌≡◌, Bool, List, OnOk, OnErr};
+ghost use Rattle.std.specs.Prelude.{◌≡◌, Bool, List, OnOk};
 ghost use Rattle.rules.specs.PlanWords.{vehicle, stop, tip, rest, back, left, word_of};
 ghost use Rattle.rules.specs.Check.{within};
-ghost use Rattle.word_steps.specs.Steps.{fault_by, met_behind, StepOf, Within};
+ghost use Rattle.word_steps.specs.Steps.{fault_by, StepOf, Within};
 
-use crate::steps::{State, come_back, empty_out, leave_out, serve, set_out, take_rest};
+use crate::steps::{State, Step, come_back, empty_out, leave_out, serve, set_out, take_rest};
 use day::days::Day;
 use plan_words::{BACK, PlanWord, REST, read_word};
 use rules::faults::PlanFault;
@@ -21,12 +21,11 @@ fn is_within(most: usize, k: usize) -> bool
 fn stop_word(
     limited: &LimitedDay,
     s: State,
-    met: &mut [bool; 256],
+    met: &[bool; 256],
     number: usize,
-) -> Result<State, PlanFault>
+) -> Result<Step, PlanFault>
     requires { Within limited.now.day.now 4096 s }
-    ensures step { StepOf (fault_by limited.now.day.now met.old s (stop number)) limited.now.day.now s (stop number) result }
-    ensures met { met.new ≡ met_behind met.old (stop number) result }
+    ensures { StepOf (fault_by limited.now.day.now met.now s (stop number)) limited.now.day.now s (stop number) result }
 {
     if !(s.tally.inside & is_within(limited.day.stops(), number)) {
         return Err(PlanFault::Form);
@@ -34,10 +33,10 @@ fn stop_word(
     if met[number] {
         return Err(PlanFault::Stop);
     }
-    serve(limited, s, met, number)
+    serve(limited, s, number)
 }
 
-fn tip_word(day: &Day, s: State, number: usize) -> Result<State, PlanFault>
+fn tip_word(day: &Day, s: State, number: usize) -> Result<Step, PlanFault>
     requires { Within day.now 4096 s }
     ensures { (met : List Bool) → StepOf (fault_by day.now met s (tip number)) day.now s (tip number) result }
 {
@@ -47,7 +46,7 @@ fn tip_word(day: &Day, s: State, number: usize) -> Result<State, PlanFault>
     empty_out(day, s, number)
 }
 
-fn rest_word(day: &Day, s: State) -> Result<State, PlanFault>
+fn rest_word(day: &Day, s: State) -> Result<Step, PlanFault>
     requires { Within day.now 4096 s }
     ensures { (met : List Bool) → StepOf (fault_by day.now met s rest) day.now s rest result }
 {
@@ -57,7 +56,7 @@ fn rest_word(day: &Day, s: State) -> Result<State, PlanFault>
     take_rest(day, s)
 }
 
-fn back_word(day: &Day, s: State) -> Result<State, PlanFault>
+fn back_word(day: &Day, s: State) -> Result<Step, PlanFault>
     requires { Within day.now 4096 s }
     ensures { (met : List Bool) → StepOf (fault_by day.now met s back) day.now s back result }
 {
@@ -67,7 +66,7 @@ fn back_word(day: &Day, s: State) -> Result<State, PlanFault>
     come_back(day, s)
 }
 
-pub fn vehicle_word(day: &Day, s: State, number: u32) -> Result<State, PlanFault>
+pub fn vehicle_word(day: &Day, s: State, number: u32) -> Result<Step, PlanFault>
     requires { Within day.now 4096 s }
     ensures { (met : List Bool) → StepOf (fault_by day.now met s (vehicle number)) day.now s (vehicle number) result }
 {
@@ -78,15 +77,9 @@ pub fn vehicle_word(day: &Day, s: State, number: u32) -> Result<State, PlanFault
     Ok(set_out(day, s))
 }
 
-pub fn left_word(
-    day: &Day,
-    s: State,
-    met: &mut [bool; 256],
-    number: u32,
-) -> Result<State, PlanFault>
+pub fn left_word(day: &Day, s: State, met: &[bool; 256], number: u32) -> Result<Step, PlanFault>
     requires { Within day.now 4096 s }
-    ensures step { StepOf (fault_by day.now met.old s (left number)) day.now s (left number) result }
-    ensures met { met.new ≡ met_behind met.old (left number) result }
+    ensures { StepOf (fault_by day.now met.now s (left number)) day.now s (left number) result }
 {
     let y = s.tally;
     let at = number as usize;
@@ -96,7 +89,6 @@ pub fn left_word(
     if met[at] {
         return Err(PlanFault::Stop);
     }
-    met[at] = true;
     Ok(leave_out(s, number))
 }
 
@@ -104,12 +96,11 @@ pub fn left_word(
 pub fn word_step(
     limited: &LimitedDay,
     s: State,
-    met: &mut [bool; 256],
+    met: &[bool; 256],
     w: u32,
-) -> Result<State, PlanFault>
+) -> Result<Step, PlanFault>
     requires { Within limited.now.day.now 4096 s }
-    ensures step { StepOf (fault_by limited.now.day.now met.old s (word_of w)) limited.now.day.now s (word_of w) result }
-    ensures met { met.new ≡ met_behind met.old (word_of w) result }
+    ensures { StepOf (fault_by limited.now.day.now met.now s (word_of w)) limited.now.day.now s (word_of w) result }
 {
     match read_word(w) {
         Some(PlanWord::Vehicle(number)) => vehicle_word(limited.day, s, number),
@@ -128,13 +119,11 @@ pub fn word_step(
 pub fn task_step(
     limited: &LimitedDay,
     s: State,
-    met: &mut [bool; 256],
+    met: &[bool; 256],
     w: u32,
-) -> Result<State, PlanFault>
+) -> Result<Step, PlanFault>
     requires { Within limited.now.day.now 4096 s }
-    ensures step { OnOk result (StepOf (fault_by limited.now.day.now met.old s (word_of w)) limited.now.day.now s (word_of w) result) }
-    ensures met { OnOk result (met.new ≡ met_behind met.old (word_of w) result) }
-    ensures kept { OnErr result (met.new ≡ met.old) }
+    ensures { OnOk result (StepOf (fault_by limited.now.day.now met.now s (word_of w)) limited.now.day.now s (word_of w) result) }
 {
     let day = limited.day;
     let stop = plan_words::stop_index(w) as usize;

@@ -2,7 +2,7 @@
 use mathlib.Core.Path.{◌≡◌, refl, ◌∙◌}
 use native.Mathlib.Omega.{arith}
 use lib.ListN.{length}
-use Rattle.plan_parts.proofs.Reaching.{reached_start, reached_small, reached_fault, reached_next, reached_tally, reached_end}
+use Rattle.plan_parts.proofs.Reaching.{reached_start, reached_small, reached_fault, stop_below, reached_next, reached_tally, reached_end}
 use Rattle.checker.proofs.Answering.{fault_told}
 use Rattle.checker.proofs.run.check_each.Goals as goal
 
@@ -14,11 +14,13 @@ word_step-requires c = search reached_small
 
 pub returns-in-Err : goal.returns-in-Err
 returns-in-Err c =
-    rw (fault_told c.in-Err.fault) (reached_fault _ _ _ _ _ c.loop-i.invariant c.loop-i-test.true c.in-Err.ensures.step)
+    rw (fault_told c.in-Err.fault) (reached_fault _ _ _ _ _ c.loop-i.invariant c.loop-i-test.true c.in-Err.ensures)
+
+pub bounds-met-step : goal.bounds-met-step
+bounds-met-step c = stop_below _ _ _ _ _ c.loop-i.invariant c.loop-i-test.true c.in-Ok.ensures
 
 pub loop-i-preserved : goal.loop-i-preserved
-loop-i-preserved c =
-    reached_next _ _ _ _ _ c.loop-i.invariant c.loop-i-test.true c.in-Ok.ensures.step c.in-Ok.ensures.met
+loop-i-preserved c = reached_next _ _ _ _ _ c.loop-i.invariant c.loop-i-test.true c.in-Ok.ensures refl
 
 pub finish-requires : goal.finish-requires
 finish-requires c = search reached_tally

@@ -4,19 +4,19 @@ use Rattle.word_steps.proofs.Forming.{stop_formed, known_below, known_some, know
 use Rattle.word_steps.specs.Steps.{is_met_in}
 use Rattle.word_steps.proofs.words.stop_word.Goals as goal
 
-pub returns-then-not-s-is_within-clause-step : goal.returns-then-not-s-is_within-clause-step
-returns-then-not-s-is_within-clause-step c = search (misformed, stop_formed)
+pub returns-then-not-s-is_within : goal.returns-then-not-s-is_within
+returns-then-not-s-is_within c = search (misformed, stop_formed)
 
 pub bounds-met-number : goal.bounds-met-number
 bounds-met-number c = search known_below
 
-pub returns-then-met-number-clause-step : goal.returns-then-met-number-clause-step
+pub returns-then-met-number : goal.returns-then-met-number
 unfolding is_met_in
-returns-then-met-number-clause-step c = search (met_again_lem, stop_formed)
+returns-then-met-number c = search (met_again_lem, stop_formed)
 
 pub serve-requires : goal.serve-requires
 serve-requires c = (search rules, search known_some, search known_most)
 
-pub returns-clause-step : goal.returns-clause-step
+pub returns : goal.returns
 unfolding is_met_in
-returns-clause-step c = search (goes_on_lem, stop_formed)
+returns c = search (goes_on_lem, stop_formed)
