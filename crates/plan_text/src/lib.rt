@@ -16,7 +16,7 @@ const DAY_WORDS: usize = 16384;
 // Five words for each of 240 stops.
 const PLAN_WORDS: usize = 1200;
 
-// The most bytes that are printed: the plan's words take nine each, and the line before them at most 88.
+// Room for more than is ever printed: the plan's words take nine bytes each, and the line before them at most 88.
 pub const ROOM: usize = 16384;
 
 // The text of a day's words, planned with neighbourhoods of five stops and six trials.
