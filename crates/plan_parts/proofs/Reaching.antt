@@ -3,7 +3,7 @@
 use Rattle.std.specs.Prelude.{Result, Ok, Err, if◌then◌else◌}
 use Prim.Native.Nat.{ℕ, ◌+◌, ◌<◌, ◌≤◌}
 use mathlib.Core.Path.{◌≡◌, refl, sym, ap, ◌∙◌}
-use mathlib.Core.Bool.{Bool, true, false, not, ◌&&◌}
+use mathlib.Core.Bool.{Bool, true, false, not}
 use mathlib.Core.List.{List, [], ◌∷◌}
 use native.Mathlib.Decide.{ℕ_discrete, dec_lt}
 use native.Mathlib.Numerals.{add-one}
@@ -19,28 +19,17 @@ use Rattle.rules.specs.declared.faults.PlanFault.TheVariants as Faults
 use Rattle.rules.specs.Lists.{mem, unmet}
 use Rattle.rules.specs.Fields.{stops}
 use Rattle.rules.specs.PlanWords.{Word, vehicle, stop, tip, rest, back, left, stray, word_of}
-use Rattle.rules.specs.Check.{within, well_formed, met_again, met_after, tally_after, Walk, start, fault_at, walk_after, finished, check_from}
+use Rattle.rules.specs.Check.{well_formed, met_again, met_after, tally_after, Walk, start, fault_at, walk_after, finished, check_from}
 use Rattle.rules.specs.declared.walk.Trip.{Trip}
 use Rattle.laws.proofs.Lists.{mem_same, mem_other, unmet_nil, unmet_less}
-use Rattle.laws.proofs.Tests.{both_true}
 use Rattle.word_steps.specs.Steps.{is_met, stop_in, is_met_in, formed_fault, fault_by, Next, StepOf, Within}
 use Rattle.trips.specs.Trips.{TallyWithin}
 use Rattle.word_steps.specs.declared.steps.State.{State}
 use Rattle.word_steps.specs.declared.steps.Step.{Step}
-use Rattle.plan_laws.proofs.Passing.{Passes, fault_passes, within_both}
+use Rattle.word_steps.proofs.Naming.{stop_known, left_known, step_below}
+use Rattle.plan_laws.proofs.Passing.{Passes, fault_passes}
 use Rattle.plan_parts.specs.Walked.{none_met, walk_of, end_of, met_by, Reached}
 use Rattle.plan_parts.proofs.Bounds.{within_step, within_start, within_more}
-
--- a word that names a stop and has the form names one of the day's
-stop_known : (day : List ℕ) (s : State) (k : ℕ) → well_formed day s.tally s.cargo (stop k) ≡ true → (0 < k) × (k ≤ stops day)
-unfolding well_formed
-stop_known day s k f = within_both (stops day) k (both_true s.tally.inside (within (stops day) k) f).1
-
-left_known : (day : List ℕ) (s : State) (k : ℕ) → well_formed day s.tally s.cargo (left k) ≡ true → (0 < k) × (k ≤ stops day)
-unfolding well_formed
-left_known day s k f =
-    let out = (both_true (not s.tally.inside && within (stops day) k) (ltb s.tally.last k) f).0 in
-    within_both (stops day) k (both_true (not s.tally.inside) (within (stops day) k) out).1
 
 -- no fault has number 0
 fault_some : (f : PlanFault) → plan_fault_number f ≡ 0 → ⊥
@@ -50,17 +39,6 @@ fault_some Faults.Limit e = omega arith
 fault_some Faults.Load e = omega arith
 fault_some Faults.Late e = omega arith
 fault_some Faults.Rest e = omega arith
-
--- so each word that has the form names a small number
-named_below : (day : List ℕ) (s : State) (w : Word) → well_formed day s.tally s.cargo w ≡ true → stop_in w < 256
-unfolding stop_in
-named_below day s (vehicle k) f = omega arith
-named_below day s (stop k) f = omega (arith, (stop_known day s k f).1)
-named_below day s (tip k) f = omega arith
-named_below day s rest f = omega arith
-named_below day s back f = omega arith
-named_below day s (left k) f = omega (arith, (left_known day s k f).1)
-named_below day s stray f = omega arith
 
 -- marks and list agree on every stop's number
 module _ (flags : List Bool) (met : List ℕ) (marks : (k : ℕ) → 0 < k → k < 256 → is_met flags k ≡ mem k met) where
@@ -153,7 +131,7 @@ module _ (day plan : List ℕ) (i : ℕ) (s : State) (flags : List Bool) (so_far
 
     -- the number of the stop that the word names has a mark
     pub stop_below : r.stop < 256
-    stop_below = rw next.stop_is (named_below day s word_here passed.formed)
+    stop_below = step_below day flags s word_here step
 
     -- behind the word, where marks tell the stops met
     reached_by : {after : List Bool} → length after ≡ 256 → ((k : ℕ) → 0 < k → k < 256 → is_met after k ≡ mem k (met_after (met_by plan i) word_here))

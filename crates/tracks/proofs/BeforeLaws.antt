@@ -9,7 +9,7 @@ use native.Mathlib.Numerals.{add-one}
 use native.Mathlib.Decide.{ℕ_discrete}
 use lib.ListN.{length, length-append, length-map, get_or, take, drop}
 use lib.Seq.{take-suc, drop-cons}
-use Rattle.std.specs.Prelude.{Option, Some, IfSome}
+use Rattle.std.specs.Prelude.{Option, Some, None, IfSome}
 use Rattle.rules.specs.PlanWords.{vehicle_word, rest_word}
 use Rattle.rules.specs.Plan.{Task, serve, empty, lunch, Round, task_word, stops_on, Known}
 use Rattle.rules.specs.Trip.{leaving}
@@ -26,6 +26,8 @@ use Rattle.walks.specs.declared.cabs.Cab.{Cab}
 use Rattle.walks.proofs.CabLaws.{stands_fewer, riding_trip}
 use Rattle.walks.proofs.MidwayLaws.{fresh_stands}
 use Rattle.walks.proofs.RewalkLaws.{walk_append}
+use Rattle.walks.proofs.Walking.{failed_on}
+use Rattle.walks.proofs.WalkLaws.{stands_failed}
 use Rattle.tracks.specs.declared.before.Row.{Row}
 use Rattle.tracks.specs.Before.{cab_at, RowHolds, RidesIf, halted, rides, truck_before, BeforeTo, BeforeOf, RowsKept, VehicleTasks, TaskToWalk, WalksOrPasses}
 
@@ -41,6 +43,11 @@ unfolding task_word Known kept stops_on walk_on
 task_passed z start most more p o (serve k) e n s = absurd (omega (arith, z, e, n.1))
 task_passed z start most more p o (empty x) e n s = absurd (omega (arith, z, e, n.1))
 task_passed z start most more p o lunch e n s = stands_fewer (omega arith) s
+
+-- a trial that has failed stays so
+pub task_failed : {day part : List ℕ} {w : ℕ} → WalksOrPasses day part None w part None
+task_failed {day} start most more p o task e n s =
+    let f = stands_failed o s in rw (f.0, failed_on day (kept (task ∷ []))) (failed f.1)
 
 -- any other task is a word that is walked
 task_means : {day : List ℕ} {w : ℕ} (task : Task) → (w ≡ rest_word → ⊥) → w ≡ task_word task → Known day task → (kept (task ∷ []) ≡ task ∷ []) × Means day w task

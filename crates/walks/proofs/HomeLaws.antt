@@ -146,3 +146,11 @@ module _ {day : List ℕ} {e : Edit} {number : ℕ} {words p part : List ℕ} {t
                   (wrote_same put refl (sym u.words));
             };
           }
+
+  -- there is a vehicle before its way back
+  pub through_some : {c : Cab} → Through day e number p part tasks (Some c) → SomeStanding day 0 part c
+  through_some m = done_standing (through_done m) refl
+
+  -- the trial has failed among the tasks
+  pub through_fails : Through day e number p part tasks None → WalkedAs day number (changed e 0 tasks) p part None
+  through_fails m = walked_failed m (back_failed refl refl)

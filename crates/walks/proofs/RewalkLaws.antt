@@ -76,7 +76,7 @@ is_walked back = false
 is_walked (left k) = false
 is_walked stray = false
 
-means_walked : {day : List ℕ} {w : ℕ} {task : Task} → Means day w task → is_walked (word_of w) ≡ true
+pub means_walked : {day : List ℕ} {w : ℕ} {task : Task} → Means day w task → is_walked (word_of w) ≡ true
 unfolding Known
 means_walked (a_stop k n) = ap is_walked (stop_form_lem k (omega (arith, n.1)))
 means_walked (a_tip x n) = ap is_walked (tip_form_lem x (omega (arith, n.1)))
@@ -150,7 +150,7 @@ module _ {day part : List ℕ} {c : Cab} (xs ys : Round) where
       some_standing (omega arith) d.standing
 
 -- the word of one task, of a vehicle
-some_word : {day part : List ℕ} {c : Cab} {w : ℕ} {task : Task} → Means day w task → SomeStanding day (length (stops_on (task ∷ []))) part c → SomeWord day part (Some c) w
+pub some_word : {day part : List ℕ} {c : Cab} {w : ℕ} {task : Task} → Means day w task → SomeStanding day (length (stops_on (task ∷ []))) part c → SomeWord day part (Some c) w
 some_word m s =
     record {
       start = s.start;
@@ -163,7 +163,7 @@ some_word m s =
       stands = on_road s.v _ (standing_fewer (omega (arith, s.enough)) s.standing);
     }
 
-word_walks : {day part now : List ℕ} {c : Cab} {w : ℕ} {task : Task} {r : Option Cab} → Means day w task → WalksWord day part (Some c) w now r
+pub word_walks : {day part now : List ℕ} {c : Cab} {w : ℕ} {task : Task} {r : Option Cab} → Means day w task → WalksWord day part (Some c) w now r
     → Walks day part c (task ∷ []) now r
 word_walks m h start most more p v s = h start most more p (some v) _ (one_task _ _ m) (on_road v _ s)
 

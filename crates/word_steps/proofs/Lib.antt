@@ -1,2 +1,3 @@
 pub mod Forming
+pub mod Naming
 pub mod Stepping
